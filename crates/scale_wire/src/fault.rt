@@ -1,0 +1,51 @@
+ghost use Rattle.std.specs.Prelude.{◌≡◌};
+ghost use Rattle.scale_wire.specs.Reason.{number_of};
+
+/// Why bytes are refused as a part of a SCALE value: of the reasons that apply to a part, the first
+/// in its own order is given.
+#[derive(Clone, Copy, Debug, PartialEq, Eq)]
+pub enum Why {
+    /// Fewer bytes are left than the part has.
+    Short,
+    /// A compact integer is spelled in a longer mode than it needs.
+    NotShortest,
+    /// A compact integer is over the range of its type.
+    TooWide,
+    /// A tag names no variant.
+    BadTag,
+    /// A length is over the limit of its list.
+    TooMany,
+    /// A byte follows a value that must be the whole input.
+    Trailing,
+}
+
+impl Why {
+    /// The number of the reason, from 1.
+    pub fn number(self) -> u8
+        ensures { result ≡ number_of self }
+    {
+        match self {
+            Why::Short => 1,
+            Why::NotShortest => 2,
+            Why::TooWide => 3,
+            Why::BadTag => 4,
+            Why::TooMany => 5,
+            Why::Trailing => 6,
+        }
+    }
+}
+
+/// A refusal: the place of the first byte of the part that is refused, counted in bytes as the
+/// cursor counts, and the reason.
+#[derive(Clone, Copy, Debug, PartialEq, Eq)]
+pub struct WireFault {
+    pub at: u64,
+    pub why: Why,
+}
+
+/// Why a value was not read: its bytes are refused, or memory ran out.
+#[derive(Clone, Copy, Debug, PartialEq, Eq)]
+pub enum ReadFault {
+    Wire(WireFault),
+    NoMemory,
+}

@@ -1,0 +1,4 @@
+// SCALE, the byte format of Substrate: what each type is spelled as, and its readers and writers.
+#![tactic(auto)]
+
+pub mod fault;
