@@ -1,0 +1,14 @@
+//! What every crate of npos stands on: accounts, scores and edges, lists, and the edge to the outside.
+#![tactic(auto)]
+
+mod account;
+mod figures;
+mod list;
+mod no_memory;
+mod room;
+
+pub use account::AccountId;
+pub use figures::{Edge, Score};
+pub use list::List;
+pub use no_memory::NoMemory;
+pub use room::Room;
