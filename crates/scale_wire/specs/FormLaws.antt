@@ -1,0 +1,266 @@
+-- Forms that are made of others keep the laws of a form.
+use Rattle.std.specs.Prelude.{◌≡◌, ◌≢◌, ◌⊎◌, ℕ, zero, suc, ◌+◌, ◌*◌, ◌<◌, ◌≤◌, List, [], ◌∷◌, ◌++◌, length, Option, Some, None, refl}
+use Rattle.std.specs.List.{AllByRecursion, flat_map}
+use Rattle.std.proofs.Common.{sym, ◌∙◌, ap, ap₂, subst, inl, inr, arith, append_assoc, length-append}
+use Rattle.scale_wire.specs.declared.fault.Why.{Why}
+use Rattle.scale_wire.specs.declared.fault.Why.TheVariants.{Short}
+use Rattle.scale_wire.specs.Form.{Form, Begins, IsRefused, IsWire, IsBytes}
+use Rattle.scale_wire.specs.Composite.{Behind, BadThen, followed, pair, triple, seen, items, BadItems}
+
+pub IsBytes-rest : (front rest : List ℕ) → IsBytes (front ++ rest) → IsBytes rest
+IsBytes-rest [] rest bytes = bytes
+IsBytes-rest (byte ∷ front) rest bytes = IsBytes-rest front rest bytes.1
+
+pub IsBytes-front : (front rest : List ℕ) → IsBytes (front ++ rest) → IsBytes front
+IsBytes-front [] rest bytes = tt
+IsBytes-front (byte ∷ front) rest bytes = (bytes.0, IsBytes-front front rest bytes.1)
+
+pub IsBytes-append : (front rest : List ℕ) → IsBytes front → IsBytes rest → IsBytes (front ++ rest)
+IsBytes-append [] rest here there = there
+IsBytes-append (byte ∷ front) rest here there = (here.0, IsBytes-append front rest here.1 there)
+
+-- ## A form whose values are made of another's
+
+-- Each value in range is made of one of the other form, which has its spelling and its refusals.
+pub record IsMadeOf {V W : Type 0} (form : Form V) (of : Form W) (make : W → V) : Type 0 where
+  pub fits : (w : W) → of.in_range w → form.in_range (make w)
+  pub spelled : (w : W) → of.in_range w → form.spelling (make w) ≡ of.spelling w
+  pub comes : (v : V) → form.in_range v → (w : W) × of.in_range w × (make w ≡ v)
+  pub bad_from : (bytes : List ℕ) (at : ℕ) (why : Why) → form.bad bytes at why → of.bad bytes at why
+  pub bad_to : (bytes : List ℕ) (at : ℕ) (why : Why) → of.bad bytes at why → form.bad bytes at why
+  pub within : of.longest ≤ form.longest
+
+module _ {V W : Type 0} (form : Form V) (of : Form W) (make : W → V) (made : IsMadeOf form of make) (laws : IsWire of) where
+  made_spelling : (v : V) (in_range : form.in_range v) → form.spelling v ≡ of.spelling (made.comes v in_range).0
+  made_spelling v in_range =
+      let from = made.comes v in_range in
+      ap form.spelling (sym from.2) ∙ made.spelled from.0 from.1
+
+  made_reading : (x y : V) (rest more : List ℕ) → form.in_range x → form.in_range y → form.spelling x ++ rest ≡ form.spelling y ++ more → (x ≡ y) × (rest ≡ more)
+  made_reading x y rest more x_fits y_fits same =
+      let from_x = made.comes x x_fits in
+      let from_y = made.comes y y_fits in
+      let p = laws.one_reading from_x.0 from_y.0 rest more from_x.1 from_y.1 (ap (λ (s : List ℕ). s ++ rest) (sym (made_spelling x x_fits)) ∙ (same ∙ ap (λ (s : List ℕ). s ++ more) (made_spelling y y_fits))) in
+      (sym from_x.2 ∙ (ap make p.0 ∙ from_y.2), p.1)
+
+  made_covers : (bytes : List ℕ) → IsBytes bytes → Begins form bytes ⊎ IsRefused form bytes
+  made_covers bytes are_bytes =
+      elim (laws.covers bytes are_bytes) [
+        inl begins ↦ inl record {
+          value = make begins.value;
+          in_range = made.fits begins.value begins.in_range;
+          rest = begins.rest;
+          whole = begins.whole ∙ ap (λ (s : List ℕ). s ++ begins.rest) (sym (made.spelled begins.value begins.in_range));
+        }
+      | inr refused ↦ inr record {
+          at = refused.at;
+          why = refused.why;
+          bad = made.bad_to bytes refused.at refused.why refused.bad;
+        }
+      ]
+
+  pub made_laws : IsWire form
+  made_laws = record {
+    one_reading = made_reading;
+    covers = made_covers;
+    exclusive = λ x rest at why x_fits bad.
+        let from = made.comes x x_fits in
+        laws.exclusive from.0 rest at why from.1 (subst (λ (s : List ℕ). of.bad (s ++ rest) at why) (made_spelling x x_fits) (made.bad_from (form.spelling x ++ rest) at why bad));
+    one_fault = λ bytes at at' why why' bad bad'.
+        laws.one_fault bytes at at' why why' (made.bad_from bytes at why bad) (made.bad_from bytes at' why' bad');
+    persists = λ bytes more at why are_bytes not_short bad.
+        made.bad_to (bytes ++ more) at why (laws.persists bytes more at why are_bytes not_short (made.bad_from bytes at why bad));
+    bounded = λ x x_fits.
+        let from = made.comes x x_fits in
+        let bound : length (of.spelling from.0) ≤ of.longest = laws.bounded from.0 from.1 in
+        let same : length (form.spelling x) ≡ length (of.spelling from.0) = ap length (made_spelling x x_fits) in
+        let within : of.longest ≤ form.longest = made.within in
+        omega arith;
+    short = λ bytes at bad.
+        let bound : length bytes < of.longest = laws.short bytes at (made.bad_from bytes at Short bad) in
+        let within : of.longest ≤ form.longest = made.within in
+        omega arith;
+  }
+
+-- ## A part behind another
+
+module _ {A W : Type 0} (head : Form A) (first_of : W → A) (tail : A → Form W) (most : ℕ) (head_laws : IsWire head) (tail_laws : (a : A) → head.in_range a → IsWire (tail a)) (agrees : (a : A) (w : W) → (tail a).in_range w → first_of w ≡ a) (within : (a : A) → head.in_range a → (tail a).longest ≤ most) where
+  tail_reading : (a a' : A) → a ≡ a' → head.in_range a → (x y : W) (rest more : List ℕ) → (tail a).in_range x → (tail a').in_range y → (tail a).spelling x ++ rest ≡ (tail a').spelling y ++ more → (x ≡ y) × (rest ≡ more)
+  tail_reading a a' path a_fits x y rest more x_fits y_fits same =
+      let y_at_a : (tail a).in_range y = subst (λ (b : A). (tail b).in_range y) (sym path) y_fits in
+      let same_at_a : (tail a).spelling x ++ rest ≡ (tail a).spelling y ++ more = subst (λ (b : A). (tail a).spelling x ++ rest ≡ (tail b).spelling y ++ more) (sym path) same in
+      (tail_laws a a_fits).one_reading x y rest more x_fits y_at_a same_at_a
+
+  followed_reading : (x y : W) (rest more : List ℕ) → (followed head first_of tail most).in_range x → (followed head first_of tail most).in_range y → (followed head first_of tail most).spelling x ++ rest ≡ (followed head first_of tail most).spelling y ++ more → (x ≡ y) × (rest ≡ more)
+  followed_reading x y rest more x_fits y_fits same =
+      let p = head_laws.one_reading (first_of x) (first_of y) ((tail (first_of x)).spelling x ++ rest) ((tail (first_of y)).spelling y ++ more) x_fits.0 y_fits.0 (sym (append_assoc (head.spelling (first_of x)) ((tail (first_of x)).spelling x) rest) ∙ (same ∙ append_assoc (head.spelling (first_of y)) ((tail (first_of y)).spelling y) more)) in
+      tail_reading (first_of x) (first_of y) p.0 x_fits.0 x y rest more x_fits.1 y_fits.1 p.1
+
+  followed_begins : (bytes : List ℕ) (here : Begins head bytes) → Begins (tail here.value) here.rest → Begins (followed head first_of tail most) bytes
+  followed_begins bytes here there =
+      let at_first : first_of there.value ≡ here.value = agrees here.value there.value there.in_range in
+      record {
+        value = there.value;
+        in_range = subst (λ (a : A). head.in_range a × (tail a).in_range there.value) (sym at_first) (here.in_range, there.in_range);
+        rest = there.rest;
+        whole = here.whole ∙ (ap (λ (s : List ℕ). head.spelling here.value ++ s) there.whole
+          ∙ (sym (append_assoc (head.spelling here.value) ((tail here.value).spelling there.value) there.rest)
+          ∙ ap (λ (a : A). (head.spelling a ++ (tail a).spelling there.value) ++ there.rest) (sym at_first)));
+      }
+
+  followed_covers : (bytes : List ℕ) → IsBytes bytes → Begins (followed head first_of tail most) bytes ⊎ IsRefused (followed head first_of tail most) bytes
+  followed_covers bytes are_bytes =
+      elim (head_laws.covers bytes are_bytes) [
+        inl here ↦ elim ((tail_laws here.value here.in_range).covers here.rest (IsBytes-rest (head.spelling here.value) here.rest (subst IsBytes here.whole are_bytes))) [
+          inl there ↦ inl (followed_begins bytes here there)
+        | inr refused ↦ inr record {
+            at = length (head.spelling here.value) + refused.at;
+            why = refused.why;
+            bad = inr record {
+              first = here.value;
+              in_range = here.in_range;
+              rest = here.rest;
+              whole = here.whole;
+              place = refused.at;
+              at_is = refl;
+              refused = refused.bad;
+            };
+          }
+        ]
+      | inr refused ↦ inr record { at = refused.at; why = refused.why; bad = inl refused.bad }
+      ]
+
+  tail_exclusive : (a a' : A) → a ≡ a' → head.in_range a → (x : W) (rest more : List ℕ) (at : ℕ) (why : Why) → (tail a).in_range x → (tail a).spelling x ++ rest ≡ more → (tail a').bad more at why → ⊥
+  tail_exclusive a a' path a_fits x rest more at why x_fits same bad =
+      (tail_laws a a_fits).exclusive x rest at why x_fits (subst (λ (s : List ℕ). (tail a).bad s at why) (sym same) (subst (λ (b : A). (tail b).bad more at why) (sym path) bad))
+
+  followed_exclusive : (x : W) (rest : List ℕ) (at : ℕ) (why : Why) → (followed head first_of tail most).in_range x → (followed head first_of tail most).bad ((followed head first_of tail most).spelling x ++ rest) at why → ⊥
+  followed_exclusive x rest at why x_fits bad =
+      let apart : (head.spelling (first_of x) ++ (tail (first_of x)).spelling x) ++ rest ≡ head.spelling (first_of x) ++ ((tail (first_of x)).spelling x ++ rest) = append_assoc (head.spelling (first_of x)) ((tail (first_of x)).spelling x) rest in
+      elim bad [
+        inl at_head ↦ head_laws.exclusive (first_of x) ((tail (first_of x)).spelling x ++ rest) at why x_fits.0 (subst (λ (s : List ℕ). head.bad s at why) apart at_head)
+      | inr behind ↦
+          let p = head_laws.one_reading (first_of x) behind.first ((tail (first_of x)).spelling x ++ rest) behind.rest x_fits.0 behind.in_range (sym apart ∙ behind.whole) in
+          tail_exclusive (first_of x) behind.first p.0 x_fits.0 x rest behind.rest behind.place why x_fits.1 p.1 behind.refused
+      ]
+
+  tail_one_fault : (a a' : A) → a ≡ a' → head.in_range a → (rest rest' : List ℕ) → rest ≡ rest' → (at at' : ℕ) (why why' : Why) → (tail a).bad rest at why → (tail a').bad rest' at' why' → (at ≡ at') × (why ≡ why')
+  tail_one_fault a a' path a_fits rest rest' same at at' why why' bad bad' =
+      (tail_laws a a_fits).one_fault rest at at' why why' bad (subst (λ (s : List ℕ). (tail a).bad s at' why') (sym same) (subst (λ (b : A). (tail b).bad rest' at' why') (sym path) bad'))
+
+  followed_one_fault : (bytes : List ℕ) (at at' : ℕ) (why why' : Why) → (followed head first_of tail most).bad bytes at why → (followed head first_of tail most).bad bytes at' why' → (at ≡ at') × (why ≡ why')
+  followed_one_fault bytes at at' why why' bad bad' =
+      elim bad [
+        inl here ↦ elim bad' [
+          inl here' ↦ head_laws.one_fault bytes at at' why why' here here'
+        | inr there' ↦ absurd (head_laws.exclusive there'.first there'.rest at why there'.in_range (subst (λ (s : List ℕ). head.bad s at why) there'.whole here))
+        ]
+      | inr there ↦ elim bad' [
+          inl here' ↦ absurd (head_laws.exclusive there.first there.rest at' why' there.in_range (subst (λ (s : List ℕ). head.bad s at' why') there.whole here'))
+        | inr there' ↦
+            let p = head_laws.one_reading there.first there'.first there.rest there'.rest there.in_range there'.in_range (sym there.whole ∙ there'.whole) in
+            let q = tail_one_fault there.first there'.first p.0 there.in_range there.rest there'.rest p.1 there.place there'.place why why' there.refused there'.refused in
+            (there.at_is ∙ (ap₂ (λ (a : A) (n : ℕ). length (head.spelling a) + n) p.0 q.0 ∙ sym there'.at_is), q.1)
+        ]
+      ]
+
+  followed_persists : (bytes more : List ℕ) (at : ℕ) (why : Why) → IsBytes bytes → why ≢ Short → (followed head first_of tail most).bad bytes at why → (followed head first_of tail most).bad (bytes ++ more) at why
+  followed_persists bytes more at why are_bytes not_short bad =
+      elim bad [
+        inl here ↦ inl (head_laws.persists bytes more at why are_bytes not_short here)
+      | inr there ↦ inr record {
+          first = there.first;
+          in_range = there.in_range;
+          rest = there.rest ++ more;
+          whole = ap (λ (s : List ℕ). s ++ more) there.whole ∙ append_assoc (head.spelling there.first) there.rest more;
+          place = there.place;
+          at_is = there.at_is;
+          refused = (tail_laws there.first there.in_range).persists there.rest more there.place why (IsBytes-rest (head.spelling there.first) there.rest (subst IsBytes there.whole are_bytes)) not_short there.refused;
+        }
+      ]
+
+  followed_bounded : (x : W) → (followed head first_of tail most).in_range x → length ((followed head first_of tail most).spelling x) ≤ head.longest + most
+  followed_bounded x x_fits =
+      let here : length (head.spelling (first_of x)) ≤ head.longest = head_laws.bounded (first_of x) x_fits.0 in
+      let there : length ((tail (first_of x)).spelling x) ≤ (tail (first_of x)).longest = (tail_laws (first_of x) x_fits.0).bounded x x_fits.1 in
+      let bound : (tail (first_of x)).longest ≤ most = within (first_of x) x_fits.0 in
+      let both : length (head.spelling (first_of x) ++ (tail (first_of x)).spelling x) ≡ length (head.spelling (first_of x)) + length ((tail (first_of x)).spelling x) = length-append (head.spelling (first_of x)) ((tail (first_of x)).spelling x) in
+      omega arith
+
+  followed_short : (bytes : List ℕ) (at : ℕ) → (followed head first_of tail most).bad bytes at Short → length bytes < head.longest + most
+  followed_short bytes at bad =
+      elim bad [
+        inl here ↦ let bound : length bytes < head.longest = head_laws.short bytes at here in omega arith
+      | inr there ↦
+          let here : length (head.spelling there.first) ≤ head.longest = head_laws.bounded there.first there.in_range in
+          let behind : length there.rest < (tail there.first).longest = (tail_laws there.first there.in_range).short there.rest there.place there.refused in
+          let bound : (tail there.first).longest ≤ most = within there.first there.in_range in
+          let both : length bytes ≡ length (head.spelling there.first) + length there.rest = ap length there.whole ∙ length-append (head.spelling there.first) there.rest in
+          omega arith
+      ]
+
+  pub followed_laws : IsWire (followed head first_of tail most)
+  followed_laws = record {
+    one_reading = followed_reading;
+    covers = followed_covers;
+    exclusive = followed_exclusive;
+    one_fault = followed_one_fault;
+    persists = followed_persists;
+    bounded = followed_bounded;
+    short = followed_short;
+  }
+
+-- ## Pairs, triples and structs
+
+module _ {A B : Type 0} (a : Form A) (b : Form B) (a_laws : IsWire a) (b_laws : IsWire b) where
+  -- what follows the first of a pair
+  abbrev second_of : A → Form (A × B)
+  second_of first = record {
+    spelling = λ p. b.spelling p.1;
+    in_range = λ p. b.in_range p.1 × (p.0 ≡ first);
+    bad = b.bad;
+    longest = b.longest;
+  }
+
+  second_laws : (first : A) → IsWire (second_of first)
+  second_laws first = made_laws (second_of first) b (λ y. (first, y)) record {
+    fits = λ y y_fits. (y_fits, refl);
+    spelled = λ y y_fits. refl;
+    comes = λ p p_fits. (p.1, p_fits.0, ap (λ (x : A). (x, p.1)) (sym p_fits.1));
+    bad_from = λ bytes at why bad. bad;
+    bad_to = λ bytes at why bad. bad;
+    within = omega arith;
+  } b_laws
+
+  abbrev first_of_pair : A × B → A
+  first_of_pair p = p.0
+
+  pub pair_laws : IsWire (pair a b)
+  pair_laws = made_laws (pair a b) (followed a first_of_pair second_of b.longest) (λ p. p) record {
+    fits = λ p p_fits. (p_fits.0, p_fits.1.0);
+    spelled = λ p p_fits. refl;
+    comes = λ p p_fits. (p, (p_fits.0, (p_fits.1, refl)), refl);
+    bad_from = λ bytes at why bad. bad;
+    bad_to = λ bytes at why bad. bad;
+    within = omega arith;
+  } (followed_laws a first_of_pair second_of b.longest a_laws (λ first fits. second_laws first) (λ first p p_fits. p_fits.1) (λ first fits. omega arith))
+
+pub triple_laws : {A B C : Type 0} (a : Form A) (b : Form B) (c : Form C) → IsWire a → IsWire b → IsWire c → IsWire (triple a b c)
+triple_laws a b c a_laws b_laws c_laws = made_laws (triple a b c) (pair a (pair b c)) (λ p. (p.0, p.1.0, p.1.1)) record {
+  fits = λ p p_fits. (p_fits.0, p_fits.1.0, p_fits.1.1);
+  spelled = λ p p_fits. refl;
+  comes = λ t t_fits. ((t.0, (t.1, t.2)), (t_fits.0, (t_fits.1, t_fits.2)), refl);
+  bad_from = λ bytes at why bad. bad;
+  bad_to = λ bytes at why bad. bad;
+  within = omega arith;
+} (pair_laws a (pair b c) a_laws (pair_laws b c b_laws c_laws))
+
+pub seen_laws : {V W : Type 0} (form : Form V) (fields : W → V) (make : V → W) → ((w : W) → make (fields w) ≡ w) → ((v : V) → fields (make v) ≡ v) → IsWire form → IsWire (seen form fields)
+seen_laws form fields make back forth laws = made_laws (seen form fields) form make record {
+  fits = λ v v_fits. subst (λ u. form.in_range u) (sym (forth v)) v_fits;
+  spelled = λ v v_fits. ap form.spelling (forth v);
+  comes = λ w w_fits. (fields w, w_fits, back w);
+  bad_from = λ bytes at why bad. bad;
+  bad_to = λ bytes at why bad. bad;
+  within = omega arith;
+} laws
