@@ -1,3 +1,9 @@
+pub mod LittleEndian
+pub mod LittleEndianLaws
+pub mod Refusal
+pub mod Compact
+pub mod Parts
+pub mod Writing
 pub mod Reason
 pub mod Form
 pub mod Reading

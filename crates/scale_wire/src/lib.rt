@@ -2,3 +2,9 @@
 #![tactic(auto)]
 
 pub mod fault;
+
+mod cursor;
+mod pen;
+
+pub use cursor::Cursor;
+pub use pen::Pen;

@@ -1,0 +1,12 @@
+-- Numbers as bytes, the least significant first.
+use Rattle.std.specs.Prelude.{ℕ, zero, suc, ◌+◌, ◌*◌, ◌/◌, ◌%◌, List, [], ◌∷◌}
+
+-- the lowest `count` bytes of a number
+unfoldable pub little_endian : ℕ → ℕ → List ℕ
+little_endian zero number = []
+little_endian (suc count) number = number % 256 ∷ little_endian count (number / 256)
+
+-- the number that the bytes are
+unfoldable pub number_at : List ℕ → ℕ
+number_at [] = 0
+number_at (byte ∷ bytes) = byte + 256 * number_at bytes
