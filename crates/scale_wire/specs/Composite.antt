@@ -1,10 +1,12 @@
 -- Types that are made of parts: pairs, triples, structs, rows of items, and one part behind another. Their
 -- spellings stand one behind the other, and bytes are refused where the first part is refused that the parts
 -- before it leave due.
-use Rattle.std.specs.Prelude.{◌≡◌, ◌⊎◌, ℕ, zero, suc, ◌+◌, ◌*◌, List, [], ◌∷◌, ◌++◌, length, Option, Some, None}
+use Rattle.std.specs.Prelude.{◌≡◌, ◌⊎◌, ℕ, zero, suc, ◌+◌, ◌*◌, ◌<◌, ◌≤◌, max, List, [], ◌∷◌, ◌++◌, length, Option, Some, None, IfSome, IsSomeAnd}
 use Rattle.std.specs.List.{AllByRecursion, flat_map}
 use Rattle.scale_wire.specs.declared.fault.Why.{Why}
-use Rattle.scale_wire.specs.Form.{Form}
+use Rattle.scale_wire.specs.Form.{IsBytes, Form}
+use Rattle.scale_wire.specs.Compact.{compact_bytes}
+use Rattle.scale_wire.specs.Parts.{byte_string, length_form, tag_form}
 
 -- The first bytes spell a value of the head, whole, and those behind it are refused as what that value leaves
 -- due.
@@ -59,6 +61,15 @@ seen form fields = record {
   longest = form.longest;
 }
 
+-- no field
+abbrev pub nothing : Form (Unit {0})
+nothing = record {
+  spelling = λ _. [];
+  in_range = λ _. Unit {0};
+  bad = λ _ _ _. ⊥;
+  longest = 0;
+}
+
 -- ## Items in a row
 
 -- the first that is refused of this many items
@@ -73,4 +84,108 @@ items item count = record {
   in_range = λ xs. AllByRecursion item.in_range xs × (length xs ≡ count);
   bad = BadItems item count;
   longest = count * item.longest;
+}
+
+-- the items of one row have forms of their own, by their position from `first` on
+abbrev pub row_bytes : {A : Type 0} → (ℕ → Form A) → ℕ → List A → List ℕ
+row_bytes item first [] = []
+row_bytes item first (x ∷ xs) = (item first).spelling x ++ row_bytes item (suc first) xs
+
+abbrev pub IsRow : {A : Type 0} → (ℕ → Form A) → ℕ → ℕ → List A → Type 0
+IsRow item first zero [] = Unit {0}
+IsRow item first (suc more) (x ∷ xs) = (item first).in_range x × IsRow item (suc first) more xs
+IsRow item first _ _ = ⊥
+
+abbrev pub BadRow : {A : Type 0} → (ℕ → Form A) → ℕ → ℕ → List ℕ → ℕ → Why → Type 0
+BadRow item first zero bytes at why = ⊥
+BadRow item first (suc more) bytes at why = BadThen (item first) (λ _. BadRow item (suc first) more) bytes at why
+
+abbrev pub longest_row : {A : Type 0} → (ℕ → Form A) → ℕ → ℕ → ℕ
+longest_row item first zero = 0
+longest_row item first (suc more) = (item first).longest + longest_row item (suc first) more
+
+abbrev pub row : {A : Type 0} → (ℕ → Form A) → ℕ → ℕ → Form (List A)
+row item first count = record {
+  spelling = row_bytes item first;
+  in_range = IsRow item first count;
+  bad = BadRow item first count;
+  longest = longest_row item first count;
+}
+
+-- ## Lists
+
+-- a list is its length and then its items
+abbrev pub list : {A : Type 0} → Form A → ℕ → Form (List A)
+list item limit = record {
+  spelling = λ xs. compact_bytes (length xs) ++ flat_map item.spelling xs;
+  in_range = λ xs. (length xs ≤ limit) × AllByRecursion item.in_range xs;
+  bad = BadThen (length_form limit) (BadItems item);
+  longest = 5 + limit * item.longest;
+}
+
+-- a byte list is its length and then its bytes as they are
+abbrev pub byte_list : ℕ → Form (List ℕ)
+byte_list limit = record {
+  spelling = λ bytes. compact_bytes (length bytes) ++ bytes;
+  in_range = λ bytes. (length bytes ≤ limit) × IsBytes bytes;
+  bad = BadThen (length_form limit) (λ count. (byte_string count).bad);
+  longest = 5 + limit;
+}
+
+-- ## Options and enums
+
+abbrev pub optional_bytes : {A : Type 0} → Form A → Option A → List ℕ
+optional_bytes value None = 0 ∷ []
+optional_bytes value (Some x) = 1 ∷ value.spelling x
+
+-- the tag 0 leaves nothing due, and the tag 1 a value
+abbrev pub BadOptional : {A : Type 0} → Form A → ℕ → List ℕ → ℕ → Why → Type 0
+BadOptional value tag bytes at why = (tag ≡ 1) × value.bad bytes at why
+
+abbrev pub optional : {A : Type 0} → Form A → Form (Option A)
+optional value = record {
+  spelling = optional_bytes value;
+  in_range = λ option. IfSome option value.in_range;
+  bad = BadThen (tag_form 2) (BadOptional value);
+  longest = 1 + value.longest;
+}
+
+-- One variant of an enum: `fields` gives the fields of the values of that variant, and of no others.
+abbrev pub variant_bytes : {V : Type 0} → Form V → Option V → List ℕ
+variant_bytes fields None = []
+variant_bytes fields (Some v) = fields.spelling v
+
+abbrev pub variant : {V W : Type 0} → Form V → (W → Option V) → Form W
+variant fields fields_of = record {
+  spelling = λ w. variant_bytes fields (fields_of w);
+  in_range = λ w. IsSomeAnd (fields_of w) fields.in_range;
+  bad = fields.bad;
+  longest = fields.longest;
+}
+
+-- what no value has: behind a tag that no variant has
+abbrev pub no_variant : {W : Type 0} → Form W
+no_variant = record {
+  spelling = λ _. [];
+  in_range = λ _. ⊥;
+  bad = λ _ _ _. ⊥;
+  longest = 0;
+}
+
+abbrev pub variant_at : {W : Type 0} → List (Form W) → ℕ → Form W
+variant_at [] tag = no_variant
+variant_at (variant ∷ variants) zero = variant
+variant_at (variant ∷ variants) (suc tag) = variant_at variants tag
+
+abbrev pub longest_variant : {W : Type 0} → List (Form W) → ℕ
+longest_variant [] = 0
+longest_variant (variant ∷ variants) = max variant.longest (longest_variant variants)
+
+-- an enum is its tag, the number of its variant, and then the fields of that variant
+abbrev pub tagged : {W : Type 0} → (W → ℕ) → List (Form W) → Form W
+tagged tag_of variants = record {
+  spelling = λ w. tag_of w ∷ (variant_at variants (tag_of w)).spelling w;
+  in_range = λ w. (tag_of w < length variants) × (variant_at variants (tag_of w)).in_range w;
+  bad = BadThen (tag_form (length variants)) (λ tag. (variant_at variants tag).bad);
+  longest = 1 + longest_variant variants;
 }

@@ -1,11 +1,13 @@
 -- Forms that are made of others keep the laws of a form.
-use Rattle.std.specs.Prelude.{◌≡◌, ◌≢◌, ◌⊎◌, ℕ, zero, suc, ◌+◌, ◌*◌, ◌<◌, ◌≤◌, List, [], ◌∷◌, ◌++◌, length, Option, Some, None, refl}
+use Rattle.std.specs.Prelude.{◌≡◌, ◌≢◌, ◌⊎◌, ℕ, zero, suc, ◌+◌, ◌*◌, ◌<◌, ◌≤◌, List, [], ◌∷◌, ◌++◌, length, Option, Some, None, IfSome, IsSomeAnd, refl}
 use Rattle.std.specs.List.{AllByRecursion, flat_map}
 use Rattle.std.proofs.Common.{sym, ◌∙◌, ap, ap₂, subst, inl, inr, arith, append_assoc, length-append}
+use Rattle.std.proofs.Math.Nat.{mul-le-mul_right}
 use Rattle.scale_wire.specs.declared.fault.Why.{Why}
 use Rattle.scale_wire.specs.declared.fault.Why.TheVariants.{Short}
 use Rattle.scale_wire.specs.Form.{Form, Begins, IsRefused, IsWire, IsBytes}
-use Rattle.scale_wire.specs.Composite.{Behind, BadThen, followed, pair, triple, seen, items, BadItems}
+use Rattle.scale_wire.specs.Parts.{byte_string, length_form, tag_form}
+use Rattle.scale_wire.specs.Composite.{Behind, BadThen, followed, pair, triple, seen, nothing, items, BadItems, row, row_bytes, IsRow, list, byte_list, optional, optional_bytes, BadOptional, variant, variant_bytes, variant_at, longest_variant, tagged}
 
 pub IsBytes-rest : (front rest : List ℕ) → IsBytes (front ++ rest) → IsBytes rest
 IsBytes-rest [] rest bytes = bytes
@@ -81,6 +83,17 @@ module _ {V W : Type 0} (form : Form V) (of : Form W) (make : W → V) (made : I
         let within : of.longest ≤ form.longest = made.within in
         omega arith;
   }
+
+pub nothing_laws : IsWire nothing
+nothing_laws = record {
+  one_reading = λ x y rest more x_fits y_fits same. (refl, same);
+  covers = λ bytes are_bytes. inl record { value = tt; in_range = tt; rest = bytes; whole = refl };
+  exclusive = λ x rest at why x_fits bad. bad;
+  one_fault = λ bytes at at' why why' bad bad'. absurd bad;
+  persists = λ bytes more at why are_bytes not_short bad. bad;
+  bounded = λ x x_fits. omega arith;
+  short = λ bytes at bad. absurd bad;
+}
 
 -- ## A part behind another
 
@@ -264,3 +277,192 @@ seen_laws form fields make back forth laws = made_laws (seen form fields) form m
   bad_to = λ bytes at why bad. bad;
   within = omega arith;
 } laws
+
+-- ## Items in a row
+
+module _ {A : Type 0} (item : Form A) (item_laws : IsWire item) where
+  no_items_come : (xs : List A) → (items item 0).in_range xs → (none : Unit {0}) × Unit {0} × ([] ≡ xs)
+  no_items_come [] fits = (tt, tt, refl)
+  no_items_come (x ∷ xs) fits = absurd (omega (arith, fits.1))
+
+  more_items_come : (count : ℕ) (xs : List A) → (items item (suc count)).in_range xs → (p : A × List A) × (pair item (items item count)).in_range p × (p.0 ∷ p.1 ≡ xs)
+  more_items_come count [] fits = absurd (omega (arith, fits.1))
+  more_items_come count (x ∷ xs) fits = ((x, xs), (fits.0.0, (fits.0.1, omega (arith, fits.1))), refl)
+
+  pub items_laws : (count : ℕ) → IsWire (items item count)
+  items_laws zero = made_laws (items item 0) nothing (λ _. []) record {
+    fits = λ none none_fits. (tt, refl);
+    spelled = λ none none_fits. refl;
+    comes = no_items_come;
+    bad_from = λ bytes at why bad. bad;
+    bad_to = λ bytes at why bad. bad;
+    within = omega arith;
+  } nothing_laws
+  items_laws (suc count) = made_laws (items item (suc count)) (pair item (items item count)) (λ p. p.0 ∷ p.1) record {
+    fits = λ p p_fits. ((p_fits.0, p_fits.1.0), omega (arith, p_fits.1.1));
+    spelled = λ p p_fits. refl;
+    comes = more_items_come count;
+    bad_from = λ bytes at why bad. bad;
+    bad_to = λ bytes at why bad. bad;
+    within = omega arith;
+  } (pair_laws item (items item count) item_laws (items_laws count))
+
+module _ {A : Type 0} (item : ℕ → Form A) (item_laws : (position : ℕ) → IsWire (item position)) where
+  no_row_comes : (first : ℕ) (xs : List A) → IsRow item first 0 xs → (none : Unit {0}) × Unit {0} × ([] ≡ xs)
+  no_row_comes first [] fits = (tt, tt, refl)
+  no_row_comes first (x ∷ xs) fits = absurd fits
+
+  more_row_comes : (first count : ℕ) (xs : List A) → IsRow item first (suc count) xs → (p : A × List A) × (pair (item first) (row item (suc first) count)).in_range p × (p.0 ∷ p.1 ≡ xs)
+  more_row_comes first count [] fits = absurd fits
+  more_row_comes first count (x ∷ xs) fits = ((x, xs), fits, refl)
+
+  pub row_laws : (first count : ℕ) → IsWire (row item first count)
+  row_laws first zero = made_laws (row item first 0) nothing (λ _. []) record {
+    fits = λ none none_fits. tt;
+    spelled = λ none none_fits. refl;
+    comes = no_row_comes first;
+    bad_from = λ bytes at why bad. bad;
+    bad_to = λ bytes at why bad. bad;
+    within = omega arith;
+  } nothing_laws
+  row_laws first (suc count) = made_laws (row item first (suc count)) (pair (item first) (row item (suc first) count)) (λ p. p.0 ∷ p.1) record {
+    fits = λ p p_fits. p_fits;
+    spelled = λ p p_fits. refl;
+    comes = more_row_comes first count;
+    bad_from = λ bytes at why bad. bad;
+    bad_to = λ bytes at why bad. bad;
+    within = omega arith;
+  } (pair_laws (item first) (row item (suc first) count) (item_laws first) (row_laws (suc first) count))
+
+-- ## Lists
+
+pub list_laws : {A : Type 0} (item : Form A) (limit : ℕ) → IsWire (length_form limit) → IsWire item → IsWire (list item limit)
+list_laws item limit length_laws item_laws = made_laws (list item limit) (followed (length_form limit) length (items item) (limit * item.longest)) (λ xs. xs) record {
+  fits = λ xs fits. (fits.0, fits.1.0);
+  spelled = λ xs fits. refl;
+  comes = λ xs fits. (xs, (fits.0, (fits.1, refl)), refl);
+  bad_from = λ bytes at why bad. bad;
+  bad_to = λ bytes at why bad. bad;
+  within = omega arith;
+} (followed_laws (length_form limit) length (items item) (limit * item.longest) length_laws
+    (λ count fits. items_laws item item_laws count) (λ count xs fits. fits.1) (λ count fits. mul-le-mul_right item.longest fits))
+
+pub byte_list_laws : (limit : ℕ) → IsWire (length_form limit) → ((count : ℕ) → IsWire (byte_string count)) → IsWire (byte_list limit)
+byte_list_laws limit length_laws string_laws = made_laws (byte_list limit) (followed (length_form limit) length byte_string limit) (λ bytes. bytes) record {
+  fits = λ bytes fits. (fits.0, fits.1.1);
+  spelled = λ bytes fits. refl;
+  comes = λ bytes fits. (bytes, (fits.0, (refl, fits.1)), refl);
+  bad_from = λ bytes at why bad. bad;
+  bad_to = λ bytes at why bad. bad;
+  within = omega arith;
+} (followed_laws (length_form limit) length byte_string limit length_laws
+    (λ count fits. string_laws count) (λ count bytes fits. fits.0) (λ count fits. fits))
+
+-- ## Options
+
+module _ {A : Type 0} (value : Form A) (value_laws : IsWire value) where
+  abbrev option_tag : Option A → ℕ
+  option_tag None = 0
+  option_tag (Some x) = 1
+
+  -- what follows the tag of an option
+  abbrev option_tail : ℕ → Form (Option A)
+  option_tail tag = record {
+    spelling = variant_bytes value;
+    in_range = λ option. IfSome option value.in_range × (option_tag option ≡ tag);
+    bad = BadOptional value tag;
+    longest = value.longest;
+  }
+
+  none_comes : (option : Option A) → (option_tail 0).in_range option → (none : Unit {0}) × Unit {0} × (None ≡ option)
+  none_comes None fits = (tt, tt, refl)
+  none_comes (Some x) fits = absurd (omega (arith, fits.1))
+
+  some_comes : (option : Option A) → (option_tail 1).in_range option → (x : A) × value.in_range x × (Some x ≡ option)
+  some_comes None fits = absurd (omega (arith, fits.1))
+  some_comes (Some x) fits = (x, fits.0, refl)
+
+  option_tail_laws : (tag : ℕ) → tag < 2 → IsWire (option_tail tag)
+  option_tail_laws zero below = made_laws (option_tail 0) nothing (λ _. None) record {
+    fits = λ none fits. (tt, refl);
+    spelled = λ none fits. refl;
+    comes = none_comes;
+    bad_from = λ bytes at why bad. omega (arith, bad.0);
+    bad_to = λ bytes at why bad. absurd bad;
+    within = omega arith;
+  } nothing_laws
+  option_tail_laws (suc zero) below = made_laws (option_tail 1) value (λ x. Some x) record {
+    fits = λ x fits. (fits, refl);
+    spelled = λ x fits. refl;
+    comes = some_comes;
+    bad_from = λ bytes at why bad. bad.1;
+    bad_to = λ bytes at why bad. (refl, bad);
+    within = omega arith;
+  } value_laws
+  option_tail_laws (suc (suc tag)) below = absurd (omega (arith, below))
+
+  option_fits : (option : Option A) → IfSome option value.in_range → (followed (tag_form 2) option_tag option_tail value.longest).in_range option
+  option_fits None fits = (omega arith, (fits, refl))
+  option_fits (Some x) fits = (omega arith, (fits, refl))
+
+  option_spelled : (option : Option A) → optional_bytes value option ≡ (followed (tag_form 2) option_tag option_tail value.longest).spelling option
+  option_spelled None = refl
+  option_spelled (Some x) = refl
+
+  pub optional_laws : IsWire (tag_form 2) → IsWire (optional value)
+  optional_laws tag_laws = made_laws (optional value) (followed (tag_form 2) option_tag option_tail value.longest) (λ option. option) record {
+    fits = λ option fits. fits.1.0;
+    spelled = λ option fits. option_spelled option;
+    comes = λ option fits. (option, option_fits option fits, refl);
+    bad_from = λ bytes at why bad. bad;
+    bad_to = λ bytes at why bad. bad;
+    within = omega arith;
+  } (followed_laws (tag_form 2) option_tag option_tail value.longest tag_laws option_tail_laws (λ tag option fits. fits.1) (λ tag fits. omega arith))
+
+-- ## Enums
+
+pub some_of : {V : Type 0} (o : Option V) (P : V → Type 0) → IsSomeAnd o P → (v : V) × P v × (o ≡ Some v)
+some_of None P holds = absurd holds
+some_of (Some v) P holds = (v, holds, refl)
+
+-- the fields of one variant make the values of that variant, and no others
+pub variant_laws : {V W : Type 0} (fields : Form V) (fields_of : W → Option V) (make : V → W) → ((v : V) → fields_of (make v) ≡ Some v) → ((w : W) (v : V) → fields_of w ≡ Some v → make v ≡ w) → IsWire fields → IsWire (variant fields fields_of)
+variant_laws {V} {W} fields fields_of make forth back laws = made_laws (variant fields fields_of) fields make record {
+  fits = λ v fits. rw (forth v) fits;
+  spelled = λ v fits. ap (variant_bytes fields) (forth v);
+  comes = λ w fits.
+      let some = some_of (fields_of w) fields.in_range fits in
+      (some.0, some.1, back w some.0 some.2);
+  bad_from = λ bytes at why bad. bad;
+  bad_to = λ bytes at why bad. bad;
+  within = omega arith;
+} laws
+
+-- from the tag `first` on, each variant keeps the laws and has the values with its tag
+abbrev pub AreVariants : {W : Type 0} → (W → ℕ) → ℕ → List (Form W) → Type 0
+AreVariants tag_of first [] = Unit {0}
+AreVariants {W} tag_of first (variant ∷ variants) = IsWire variant × ((w : W) → variant.in_range w → tag_of w ≡ first) × AreVariants tag_of (suc first) variants
+
+module _ {W : Type 0} (tag_of : W → ℕ) where
+  variant_at_laws : (first : ℕ) (variants : List (Form W)) → AreVariants tag_of first variants → (tag : ℕ) → tag < length variants → IsWire (variant_at variants tag)
+  variant_at_laws first [] are tag below = absurd (omega (arith, below))
+  variant_at_laws first (variant ∷ variants) are zero below = are.0
+  variant_at_laws first (variant ∷ variants) are (suc tag) below = variant_at_laws (suc first) variants are.2 tag (omega (arith, below))
+
+  variant_at_agrees : (first : ℕ) (variants : List (Form W)) → AreVariants tag_of first variants → (tag : ℕ) (w : W) → (variant_at variants tag).in_range w → tag_of w ≡ first + tag
+  variant_at_agrees first [] are tag w fits = absurd fits
+  variant_at_agrees first (variant ∷ variants) are zero w fits = are.1 w fits ∙ omega arith
+  variant_at_agrees first (variant ∷ variants) are (suc tag) w fits =
+      let e : tag_of w ≡ suc first + tag = variant_at_agrees (suc first) variants are.2 tag w fits in omega arith
+
+  variant_at_within : (variants : List (Form W)) (tag : ℕ) → (variant_at variants tag).longest ≤ longest_variant variants
+  variant_at_within [] tag = omega arith
+  variant_at_within (variant ∷ variants) zero = omega arith
+  variant_at_within (variant ∷ variants) (suc tag) =
+      let within : (variant_at variants tag).longest ≤ longest_variant variants = variant_at_within variants tag in omega arith
+
+  pub tagged_laws : (variants : List (Form W)) → IsWire (tag_form (length variants)) → AreVariants tag_of 0 variants → IsWire (tagged tag_of variants)
+  tagged_laws variants tag_laws are = followed_laws (tag_form (length variants)) tag_of (variant_at variants) (longest_variant variants) tag_laws
+      (λ tag below. variant_at_laws 0 variants are tag below)
+      (λ tag w fits. variant_at_agrees 0 variants are tag w fits ∙ omega arith)
+      (λ tag below. variant_at_within variants tag)
