@@ -1,2 +1,4 @@
 pub mod Account
+pub mod Memory
+pub mod Outside
 pub mod Room

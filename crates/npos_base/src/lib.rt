@@ -4,11 +4,15 @@
 mod account;
 mod figures;
 mod list;
+mod memory;
 mod no_memory;
+mod outside;
 mod room;
 
 pub use account::AccountId;
 pub use figures::{Edge, Score};
 pub use list::List;
+pub use memory::{MemorySink, MemorySource};
 pub use no_memory::NoMemory;
+pub use outside::{Failed, PutFault, Sink, Source, put_all};
 pub use room::Room;
