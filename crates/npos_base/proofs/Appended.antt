@@ -1,8 +1,9 @@
 -- Writes one after another append their pieces one after another.
-use Rattle.std.proofs.Common.{◌≡◌, ℕ, ◌+◌, ◌-◌, ◌≤◌, List, [], ◌++◌, length, take, drop, Option, Some, None, refl, sym, ◌∙◌, ap, subst, append_assoc, arith, length-drop}
+use Rattle.std.proofs.Common.{◌≡◌, ℕ, ◌+◌, ◌-◌, ◌≤◌, List, [], ◌++◌, length, take, drop, Option, Some, None, Bool, true, false, nat_eq, if◌then◌else◌, refl, sym, ◌∙◌, ap, subst, append_assoc, arith, length-drop}
 use Rattle.std.proofs.lemmas.List.{append-nil, take_all}
 use Rattle.std.proofs.Math.Seq.{take-add}
-use Rattle.npos_base.specs.Outside.{Told, Appends}
+use Rattle.npos_base.specs.Outside.{Told, Appends, Flushes}
+use Rattle.npos_base.specs.Kept.{Kept, kept_told}
 
 pub appends_none : (told : Option Told) → Appends told told []
 appends_none None = tt
@@ -25,3 +26,11 @@ appends_more first second third piece put taken a b =
     subst (λ bytes. Appends first third bytes) (sym (take-add put taken piece))
         (appends_both first second third (take put piece) (take taken (drop put piece)) a
             (subst (λ bytes. Appends second third (take taken bytes)) rest b))
+
+-- a flush of a sink with a fixed room
+pub kept_flush : (sink : Kept) (flushed : ℕ) → flushed ≡ length sink.kept → Flushes (kept_told sink) (kept_told record sink { flushed = flushed })
+kept_flush sink flushed all = flush_where (nat_eq sink.past 0) sink.kept sink.flushed flushed all where
+  flush_where : (fits : Bool) (kept : List ℕ) (before after : ℕ) → after ≡ length kept
+      → Flushes (if fits then Some record { written = kept; flushed = before } else None) (if fits then Some record { written = kept; flushed = after } else None)
+  flush_where true kept before after all = (record { written = kept; flushed = before }, refl, refl, all)
+  flush_where false kept before after all = tt

@@ -1,4 +1,5 @@
 pub mod Account
+pub mod Kept
 pub mod Memory
 pub mod Outside
 pub mod Room

@@ -93,10 +93,3 @@ after_flush output =
         next = next_call output.next;
         faults = if fails then one_more output.faults else output.faults
     }
-
--- what a sink with room for a fixed number of bytes holds: those that fit, and a count of those that did not
-pub record Kept : Type 0 where
-  pub kept : List ℕ
-  pub past : ℕ
-  pub flushed : ℕ
-  pub room : ℕ

@@ -7,7 +7,9 @@ mod list;
 mod memory;
 mod no_memory;
 mod outside;
+mod plain;
 mod room;
+mod standard;
 
 pub use account::AccountId;
 pub use figures::{Edge, Score};
@@ -15,4 +17,6 @@ pub use list::List;
 pub use memory::{MemorySink, MemorySource};
 pub use no_memory::NoMemory;
 pub use outside::{Failed, PutFault, Sink, Source, put_all};
+pub use plain::{PlainSink, PlainSource};
 pub use room::Room;
+pub use standard::{StdinSource, StdoutSink};
