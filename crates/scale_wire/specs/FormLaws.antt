@@ -1,13 +1,12 @@
 -- Forms that are made of others keep the laws of a form.
 use Rattle.std.specs.Prelude.{◌≡◌, ◌≢◌, ◌⊎◌, ℕ, zero, suc, ◌+◌, ◌*◌, ◌<◌, ◌≤◌, List, [], ◌∷◌, ◌++◌, length, Option, Some, None, IfSome, IsSomeAnd, refl}
-use Rattle.std.specs.List.{AllByRecursion, flat_map}
 use Rattle.std.proofs.Common.{sym, ◌∙◌, ap, ap₂, subst, inl, inr, arith, append_assoc, length-append}
 use Rattle.std.proofs.Math.Nat.{mul-le-mul_right}
 use Rattle.scale_wire.specs.declared.fault.Why.{Why}
 use Rattle.scale_wire.specs.declared.fault.Why.TheVariants.{Short}
 use Rattle.scale_wire.specs.Form.{Form, Begins, IsRefused, IsWire, IsBytes}
 use Rattle.scale_wire.specs.Parts.{byte_string, length_form, tag_form}
-use Rattle.scale_wire.specs.Composite.{Behind, BadThen, followed, pair, triple, seen, nothing, items, BadItems, row, row_bytes, IsRow, list, byte_list, optional, optional_bytes, BadOptional, variant, variant_bytes, variant_at, longest_variant, tagged}
+use Rattle.scale_wire.specs.Composite.{followed, pair, triple, seen, nothing, items, row, IsRow, list, byte_list, optional, optional_bytes, BadOptional, variant, variant_bytes, variant_at, longest_variant, tagged}
 
 pub IsBytes-rest : (front rest : List ℕ) → IsBytes (front ++ rest) → IsBytes rest
 IsBytes-rest [] rest bytes = bytes
@@ -48,13 +47,13 @@ module _ {V W : Type 0} (form : Form V) (of : Form W) (make : W → V) (made : I
   made_covers : (bytes : List ℕ) → IsBytes bytes → Begins form bytes ⊎ IsRefused form bytes
   made_covers bytes are_bytes =
       elim (laws.covers bytes are_bytes) [
-        inl begins ↦ inl record {
+        | inl begins ↦ inl record {
           value = make begins.value;
           in_range = made.fits begins.value begins.in_range;
           rest = begins.rest;
           whole = begins.whole ∙ ap (λ (s : List ℕ). s ++ begins.rest) (sym (made.spelled begins.value begins.in_range));
         }
-      | inr refused ↦ inr record {
+        | inr refused ↦ inr record {
           at = refused.at;
           why = refused.why;
           bad = made.bad_to bytes refused.at refused.why refused.bad;
@@ -117,16 +116,16 @@ module _ {A W : Type 0} (head : Form A) (first_of : W → A) (tail : A → Form 
         in_range = subst (λ (a : A). head.in_range a × (tail a).in_range there.value) (sym at_first) (here.in_range, there.in_range);
         rest = there.rest;
         whole = here.whole ∙ (ap (λ (s : List ℕ). head.spelling here.value ++ s) there.whole
-          ∙ (sym (append_assoc (head.spelling here.value) ((tail here.value).spelling there.value) there.rest)
-          ∙ ap (λ (a : A). (head.spelling a ++ (tail a).spelling there.value) ++ there.rest) (sym at_first)));
+            ∙ (sym (append_assoc (head.spelling here.value) ((tail here.value).spelling there.value) there.rest)
+            ∙ ap (λ (a : A). (head.spelling a ++ (tail a).spelling there.value) ++ there.rest) (sym at_first)));
       }
 
   followed_covers : (bytes : List ℕ) → IsBytes bytes → Begins (followed head first_of tail most) bytes ⊎ IsRefused (followed head first_of tail most) bytes
   followed_covers bytes are_bytes =
       elim (head_laws.covers bytes are_bytes) [
-        inl here ↦ elim ((tail_laws here.value here.in_range).covers here.rest (IsBytes-rest (head.spelling here.value) here.rest (subst IsBytes here.whole are_bytes))) [
-          inl there ↦ inl (followed_begins bytes here there)
-        | inr refused ↦ inr record {
+        | inl here ↦ elim ((tail_laws here.value here.in_range).covers here.rest (IsBytes-rest (head.spelling here.value) here.rest (subst IsBytes here.whole are_bytes))) [
+          | inl there ↦ inl (followed_begins bytes here there)
+          | inr refused ↦ inr record {
             at = length (head.spelling here.value) + refused.at;
             why = refused.why;
             bad = inr record {
@@ -140,7 +139,7 @@ module _ {A W : Type 0} (head : Form A) (first_of : W → A) (tail : A → Form 
             };
           }
         ]
-      | inr refused ↦ inr record { at = refused.at; why = refused.why; bad = inl refused.bad }
+        | inr refused ↦ inr record { at = refused.at; why = refused.why; bad = inl refused.bad }
       ]
 
   tail_exclusive : (a a' : A) → a ≡ a' → head.in_range a → (x : W) (rest more : List ℕ) (at : ℕ) (why : Why) → (tail a).in_range x → (tail a).spelling x ++ rest ≡ more → (tail a').bad more at why → ⊥
@@ -151,10 +150,10 @@ module _ {A W : Type 0} (head : Form A) (first_of : W → A) (tail : A → Form 
   followed_exclusive x rest at why x_fits bad =
       let apart : (head.spelling (first_of x) ++ (tail (first_of x)).spelling x) ++ rest ≡ head.spelling (first_of x) ++ ((tail (first_of x)).spelling x ++ rest) = append_assoc (head.spelling (first_of x)) ((tail (first_of x)).spelling x) rest in
       elim bad [
-        inl at_head ↦ head_laws.exclusive (first_of x) ((tail (first_of x)).spelling x ++ rest) at why x_fits.0 (subst (λ (s : List ℕ). head.bad s at why) apart at_head)
-      | inr behind ↦
-          let p = head_laws.one_reading (first_of x) behind.first ((tail (first_of x)).spelling x ++ rest) behind.rest x_fits.0 behind.in_range (sym apart ∙ behind.whole) in
-          tail_exclusive (first_of x) behind.first p.0 x_fits.0 x rest behind.rest behind.place why x_fits.1 p.1 behind.refused
+        | inl at_head ↦ head_laws.exclusive (first_of x) ((tail (first_of x)).spelling x ++ rest) at why x_fits.0 (subst (λ (s : List ℕ). head.bad s at why) apart at_head)
+        | inr behind ↦
+            let p = head_laws.one_reading (first_of x) behind.first ((tail (first_of x)).spelling x ++ rest) behind.rest x_fits.0 behind.in_range (sym apart ∙ behind.whole) in
+            tail_exclusive (first_of x) behind.first p.0 x_fits.0 x rest behind.rest behind.place why x_fits.1 p.1 behind.refused
       ]
 
   tail_one_fault : (a a' : A) → a ≡ a' → head.in_range a → (rest rest' : List ℕ) → rest ≡ rest' → (at at' : ℕ) (why why' : Why) → (tail a).bad rest at why → (tail a').bad rest' at' why' → (at ≡ at') × (why ≡ why')
@@ -164,24 +163,24 @@ module _ {A W : Type 0} (head : Form A) (first_of : W → A) (tail : A → Form 
   followed_one_fault : (bytes : List ℕ) (at at' : ℕ) (why why' : Why) → (followed head first_of tail most).bad bytes at why → (followed head first_of tail most).bad bytes at' why' → (at ≡ at') × (why ≡ why')
   followed_one_fault bytes at at' why why' bad bad' =
       elim bad [
-        inl here ↦ elim bad' [
-          inl here' ↦ head_laws.one_fault bytes at at' why why' here here'
-        | inr there' ↦ absurd (head_laws.exclusive there'.first there'.rest at why there'.in_range (subst (λ (s : List ℕ). head.bad s at why) there'.whole here))
+        | inl here ↦ elim bad' [
+          | inl here' ↦ head_laws.one_fault bytes at at' why why' here here'
+          | inr there' ↦ absurd (head_laws.exclusive there'.first there'.rest at why there'.in_range (subst (λ (s : List ℕ). head.bad s at why) there'.whole here))
         ]
-      | inr there ↦ elim bad' [
-          inl here' ↦ absurd (head_laws.exclusive there.first there.rest at' why' there.in_range (subst (λ (s : List ℕ). head.bad s at' why') there.whole here'))
-        | inr there' ↦
-            let p = head_laws.one_reading there.first there'.first there.rest there'.rest there.in_range there'.in_range (sym there.whole ∙ there'.whole) in
-            let q = tail_one_fault there.first there'.first p.0 there.in_range there.rest there'.rest p.1 there.place there'.place why why' there.refused there'.refused in
-            (there.at_is ∙ (ap₂ (λ (a : A) (n : ℕ). length (head.spelling a) + n) p.0 q.0 ∙ sym there'.at_is), q.1)
+        | inr there ↦ elim bad' [
+          | inl here' ↦ absurd (head_laws.exclusive there.first there.rest at' why' there.in_range (subst (λ (s : List ℕ). head.bad s at' why') there.whole here'))
+          | inr there' ↦
+              let p = head_laws.one_reading there.first there'.first there.rest there'.rest there.in_range there'.in_range (sym there.whole ∙ there'.whole) in
+              let q = tail_one_fault there.first there'.first p.0 there.in_range there.rest there'.rest p.1 there.place there'.place why why' there.refused there'.refused in
+              (there.at_is ∙ (ap₂ (λ (a : A) (n : ℕ). length (head.spelling a) + n) p.0 q.0 ∙ sym there'.at_is), q.1)
         ]
       ]
 
   followed_persists : (bytes more : List ℕ) (at : ℕ) (why : Why) → IsBytes bytes → why ≢ Short → (followed head first_of tail most).bad bytes at why → (followed head first_of tail most).bad (bytes ++ more) at why
   followed_persists bytes more at why are_bytes not_short bad =
       elim bad [
-        inl here ↦ inl (head_laws.persists bytes more at why are_bytes not_short here)
-      | inr there ↦ inr record {
+        | inl here ↦ inl (head_laws.persists bytes more at why are_bytes not_short here)
+        | inr there ↦ inr record {
           first = there.first;
           in_range = there.in_range;
           rest = there.rest ++ more;
@@ -203,13 +202,13 @@ module _ {A W : Type 0} (head : Form A) (first_of : W → A) (tail : A → Form 
   followed_short : (bytes : List ℕ) (at : ℕ) → (followed head first_of tail most).bad bytes at Short → length bytes < head.longest + most
   followed_short bytes at bad =
       elim bad [
-        inl here ↦ let bound : length bytes < head.longest = head_laws.short bytes at here in omega arith
-      | inr there ↦
-          let here : length (head.spelling there.first) ≤ head.longest = head_laws.bounded there.first there.in_range in
-          let behind : length there.rest < (tail there.first).longest = (tail_laws there.first there.in_range).short there.rest there.place there.refused in
-          let bound : (tail there.first).longest ≤ most = within there.first there.in_range in
-          let both : length bytes ≡ length (head.spelling there.first) + length there.rest = ap length there.whole ∙ length-append (head.spelling there.first) there.rest in
-          omega arith
+        | inl here ↦ let bound : length bytes < head.longest = head_laws.short bytes at here in omega arith
+        | inr there ↦
+            let here : length (head.spelling there.first) ≤ head.longest = head_laws.bounded there.first there.in_range in
+            let behind : length there.rest < (tail there.first).longest = (tail_laws there.first there.in_range).short there.rest there.place there.refused in
+            let bound : (tail there.first).longest ≤ most = within there.first there.in_range in
+            let both : length bytes ≡ length (head.spelling there.first) + length there.rest = ap length there.whole ∙ length-append (head.spelling there.first) there.rest in
+            omega arith
       ]
 
   pub followed_laws : IsWire (followed head first_of tail most)
