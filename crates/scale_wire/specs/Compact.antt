@@ -1,6 +1,6 @@
 -- Compact integers. The low two bits of the first byte are the mode, which says how many bytes the spelling
 -- has and how the number stands in them.
-use Rattle.std.specs.Prelude.{ℕ, zero, suc, ◌+◌, ◌-◌, ◌*◌, ◌/◌, ◌%◌, ◌^◌, Bool, false, ◌||◌, List, [], ◌∷◌, take, drop, slice_index, Option, if◌then◌else◌, nat_lt, nat_le, nat_eq}
+use Rattle.std.specs.Prelude.{ℕ, zero, suc, ◌+◌, ◌-◌, ◌*◌, ◌/◌, ◌%◌, ◌^◌, ◌<◌, ◌≤◌, Bool, false, ◌&&◌, ◌||◌, List, [], ◌∷◌, ◌++◌, take, drop, slice_index, Option, if◌then◌else◌, nat_lt, nat_le, nat_eq}
 use Rattle.scale_wire.specs.declared.fault.Why.{Why}
 use Rattle.scale_wire.specs.declared.fault.Why.TheVariants.{Short, NotShortest, TooWide}
 use Rattle.scale_wire.specs.LittleEndian.{little_endian, number_at}
@@ -11,18 +11,18 @@ use Rattle.scale_wire.specs.Refusal.{first_reason, lacks}
 -- the least number of bytes, from 4 to 8, that hold the number
 abbrev pub least_bytes : ℕ → ℕ
 least_bytes number =
-    if nat_lt number (256 ^ 4) then 4
-    else if nat_lt number (256 ^ 5) then 5
-    else if nat_lt number (256 ^ 6) then 6
-    else if nat_lt number (256 ^ 7) then 7
-    else 8
+  if nat_lt number (256 ^ 4) then 4
+  else if nat_lt number (256 ^ 5) then 5
+  else if nat_lt number (256 ^ 6) then 6
+  else if nat_lt number (256 ^ 7) then 7
+  else 8
 
 unfoldable pub compact_bytes : ℕ → List ℕ
 compact_bytes number =
-    if nat_lt number 64 then little_endian 1 (4 * number)
-    else if nat_lt number (2 ^ 14) then little_endian 2 (4 * number + 1)
-    else if nat_lt number (2 ^ 30) then little_endian 4 (4 * number + 2)
-    else (4 * (least_bytes number - 4) + 3) ∷ little_endian (least_bytes number) number
+  if nat_lt number 64 then little_endian 1 (4 * number)
+  else if nat_lt number (2 ^ 14) then little_endian 2 (4 * number + 1)
+  else if nat_lt number (2 ^ 30) then little_endian 4 (4 * number + 2)
+  else (4 * (least_bytes number - 4) + 3) ∷ little_endian (least_bytes number) number
 
 -- ## Reading
 
@@ -73,12 +73,12 @@ is_longer_in Big bytes = nat_lt (number_in Big bytes) (2 ^ 30) || nat_eq (slice_
 -- numbers below `limit`
 abbrev pub compact_reasons : ℕ → ℕ → Mode → List ℕ → List (Bool × Why)
 compact_reasons most limit mode bytes =
-    (lacks 1 bytes, Short)
-    ∷ (announces_over most mode bytes, TooWide)
-    ∷ (lacks (bytes_in mode bytes) bytes, Short)
-    ∷ (is_longer_in mode bytes, NotShortest)
-    ∷ (nat_le limit (number_in mode bytes), TooWide)
-    ∷ []
+  (lacks 1 bytes, Short)
+  ∷ (announces_over most mode bytes, TooWide)
+  ∷ (lacks (bytes_in mode bytes) bytes, Short)
+  ∷ (is_longer_in mode bytes, NotShortest)
+  ∷ (nat_le limit (number_in mode bytes), TooWide)
+  ∷ []
 
 abbrev pub compact_refusal : ℕ → ℕ → List ℕ → Option Why
 compact_refusal most limit bytes = first_reason (compact_reasons most limit (mode_of bytes) bytes)
