@@ -1,13 +1,14 @@
--- What readers answer, where they read one part after another.
-use Rattle.std.proofs.Common.{ℕ, ◌+◌, List, length, refl, inr, arith}
+-- What readers and writers answer, where one part stands behind another.
+use Rattle.std.proofs.Common.{◌≡◌, ℕ, ◌+◌, ◌<◌, List, [], ◌∷◌, ◌++◌, length, refl, sym, ◌∙◌, ap, inr, arith, append_assoc}
 use Rattle.std.specs.Prelude.{Err}
 use Rattle.scale_wire.specs.declared.fault.Why.{Why}
+use Rattle.scale_wire.specs.declared.fault.Why.TheVariants.{Trailing}
 use Rattle.scale_wire.specs.declared.fault.WireFault.{WireFault}
 use Rattle.scale_wire.specs.declared.fault.ReadFault.{ReadFault}
 use Rattle.scale_wire.specs.declared.fault.ReadFault.TheVariants.{Wire, NoMemory}
 use Rattle.scale_wire.specs.Form.{Form}
-use Rattle.scale_wire.specs.Composite.{BadThen, pair}
-use Rattle.scale_wire.specs.Reading.{Place, Refuses, IsRead, Reads}
+use Rattle.scale_wire.specs.Composite.{BadThen, pair, triple}
+use Rattle.scale_wire.specs.Reading.{Place, Refuses, IsRead, Reads, HasRest, BadWhole, HasFront}
 
 -- what is refused behind the head is refused as the whole
 pub behind_fault : {A : Type 0} (head : Form A) (bad : A → List ℕ → ℕ → Why → Type 0) (old mid new : Place) (first : A) (fault : WireFault) → IsRead head old first mid → Refuses (bad first) mid fault new → Refuses (BadThen head bad) old fault old
@@ -30,3 +31,41 @@ behind_fault head bad old mid new first fault read refused = record {
 pub pair_err : {A B : Type 0} (a : Form A) (b : Form B) (old mid new : Place) (first : A) (fault : ReadFault) → IsRead a old first mid → Reads b mid (Err fault) new → Reads (pair a b) old (Err fault) old
 pair_err a b old mid new first (Wire fault) read refused = behind_fault a (λ _. b.bad) old mid new first fault read refused
 pair_err a b old mid new first NoMemory read refused = tt
+
+-- what follows the first of a triple was refused
+pub triple_err : {A B C : Type 0} (a : Form A) (b : Form B) (c : Form C) (old mid new : Place) (first : A) (fault : ReadFault) → IsRead a old first mid → Reads (pair b c) mid (Err fault) new → Reads (triple a b c) old (Err fault) old
+triple_err a b c old mid new first (Wire fault) read refused = behind_fault a (λ _. (pair b c).bad) old mid new first fault read refused
+triple_err a b c old mid new first NoMemory read refused = tt
+
+-- a byte follows the value that was read
+pub bad_whole : {V : Type 0} (form : Form V) (bytes : List ℕ) (value : V) (end : Place) → IsRead form (record { at = 0; rest = bytes }) value end → 0 < length end.rest → BadWhole form bytes end.at Trailing
+bad_whole form bytes value end read more = inr (refl, rest_of end.rest read.whole more)
+  where
+    rest_of : (rest : List ℕ) → bytes ≡ form.spelling value ++ rest → 0 < length rest → HasRest form bytes end.at
+    rest_of [] whole more = absurd (omega (arith, more))
+    rest_of (next ∷ rest) whole more = record {
+      value = value;
+      in_range = read.in_range;
+      next = next;
+      rest = rest;
+      whole = whole;
+      at_is = omega (arith, read.at_is);
+    }
+
+-- a front of the first was appended
+pub front_more : (first second old new : List ℕ) → HasFront first old new → HasFront (first ++ second) old new
+front_more first second old new has = record {
+  front = has.front;
+  rest = has.rest ++ second;
+  split = ap (λ (s : List ℕ). s ++ second) has.split ∙ append_assoc has.front has.rest second;
+  new_is = has.new_is;
+}
+
+-- the first was appended, and a front of the second
+pub front_behind : (first second old mid new : List ℕ) → mid ≡ old ++ first → HasFront second mid new → HasFront (first ++ second) old new
+front_behind first second old mid new first_is has = record {
+  front = first ++ has.front;
+  rest = has.rest;
+  split = ap (λ (s : List ℕ). first ++ s) has.split ∙ sym (append_assoc first has.front has.rest);
+  new_is = has.new_is ∙ (ap (λ (s : List ℕ). s ++ has.front) first_is ∙ append_assoc old first has.front);
+}

@@ -1,5 +1,10 @@
+//! Why bytes are refused, and where.
 ghost use Rattle.std.specs.Prelude.{◌≡◌};
 ghost use Rattle.scale_wire.specs.Reason.{number_of};
+ghost use Rattle.scale_wire.specs.declared.fault.ReadFault.TheVariants.{Wire as WireCase, NoMemory as NoMemoryCase};
+
+use npos_base::NoMemory;
+use std::alloc::{AllocError, AllocFailed};
 
 /// Why bytes are refused as a part of a SCALE value: of the reasons that apply to a part, the first
 /// in its own order is given.
@@ -48,4 +53,36 @@ pub struct WireFault {
 pub enum ReadFault {
     Wire(WireFault),
     NoMemory,
+}
+
+impl From<WireFault> for ReadFault {
+    ghost from_gives = { λ fault result. result ≡ WireCase fault };
+
+    fn from(fault: WireFault) -> ReadFault {
+        ReadFault::Wire(fault)
+    }
+}
+
+impl From<NoMemory> for ReadFault {
+    ghost from_gives = { λ _ result. result ≡ NoMemoryCase };
+
+    fn from(_error: NoMemory) -> ReadFault {
+        ReadFault::NoMemory
+    }
+}
+
+impl From<AllocError> for ReadFault {
+    ghost from_gives = { λ _ result. result ≡ NoMemoryCase };
+
+    fn from(_error: AllocError) -> ReadFault {
+        ReadFault::NoMemory
+    }
+}
+
+impl<T: Drop> From<AllocFailed<T>> for ReadFault {
+    ghost from_gives = { λ _ result. result ≡ NoMemoryCase };
+
+    fn from(_error: AllocFailed<T>) -> ReadFault {
+        ReadFault::NoMemory
+    }
 }
