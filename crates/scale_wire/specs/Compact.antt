@@ -1,6 +1,6 @@
 -- Compact integers. The low two bits of the first byte are the mode, which says how many bytes the spelling
 -- has and how the number stands in them.
-use Rattle.std.specs.Prelude.{ℕ, zero, suc, ◌+◌, ◌-◌, ◌*◌, ◌/◌, ◌%◌, ◌^◌, ◌<◌, ◌≤◌, Bool, false, ◌&&◌, ◌||◌, List, [], ◌∷◌, ◌++◌, take, drop, slice_index, Option, if◌then◌else◌, nat_lt, nat_le, nat_eq}
+use Rattle.std.specs.Prelude.{ℕ, zero, suc, ◌+◌, ◌-◌, ◌*◌, ◌/◌, ◌%◌, ◌^◌, Bool, false, ◌||◌, List, [], ◌∷◌, take, drop, slice_index, Option, if◌then◌else◌, nat_lt, nat_le, nat_eq}
 use Rattle.scale_wire.specs.declared.fault.Why.{Why}
 use Rattle.scale_wire.specs.declared.fault.Why.TheVariants.{Short, NotShortest, TooWide}
 use Rattle.scale_wire.specs.LittleEndian.{little_endian, number_at}
@@ -9,7 +9,7 @@ use Rattle.scale_wire.specs.Refusal.{first_reason, lacks}
 -- ## Spelling
 
 -- the least number of bytes, from 4 to 8, that hold the number
-abbrev pub least_bytes : ℕ → ℕ
+unfoldable pub least_bytes : ℕ → ℕ
 least_bytes number =
   if nat_lt number (256 ^ 4) then 4
   else if nat_lt number (256 ^ 5) then 5

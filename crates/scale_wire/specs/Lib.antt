@@ -3,6 +3,8 @@ pub mod LittleEndianLaws
 pub mod Refusal
 pub mod Compact
 pub mod Parts
+pub mod PartLaws
+pub mod CompactLaws
 pub mod Writing
 pub mod Reason
 pub mod Form

@@ -1,5 +1,5 @@
 -- Bytes and numbers, the least significant first: each gives the other back.
-use Rattle.std.proofs.Common.{◌≡◌, ℕ, zero, suc, ◌+◌, ◌-◌, ◌*◌, ◌/◌, ◌%◌, ◌^◌, ◌<◌, ◌≤◌, List, [], ◌∷◌, ◌++◌, length, take, slice_index, refl, sym, ap, ap₂, ◌∙◌, subst, arith}
+use Rattle.std.proofs.Common.{◌≡◌, ℕ, zero, suc, ◌+◌, ◌-◌, ◌*◌, ◌/◌, ◌%◌, ◌^◌, ◌<◌, ◌≤◌, List, [], ◌∷◌, length, take, slice_index, refl, sym, ap, ap₂, ◌∙◌, subst, arith}
 use Rattle.std.proofs.Math.Nat.{pow-suc, pow-succ', div-div-eq-div-mul}
 use Rattle.std.proofs.lemmas.List.{take_all}
 use Rattle.std.specs.Int.{Width, w8, w16, w32, w64, w128, byte_len, byte_at, from_le_bytes, to_le_bytes, bytes_low_first, sum_through, byte_worth}

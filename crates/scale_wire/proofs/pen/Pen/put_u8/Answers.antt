@@ -1,4 +1,4 @@
-use Rattle.std.proofs.Common.{◌≡◌, ℕ, ◌%◌, List, [], ◌∷◌, ap, subst, arith}
+use Rattle.std.proofs.Common.{◌≡◌, ℕ, ◌%◌, [], ◌∷◌, subst, arith}
 use Rattle.scale_wire.specs.LittleEndian.{little_endian}
 use Rattle.scale_wire.specs.Writing.{Appends}
 use Rattle.scale_wire.proofs.pen.Pen.put_u8.Goals as goal

@@ -1,0 +1,213 @@
+-- Parts keep the laws of a form.
+use Rattle.std.specs.Prelude.{◌≡◌, ◌≢◌, ◌⊎◌, ℕ, ◌^◌, ◌<◌, ◌≤◌, Bool, true, false, List, [], ◌∷◌, ◌++◌, length, take, drop, slice_index, nat_le, Option, Some, None, refl}
+use Rattle.std.proofs.Common.{sym, ◌∙◌, ap, subst, inl, inr, arith, length-append}
+use Rattle.std.proofs.lemmas.Bool.{ltb-true, ltb-false, le-ltb, leb-false, lt-leb}
+use Rattle.std.proofs.lemmas.List.{append_cancel_left, take-append-drop, length-take-le, take_at}
+use Rattle.scale_wire.specs.declared.fault.Why.{Why}
+use Rattle.scale_wire.specs.declared.fault.Why.TheVariants.{Short, BadTag}
+use Rattle.scale_wire.specs.Form.{Begins, IsRefused, IsWire, IsBytes, part}
+use Rattle.scale_wire.specs.FormLaws.{IsBytes-front}
+use Rattle.scale_wire.specs.LittleEndian.{little_endian, number_at}
+use Rattle.scale_wire.specs.LittleEndianLaws.{length-little_endian, number_at-little_endian, little_endian-number_at, number_at-bound}
+use Rattle.scale_wire.specs.Refusal.{first_reason, lacks}
+use Rattle.scale_wire.specs.Parts.{IsHead, missing_refusal, fixed, byte_string, tag_refusal, tag_form}
+
+-- ## A part with a way to read it
+
+-- `value` and `size` read the bytes that are not refused.
+pub record IsPart {V : Type 0} (spelling : V → List ℕ) (fits : V → Type 0) (refusal : List ℕ → Option Why) (most : ℕ) (value : List ℕ → V) (size : List ℕ → ℕ) : Type 0 where
+  pub head : (bytes : List ℕ) → IsBytes bytes → refusal bytes ≡ None
+    → IsHead (part spelling fits refusal most) bytes (value bytes) (size bytes)
+  pub kept : (x : V) (rest : List ℕ) → fits x → refusal (spelling x ++ rest) ≡ None
+  pub back : (x : V) (rest : List ℕ) → fits x → value (spelling x ++ rest) ≡ x
+  pub persists : (bytes more : List ℕ) (why : Why) → why ≢ Short → refusal bytes ≡ Some why → refusal (bytes ++ more) ≡ Some why
+  pub bounded : (x : V) → fits x → length (spelling x) ≤ most
+  pub short : (bytes : List ℕ) → refusal bytes ≡ Some Short → length bytes < most
+
+is_refused_or_not : (answer : Option Why) → (answer ≡ None) ⊎ ((why : Why) × (answer ≡ Some why))
+is_refused_or_not None = inl refl
+is_refused_or_not (Some why) = inr (why, refl)
+
+module _ {V : Type 0} (spelling : V → List ℕ) (fits : V → Type 0) (refusal : List ℕ → Option Why) (most : ℕ) (value : List ℕ → V) (size : List ℕ → ℕ) (laws : IsPart spelling fits refusal most value size) where
+  part_reading : (x y : V) (rest more : List ℕ) → fits x → fits y → spelling x ++ rest ≡ spelling y ++ more → (x ≡ y) × (rest ≡ more)
+  part_reading x y rest more x_fits y_fits same =
+      let one : x ≡ y = sym (laws.back x rest x_fits) ∙ (ap value same ∙ laws.back y more y_fits) in
+      (one, append_cancel_left (spelling x) rest more (same ∙ ap (λ (v : V). spelling v ++ more) (sym one)))
+
+  part_covers : (bytes : List ℕ) → IsBytes bytes → Begins (part spelling fits refusal most) bytes ⊎ IsRefused (part spelling fits refusal most) bytes
+  part_covers bytes are_bytes =
+      elim (is_refused_or_not (refusal bytes)) [
+        inl kept ↦
+          let is_head = laws.head bytes are_bytes kept in
+          inl record { value = value bytes; in_range = is_head.in_range; rest = drop (size bytes) bytes; whole = is_head.whole; }
+      | inr refused ↦ inr record { at = 0; why = refused.0; bad = (refl, refused.1); }
+      ]
+
+  pub part_laws : IsWire (part spelling fits refusal most)
+  part_laws = record {
+    one_reading = part_reading;
+    covers = part_covers;
+    exclusive = λ x rest at why x_fits bad. let kept : refusal (spelling x ++ rest) ≡ None = laws.kept x rest x_fits in let no : refusal (spelling x ++ rest) ≡ Some why = bad.1 in cc;
+    one_fault = λ bytes at at' why why' bad bad'. let one : refusal bytes ≡ Some why = bad.1 in let other : refusal bytes ≡ Some why' = bad'.1 in (bad.0 ∙ sym bad'.0, cc);
+    persists = λ bytes more at why are_bytes not_short bad. (bad.0, laws.persists bytes more why not_short bad.1);
+    bounded = laws.bounded;
+    short = λ bytes at bad. laws.short bytes bad.1;
+  }
+
+-- ## Tables of reasons
+
+-- no reason applies: neither the first nor one of the others
+pub none_applies : (applies : Bool) (why : Why) (more : List (Bool × Why))
+  → first_reason ((applies, why) ∷ more) ≡ None → (applies ≡ false) × (first_reason more ≡ None)
+none_applies true why more none = cc
+none_applies false why more none = (refl, none)
+
+-- the first reason applies, or else the first of the others that does
+pub one_applies : (applies : Bool) (why : Why) (more : List (Bool × Why)) (given : Why)
+  → first_reason ((applies, why) ∷ more) ≡ Some given
+  → ((applies ≡ true) × (given ≡ why)) ⊎ ((applies ≡ false) × (first_reason more ≡ Some given))
+one_applies true why more given some = inl (refl, cc)
+one_applies false why more given some = inr (refl, some)
+
+pub passed : (applies : Bool) (why : Why) (more : List (Bool × Why)) (answer : Option Why)
+  → applies ≡ false → first_reason more ≡ answer → first_reason ((applies, why) ∷ more) ≡ answer
+passed true why more answer is_false rest = cc
+passed false why more answer is_false rest = rest
+
+pub applied : (applies : Bool) (why : Why) (more : List (Bool × Why))
+  → applies ≡ true → first_reason ((applies, why) ∷ more) ≡ Some why
+applied true why more is_true = refl
+applied false why more is_true = cc
+
+pub not_lacking : (count : ℕ) (bytes : List ℕ) → count ≤ length bytes → lacks count bytes ≡ false
+not_lacking count bytes whole = le-ltb (length bytes) count whole
+
+-- ## Parts of a fixed number of bytes
+
+pub whole_from_none : (count : ℕ) (bytes : List ℕ) → missing_refusal count bytes ≡ None → count ≤ length bytes
+whole_from_none count bytes none = ltb-false (length bytes) count (none_applies (lacks count bytes) Short [] none).0
+
+pub none_from_whole : (count : ℕ) (bytes : List ℕ) → count ≤ length bytes → missing_refusal count bytes ≡ None
+none_from_whole count bytes whole = passed (lacks count bytes) Short [] None (not_lacking count bytes whole) refl
+
+pub short_from_some : (count : ℕ) (bytes : List ℕ) (why : Why) → missing_refusal count bytes ≡ Some why
+  → (why ≡ Short) × (length bytes < count)
+short_from_some count bytes why some =
+  elim (one_applies (lacks count bytes) Short [] why some) [
+    inl here ↦ (here.1, ltb-true (length bytes) count here.0)
+  | inr later ↦ let no : None ≡ Some why = later.1 in cc
+  ]
+
+-- What reads exactly `count` bytes, and is given back by its spelling, makes a part.
+pub record IsWhole {V : Type 0} (count : ℕ) (spelling : V → List ℕ) (fits : V → Type 0) (value : List ℕ → V) : Type 0 where
+  pub long : (x : V) → fits x → length (spelling x) ≡ count
+  pub in_range : (bytes : List ℕ) → IsBytes bytes → length bytes ≡ count → fits (value bytes)
+  pub spelled : (bytes : List ℕ) → IsBytes bytes → length bytes ≡ count → spelling (value bytes) ≡ bytes
+  pub back : (x : V) → fits x → value (spelling x) ≡ x
+
+module _ {V : Type 0} (count : ℕ) (spelling : V → List ℕ) (fits : V → Type 0) (value : List ℕ → V) (whole : IsWhole count spelling fits value) where
+  whole_head : (bytes : List ℕ) → IsBytes bytes → missing_refusal count bytes ≡ None
+    → IsHead (part spelling fits (missing_refusal count) count) bytes (value (take count bytes)) count
+  whole_head bytes are_bytes none =
+      let long : length (take count bytes) ≡ count = length-take-le count bytes (whole_from_none count bytes none) in
+      let joined : take count bytes ++ drop count bytes ≡ bytes = take-append-drop count bytes in
+      let taken : IsBytes (take count bytes) = IsBytes-front (take count bytes) (drop count bytes) (subst (λ b. IsBytes b) (sym joined) are_bytes) in
+      record {
+        in_range = whole.in_range (take count bytes) taken long;
+        whole = sym (ap (λ s. s ++ drop count bytes) (whole.spelled (take count bytes) taken long) ∙ joined);
+        size_is = ap length (whole.spelled (take count bytes) taken long) ∙ long;
+      }
+
+  pub whole_part : IsPart spelling fits (missing_refusal count) count (λ bytes. value (take count bytes)) (λ _. count)
+  whole_part = record {
+    head = whole_head;
+    kept = λ x rest x_fits. let long : length (spelling x) ≡ count = whole.long x x_fits in none_from_whole count (spelling x ++ rest) (omega (arith, length-append (spelling x) rest));
+    back = λ x rest x_fits. ap value (take_at (spelling x) rest count (whole.long x x_fits)) ∙ whole.back x x_fits;
+    persists = λ bytes more why not_short some. absurd (not_short (short_from_some count bytes why some).0);
+    bounded = λ x x_fits. let long : length (spelling x) ≡ count = whole.long x x_fits in omega arith;
+    short = λ bytes some. (short_from_some count bytes Short some).1;
+  }
+
+  pub whole_laws : IsWire (part spelling fits (missing_refusal count) count)
+  whole_laws = part_laws spelling fits (missing_refusal count) count (λ bytes. value (take count bytes)) (λ _. count) whole_part
+
+fixed_whole : (count : ℕ) → IsWhole count (little_endian count) (λ number. number < 256 ^ count) number_at
+fixed_whole count = record {
+  long = λ x _. length-little_endian count x;
+  in_range = λ bytes are_bytes long. subst (λ n. number_at bytes < 256 ^ n) long (number_at-bound bytes are_bytes);
+  spelled = λ bytes are_bytes long. subst (λ n. little_endian n (number_at bytes) ≡ bytes) long (little_endian-number_at bytes are_bytes);
+  back = number_at-little_endian count;
+}
+
+pub fixed_laws : (count : ℕ) → IsWire (fixed count)
+fixed_laws count = whole_laws count (little_endian count) (λ number. number < 256 ^ count) number_at (fixed_whole count)
+
+pub fixed_head : (count : ℕ) (bytes : List ℕ) → IsBytes bytes → count ≤ length bytes
+  → IsHead (fixed count) bytes (number_at (take count bytes)) count
+fixed_head count bytes are_bytes whole =
+  (whole_part count (little_endian count) (λ number. number < 256 ^ count) number_at (fixed_whole count)).head bytes are_bytes
+    (none_from_whole count bytes whole)
+
+string_whole : (count : ℕ) → IsWhole count (λ bytes. bytes) (λ bytes. (length bytes ≡ count) × IsBytes bytes) (λ bytes. bytes)
+string_whole count = record {
+  long = λ x x_fits. x_fits.0;
+  in_range = λ bytes are_bytes long. (long, are_bytes);
+  spelled = λ bytes _ _. refl;
+  back = λ x _. refl;
+}
+
+pub byte_string_laws : (count : ℕ) → IsWire (byte_string count)
+byte_string_laws count =
+  whole_laws count (λ bytes. bytes) (λ bytes. (length bytes ≡ count) × IsBytes bytes) (λ bytes. bytes) (string_whole count)
+
+-- ## Tags
+
+tag_head : (below : ℕ) (bytes : List ℕ) → IsBytes bytes → tag_refusal below bytes ≡ None
+  → IsHead (tag_form below) bytes (slice_index bytes 0) 1
+tag_head below [] are_bytes none = cc
+tag_head below (tag ∷ rest) are_bytes none =
+  let fits = none_applies (lacks 1 (tag ∷ rest)) Short ((nat_le below tag, BadTag) ∷ []) none in
+  let fits' = none_applies (nat_le below tag) BadTag [] fits.1 in
+  record { in_range = leb-false below tag fits'.0; whole = refl; size_is = refl; }
+
+tag_kept : (below tag : ℕ) (rest : List ℕ) → tag < below → tag_refusal below (tag ∷ rest) ≡ None
+tag_kept below tag rest fits =
+  passed (lacks 1 (tag ∷ rest)) Short ((nat_le below tag, BadTag) ∷ []) None (not_lacking 1 (tag ∷ rest) (omega arith))
+    (passed (nat_le below tag) BadTag [] None (lt-leb below tag fits) refl)
+
+tag_persists : (below : ℕ) (bytes more : List ℕ) (why : Why) → why ≢ Short → tag_refusal below bytes ≡ Some why
+  → tag_refusal below (bytes ++ more) ≡ Some why
+tag_persists below [] more why not_short some = absurd (not_short cc)
+tag_persists below (tag ∷ rest) more why not_short some =
+  elim (one_applies (lacks 1 (tag ∷ rest)) Short ((nat_le below tag, BadTag) ∷ []) why some) [
+    inl here ↦ absurd (not_short here.1)
+  | inr later ↦
+      passed (lacks 1 (tag ∷ (rest ++ more))) Short ((nat_le below tag, BadTag) ∷ []) (Some why)
+        (not_lacking 1 (tag ∷ (rest ++ more)) (omega arith)) later.1
+  ]
+
+tag_short : (below : ℕ) (bytes : List ℕ) → tag_refusal below bytes ≡ Some Short → length bytes < 1
+tag_short below bytes some =
+  elim (one_applies (lacks 1 bytes) Short ((nat_le below (slice_index bytes 0), BadTag) ∷ []) Short some) [
+    inl here ↦ ltb-true (length bytes) 1 here.0
+  | inr later ↦
+      elim (one_applies (nat_le below (slice_index bytes 0)) BadTag [] Short later.1) [
+        inl here ↦ let other : Short ≡ BadTag = here.1 in cc
+      | inr end ↦ let other : None ≡ Some Short = end.1 in cc
+      ]
+  ]
+
+tag_part : (below : ℕ)
+  → IsPart (λ tag. tag ∷ []) (λ tag. tag < below) (tag_refusal below) 1 (λ bytes. slice_index bytes 0) (λ _. 1)
+tag_part below = record {
+  head = tag_head below;
+  kept = tag_kept below;
+  back = λ x rest _. refl;
+  persists = tag_persists below;
+  bounded = λ x _. omega arith;
+  short = tag_short below;
+}
+
+pub tag_laws : (below : ℕ) → IsWire (tag_form below)
+tag_laws below =
+  part_laws (λ tag. tag ∷ []) (λ tag. tag < below) (tag_refusal below) 1 (λ bytes. slice_index bytes 0) (λ _. 1) (tag_part below)
