@@ -1,5 +1,5 @@
 -- Writes one after another append their pieces one after another.
-use Rattle.std.proofs.Common.{◌≡◌, ℕ, ◌+◌, ◌-◌, ◌≤◌, List, [], ◌++◌, length, take, drop, Option, Some, None, Bool, true, false, nat_eq, if◌then◌else◌, refl, sym, ◌∙◌, ap, subst, append_assoc, arith, length-drop}
+use Rattle.std.proofs.Common.{◌≡◌, ℕ, ◌+◌, ◌-◌, List, [], ◌++◌, length, take, drop, Option, Some, None, Bool, true, false, nat_eq, if◌then◌else◌, refl, sym, ◌∙◌, ap, subst, append_assoc, arith, length-drop}
 use Rattle.std.proofs.lemmas.List.{append-nil, take_all}
 use Rattle.std.proofs.Math.Seq.{take-add}
 use Rattle.npos_base.specs.Outside.{Told, Appends, Flushes}
@@ -22,10 +22,10 @@ pub appends_more : (first second third : Option Told) (piece : List ℕ) (put ta
     → Appends first third (take (put + taken) piece)
 appends_more first second third piece put taken a b =
     let rest : take (length piece - put) (drop put piece) ≡ drop put piece =
-        take_all (length piece - put) (drop put piece) (omega (arith, length-drop put piece)) in
+    take_all (length piece - put) (drop put piece) (omega (arith, length-drop put piece)) in
     subst (λ bytes. Appends first third bytes) (sym (take-add put taken piece))
-        (appends_both first second third (take put piece) (take taken (drop put piece)) a
-            (subst (λ bytes. Appends second third (take taken bytes)) rest b))
+    (appends_both first second third (take put piece) (take taken (drop put piece)) a
+    (subst (λ bytes. Appends second third (take taken bytes)) rest b))
 
 -- a flush of a sink with a fixed room
 pub kept_flush : (sink : Kept) (flushed : ℕ) → flushed ≡ length sink.kept → Flushes (kept_told sink) (kept_told record sink { flushed = flushed })

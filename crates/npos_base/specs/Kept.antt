@@ -1,5 +1,5 @@
 -- A sink with room for a fixed number of bytes.
-use Rattle.std.specs.Prelude.{◌≡◌, ℕ, ◌+◌, ◌-◌, ◌^◌, min, nat_eq, if◌then◌else◌, List, ◌++◌, length, take, drop, Option, Some, None}
+use Rattle.std.specs.Prelude.{ℕ, ◌+◌, ◌-◌, ◌^◌, min, nat_eq, if◌then◌else◌, List, ◌++◌, length, take, drop, Option, Some, None}
 use Rattle.npos_base.specs.Outside.{Told}
 
 -- the first bytes written, as many as the room takes, and how many were past it, up to 2^64 - 1
@@ -20,6 +20,6 @@ spare_room sink = sink.room - length sink.kept
 -- the sink after the write of a piece, which it takes whole
 abbrev pub after_keeping : Kept → List ℕ → Kept
 after_keeping sink piece = record sink {
-    kept = sink.kept ++ take (spare_room sink) piece;
-    past = min (sink.past + length (drop (spare_room sink) piece)) (2 ^ 64 - 1)
+  kept = sink.kept ++ take (spare_room sink) piece;
+  past = min (sink.past + length (drop (spare_room sink) piece)) (2 ^ 64 - 1);
 }

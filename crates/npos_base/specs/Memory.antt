@@ -1,5 +1,5 @@
 -- Sources and sinks in memory, whose failures are chosen by the number of the call.
-use Rattle.std.specs.Prelude.{◌≡◌, ℕ, ◌+◌, ◌-◌, ◌^◌, ◌≤◌, min, Bool, true, false, ◌||◌, ◌&&◌, nat_eq, nat_lt, if◌then◌else◌, List, [], ◌++◌, length, take, drop, Option, Some, None, Result, Ok, Err}
+use Rattle.std.specs.Prelude.{ℕ, ◌+◌, ◌^◌, min, Bool, false, ◌||◌, ◌&&◌, nat_eq, nat_lt, if◌then◌else◌, List, [], ◌++◌, length, take, drop, Option, Some, None, Result, Ok, Err}
 use Rattle.std.specs.List.{list_any}
 use Rattle.npos_base.specs.declared.outside.Failed.{Failed}
 use Rattle.npos_base.specs.Outside.{Told, one_more}
@@ -37,9 +37,9 @@ abbrev pub after_read : Input → ℕ → Input
 after_read input room =
     let fails = is_failing input.failing input.next in
     record input {
-        left = if fails then input.left else drop (given_count input room) input.left;
-        next = next_call input.next;
-        faults = if fails then one_more input.faults else input.faults
+      left = if fails then input.left else drop (given_count input room) input.left;
+      next = next_call input.next;
+      faults = if fails then one_more input.faults else input.faults;
     }
 
 -- a sink in memory
@@ -75,10 +75,10 @@ abbrev pub after_write : Output → List ℕ → ℕ → Output
 after_write output piece spare =
     let fails = write_fails output piece in
     record output {
-        written = output.written ++ (if fails then [] else take (taken_count output piece) piece);
-        spare = spare;
-        next = next_call output.next;
-        faults = if fails then one_more output.faults else output.faults
+      written = output.written ++ (if fails then [] else take (taken_count output piece) piece);
+      spare = spare;
+      next = next_call output.next;
+      faults = if fails then one_more output.faults else output.faults;
     }
 
 abbrev pub flush_answer : Output → Result (Unit {0}) Failed
@@ -89,7 +89,7 @@ abbrev pub after_flush : Output → Output
 after_flush output =
     let fails = is_failing output.failing output.next in
     record output {
-        flushed = if fails then output.flushed else length output.written;
-        next = next_call output.next;
-        faults = if fails then one_more output.faults else output.faults
+      flushed = if fails then output.flushed else length output.written;
+      next = next_call output.next;
+      faults = if fails then one_more output.faults else output.faults;
     }

@@ -20,3 +20,6 @@ pub use outside::{Failed, PutFault, Sink, Source, put_all};
 pub use plain::{PlainSink, PlainSource};
 pub use room::Room;
 pub use standard::{StdinSource, StdoutSink};
+
+#[cfg(test)]
+mod tests;

@@ -3,6 +3,7 @@ ghost use Rattle.std.specs.Prelude.{◌≡◌, ◌+◌, ◌<◌, ◌≤◌, ◌-
 ghost use Rattle.npos_base.specs.Outside.{Gives, Writes, FlushesAll, HasCause};
 ghost use Rattle.npos_base.specs.Memory.{Input, Output, read_answer, after_read, write_answer, after_write, flush_answer, after_flush, told_of, is_failing, next_call};
 
+use crate::outside::fault;
 use crate::{Failed, List, NoMemory, Sink, Source};
 use std::alloc::Global;
 use std::marker::Model;
@@ -67,8 +68,7 @@ impl Source for MemorySource {
         ensures after { self.new ≡ after_read self.old (length buffer.old) }
     {
         if number_fails(&mut self.next, self.failing.as_slice()) {
-            self.faults = self.faults.saturating_add(1);
-            return Err(Failed);
+            return Err(fault(&mut self.faults));
         }
         let left = &self.bytes.as_slice()[self.at..];
         let count = self.most.min(buffer.len()).min(left.len());
@@ -172,8 +172,7 @@ impl Sink for MemorySink {
         let spare = self.written.capacity() - self.written.len();
         let fails = number_fails(&mut self.next, self.failing.as_slice());
         if fails || (spare == 0 && !piece.is_empty()) {
-            self.faults = self.faults.saturating_add(1);
-            return Err(Failed);
+            return Err(fault(&mut self.faults));
         }
         let count = self.most.min(piece.len()).min(spare);
         match self.written.extend_from_slice(&piece[..count]) {
@@ -190,8 +189,7 @@ impl Sink for MemorySink {
         ensures spare { self.old.spare ≤ self.new.spare }
     {
         if number_fails(&mut self.next, self.failing.as_slice()) {
-            self.faults = self.faults.saturating_add(1);
-            return Err(Failed);
+            return Err(fault(&mut self.faults));
         }
         self.flushed = self.written.len();
         Ok(())

@@ -1,7 +1,7 @@
 //! Where bytes come from and where they go. Contracts see a source and a sink by what they tell, and by a count
 //! of faults that is the cause of each failure.
 ghost use Rattle.std.specs.Prelude.{◌≡◌, ◌<◌, ◌≤◌, ℕ, List, Option, length, take, IfOk, OnOk, IfErr};
-ghost use Rattle.npos_base.specs.Outside.{Told, Gives, Writes, FlushesAll, Appends, HasCause};
+ghost use Rattle.npos_base.specs.Outside.{Told, Gives, Writes, FlushesAll, Appends, HasCause, one_more};
 
 /// The answer of a call on the outside that failed. The object's count of faults rose in that call.
 #[derive(Clone, Copy, Debug, PartialEq, Eq, Hash)]
@@ -48,6 +48,15 @@ pub trait Sink {
     fn flush(&mut self) -> Result<(), Failed>
         ensures bytes { FlushesAll (told self.old) (told self.new) result }
         ensures cause { HasCause (faults self.old) (faults self.new) result };
+}
+
+/// Counts one fault, the cause of the failure that is told.
+pub(crate) fn fault(faults: &mut u64) -> Failed
+    ensures counted { faults.new ≡ one_more faults.old }
+    ensures later { faults.old ≤ faults.new }
+{
+    *faults = faults.saturating_add(1);
+    Failed
 }
 
 /// Writes the whole piece, however short the single writes are.

@@ -1,6 +1,7 @@
 //! Standard input and output, the trusted edge: no contract says which bytes they give or take.
 ghost use Rattle.std.specs.Prelude.{◌≡◌};
 
+use crate::outside::fault;
 use crate::{Failed, Sink, Source};
 use std::io::{Read, Stdin, Stdout, Write};
 use std::marker::Model;
@@ -39,10 +40,7 @@ impl Source for StdinSource {
     fn read(&mut self, buffer: &mut [u8]) -> Result<usize, Failed> {
         match self.input.read(buffer) {
             Ok(count) => Ok(count),
-            Err(_) => {
-                self.faults = self.faults.saturating_add(1);
-                Err(Failed)
-            }
+            Err(_) => Err(fault(&mut self.faults)),
         }
     }
 }
@@ -82,20 +80,14 @@ impl Sink for StdoutSink {
     fn write(&mut self, piece: &[u8]) -> Result<usize, Failed> {
         match self.output.write(piece) {
             Ok(count) if count > 0 || piece.is_empty() => Ok(count),
-            _ => {
-                self.faults = self.faults.saturating_add(1);
-                Err(Failed)
-            }
+            _ => Err(fault(&mut self.faults)),
         }
     }
 
     fn flush(&mut self) -> Result<(), Failed> {
         match self.output.flush() {
             Ok(()) => Ok(()),
-            Err(_) => {
-                self.faults = self.faults.saturating_add(1);
-                Err(Failed)
-            }
+            Err(_) => Err(fault(&mut self.faults)),
         }
     }
 }

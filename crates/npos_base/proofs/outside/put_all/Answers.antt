@@ -6,7 +6,7 @@ use Rattle.npos_base.proofs.outside.put_all.Goals as goal
 
 pub loop-put-preserved : goal.loop-put-preserved
 loop-put-preserved g c = record {
-    within = omega (arith, simp (length-take, length-drop) at c.in-Ok.ensures.bound);
-    appended = appends_more _ _ _ c.args.piece.now c.loop-put.put c.in-Ok.taken c.loop-put.invariant.appended c.in-Ok.ensures.bytes;
-    no_fault = c.in-Ok.ensures.cause.ok ∙ c.loop-put.invariant.no_fault
+  within = omega (arith, simp (length-take, length-drop) at c.in-Ok.ensures.bound);
+  appended = appends_more _ _ _ c.args.piece.now c.loop-put.put c.in-Ok.taken c.loop-put.invariant.appended c.in-Ok.ensures.bytes;
+  no_fault = c.in-Ok.ensures.cause.ok ∙ c.loop-put.invariant.no_fault;
 }

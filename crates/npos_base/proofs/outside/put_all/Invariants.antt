@@ -4,9 +4,9 @@ use Rattle.npos_base.proofs.outside.put_all.Given as goal
 
 abbrev pub invariant-loop-put : goal.invariant-loop-put
 invariant-loop-put g l = record {
-    within : l.put ≤ length l.piece;
-    appended : Appends (g.K.Sink.told l.initial.sink) (g.K.Sink.told l.sink) (take l.put l.piece);
-    no_fault : g.K.Sink.faults l.sink ≡ g.K.Sink.faults l.initial.sink
+  within : l.put ≤ length l.piece;
+  appended : Appends (g.K.Sink.told l.initial.sink) (g.K.Sink.told l.sink) (take l.put l.piece);
+  no_fault : g.K.Sink.faults l.sink ≡ g.K.Sink.faults l.initial.sink;
 }
 
 abbrev pub decreases-loop-put : goal.decreases-loop-put
