@@ -677,13 +677,18 @@ module _ (most limit longest : ℕ) (fits : ℕ → Type 0) (tail : ℕ → List
         size_is = ap length spelled ∙ length-take-le (bytes_in (mode_of bytes) bytes) bytes kept.0.whole;
       }
 
-  tailed_kept : (number : ℕ) (rest : List ℕ) → fits number → tailed_refusal most limit tail (compact_bytes number ++ rest) ≡ None
-  tailed_kept number rest number_fits =
-      let back = gives_back most limit longest number rest suits (tails.below number number_fits) in
-      subst (λ (mode : Mode). first_reason (compact_reasons most limit mode (compact_bytes number ++ rest) ++ tail (number_in mode (compact_bytes number ++ rest))) ≡ None)
+  -- a number's spelling is answered by the further reasons alone
+  pub tail_decides : (number : ℕ) (rest : List ℕ) (answer : Option Why) → number < limit → first_reason (tail number) ≡ answer
+    → tailed_refusal most limit tail (compact_bytes number ++ rest) ≡ answer
+  tail_decides number rest answer below answered =
+      let back = gives_back most limit longest number rest suits below in
+      subst (λ (mode : Mode). first_reason (compact_reasons most limit mode (compact_bytes number ++ rest) ++ tail (number_in mode (compact_bytes number ++ rest))) ≡ answer)
         (sym back.mode_is)
-        (kept_to most limit back.mode (compact_bytes number ++ rest) (tail (number_in back.mode (compact_bytes number ++ rest))) None back.kept
-          (ap (λ (n : ℕ). first_reason (tail n)) back.number_is ∙ tails.passes number number_fits))
+        (kept_to most limit back.mode (compact_bytes number ++ rest) (tail (number_in back.mode (compact_bytes number ++ rest))) answer back.kept
+          (ap (λ (n : ℕ). first_reason (tail n)) back.number_is ∙ answered))
+
+  tailed_kept : (number : ℕ) (rest : List ℕ) → fits number → tailed_refusal most limit tail (compact_bytes number ++ rest) ≡ None
+  tailed_kept number rest number_fits = tail_decides number rest None (tails.below number number_fits) (tails.passes number number_fits)
 
   tailed_back : (number : ℕ) (rest : List ℕ) → fits number
     → number_in (mode_of (compact_bytes number ++ rest)) (compact_bytes number ++ rest) ≡ number
@@ -783,3 +788,10 @@ pub length_laws : (limit : ℕ) → limit < 2 ^ 32 → IsWire (length_form limit
 length_laws limit fits =
   part_laws compact_bytes (λ number. number ≤ limit) (length_refusal limit) 5
     (λ bytes. number_in (mode_of bytes) bytes) (λ bytes. bytes_in (mode_of bytes) bytes) (length_part limit fits)
+
+-- a compact u32 over the limit
+pub too_many : (limit number : ℕ) (rest : List ℕ) → limit < 2 ^ 32 → number < 2 ^ 32 → limit < number
+  → length_refusal limit (compact_bytes number ++ rest) ≡ Some TooMany
+too_many limit number rest fits below over =
+  tail_decides 4 (2 ^ 32) 5 (λ number. number ≤ limit) (length_tail limit) suits_u32 (limit_tail limit fits) number rest (Some TooMany) below
+    (applied (nat_lt limit number) TooMany [] (lt-ltb limit number over))

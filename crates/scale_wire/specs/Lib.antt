@@ -5,6 +5,7 @@ pub mod Compact
 pub mod Parts
 pub mod PartLaws
 pub mod CompactLaws
+pub mod CompactSteps
 pub mod Writing
 pub mod Reason
 pub mod Form

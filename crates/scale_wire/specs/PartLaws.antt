@@ -79,6 +79,11 @@ pub applied : (applies : Bool) (why : Why) (more : List (Bool × Why))
 applied true why more is_true = refl
 applied false why more is_true = cc
 
+pub more_reasons : (reasons more : List (Bool × Why)) (why : Why) → first_reason reasons ≡ Some why → first_reason (reasons ++ more) ≡ Some why
+more_reasons [] more why some = cc
+more_reasons ((true, first) ∷ reasons) more why some = some
+more_reasons ((false, first) ∷ reasons) more why some = more_reasons reasons more why some
+
 pub not_lacking : (count : ℕ) (bytes : List ℕ) → count ≤ length bytes → lacks count bytes ≡ false
 not_lacking count bytes whole = le-ltb (length bytes) count whole
 

@@ -2,8 +2,10 @@
 ghost use Rattle.std.specs.Prelude.{◌≡◌, ◌≢◌, ℕ, ◌+◌, ◌^◌, ◌<◌, ◌≤◌, length, take, drop, MatchResult, MatchOption};
 ghost use Rattle.scale_wire.specs.Form.{IsBytes};
 ghost use Rattle.scale_wire.specs.Reading.{Takes, IsRead, IsFault};
-ghost use Rattle.scale_wire.specs.Parts.{fixed_u8, fixed_u32, fixed_u128, byte_string, tag_form};
+ghost use Rattle.scale_wire.specs.Parts.{fixed_u8, fixed_u32, fixed_u128, byte_string, tag_form, compact_form, compact_u16, compact_u32, compact_u64, length_form};
+ghost use Rattle.scale_wire.specs.CompactLaws.{Suits};
 
+use crate::compact::read_compact;
 use crate::fault::{Why, WireFault};
 use std::marker::Model;
 
@@ -74,11 +76,111 @@ impl<'a> Cursor<'a> {
                 self.rest = rest;
                 Ok(front)
             }
-            None => Err(WireFault {
-                at: self.at,
-                why: Why::Short,
-            }),
+            None => Err(self.fault(Why::Short)),
         }
+    }
+
+    // The next bytes, as many as the array has.
+    fn take_array<const N: usize>(&mut self) -> Result<[u8; N], WireFault>
+        ensures { Takes (byte_string N) self.old result self.new }
+    {
+        let mut array = [0; N];
+        array.copy_from_slice(self.take_bytes(N)?);
+        Ok(array)
+    }
+
+    /// One byte.
+    pub fn take_u8(&mut self) -> Result<u8, WireFault>
+        ensures { Takes fixed_u8 self.old result self.new }
+    {
+        Ok(u8::from_le_bytes(self.take_array()?))
+    }
+
+    /// Four bytes, the least significant first.
+    pub fn take_u32(&mut self) -> Result<u32, WireFault>
+        ensures { Takes fixed_u32 self.old result self.new }
+    {
+        Ok(u32::from_le_bytes(self.take_array()?))
+    }
+
+    /// Sixteen bytes, the least significant first.
+    pub fn take_u128(&mut self) -> Result<u128, WireFault>
+        ensures { Takes fixed_u128 self.old result self.new }
+    {
+        Ok(u128::from_le_bytes(self.take_array()?))
+    }
+
+    /// One byte below `below`.
+    pub fn take_tag(&mut self, below: u8) -> Result<u8, WireFault>
+        ensures { Takes (tag_form below) self.old result self.new }
+    {
+        let mut here = self.fork();
+        let tag = here.take_u8()?;
+        if tag < below {
+            *self = here;
+            Ok(tag)
+        } else {
+            Err(self.fault(Why::BadTag))
+        }
+    }
+
+    /// A compact integer of two bytes' range.
+    pub fn take_compact_u16(&mut self) -> Result<u16, WireFault>
+        ensures { Takes compact_u16 self.old result self.new }
+    {
+        let number = self.take_compact(0, u64::from(u16::MAX))?;
+        Ok(number as u16)
+    }
+
+    /// A compact integer of four bytes' range.
+    pub fn take_compact_u32(&mut self) -> Result<u32, WireFault>
+        ensures { Takes compact_u32 self.old result self.new }
+    {
+        let number = self.take_compact(4, u64::from(u32::MAX))?;
+        Ok(number as u32)
+    }
+
+    /// A compact integer of eight bytes' range.
+    pub fn take_compact_u64(&mut self) -> Result<u64, WireFault>
+        ensures { Takes compact_u64 self.old result self.new }
+    {
+        self.take_compact(8, u64::MAX)
+    }
+
+    /// The length of a list that has at most `limit` items: a compact integer of four bytes' range.
+    pub fn take_length(&mut self, limit: u32) -> Result<u32, WireFault>
+        ensures { Takes (length_form limit) self.old result self.new }
+    {
+        let mut here = self.fork();
+        let length = here.take_compact_u32()?;
+        if length <= limit {
+            *self = here;
+            Ok(length)
+        } else {
+            Err(self.fault(Why::TooMany))
+        }
+    }
+
+    // A compact integer of a type that has at most `most` value bytes and the numbers up to `max`.
+    fn take_compact(&mut self, most: usize, max: u64) -> Result<u64, WireFault>
+        requires { Suits most (max + 1) 9 }
+        ensures { Takes (compact_form most (max + 1) 9) self.old result self.new }
+    {
+        match read_compact(self.rest, most, max) {
+            Ok((number, size)) => {
+                self.at += size as u64;
+                self.rest = self.rest.split_at(size).1;
+                Ok(number)
+            }
+            Err(why) => Err(self.fault(why)),
+        }
+    }
+
+    // A refusal of what begins here.
+    fn fault(&self, why: Why) -> WireFault
+        ensures { result ≡ record { at = self.now.at; why = why } }
+    {
+        WireFault { at: self.at, why }
     }
 }
 

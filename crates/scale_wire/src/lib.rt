@@ -1,6 +1,7 @@
 // SCALE, the byte format of Substrate: what each type is spelled as, and its readers and writers.
 #![tactic(auto)]
 
+mod compact;
 mod cursor;
 pub mod fault;
 mod pen;
