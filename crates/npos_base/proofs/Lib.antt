@@ -1,1 +1,3 @@
+pub mod AccountBytes
 pub mod Appended
+pub mod BigEndian

@@ -3,6 +3,7 @@
 
 mod account;
 mod figures;
+pub mod laws;
 mod list;
 mod memory;
 mod no_memory;

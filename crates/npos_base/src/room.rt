@@ -31,10 +31,11 @@ impl<T> Room<T> {
         Ok(Room { items })
     }
 
-    /// Makes room for at least `n` more items.
+    /// Makes room for at least `n` more items. The spare never falls.
     pub fn reserve(&mut self, n: usize) -> Result<(), NoMemory>
         ensures items { self.new.items ≡ self.old.items }
         ensures spare { OnOk result (n ≤ self.new.spare) }
+        ensures no_less { self.old.spare ≤ self.new.spare }
     {
         self.items.reserve(n)?;
         Ok(())
