@@ -1,3 +1,4 @@
 pub mod ReadLemmas
 pub mod Modes
 pub mod PartLemmas
+pub mod PenLemmas

@@ -10,7 +10,10 @@ use Rattle.scale_wire.specs.LittleEndian.{little_endian, number_at}
 use Rattle.scale_wire.specs.LittleEndianLaws.{little_endian-number_at, number_at-bound}
 use Rattle.scale_wire.specs.Refusal.{lacks}
 use Rattle.scale_wire.specs.Compact.{mode_of, number_in, bytes_in, compact_bytes, compact_refusal}
-use Rattle.scale_wire.specs.Parts.{fixed, fixed_u8, byte_string, tag_form, tag_refusal, compact_form, compact_u32, length_form, length_refusal}
+use Rattle.scale_wire.specs.Parts.{account_form, fixed, fixed_u8, byte_string, tag_form, tag_refusal, compact_form, compact_u32, length_form, length_refusal}
+use Rattle.npos_base.specs.Account.{account_bytes, account_of}
+use Rattle.npos_base.specs.declared.account.AccountId.{AccountId}
+use Rattle.scale_wire.specs.AccountLaws.{fits_account, account_is}
 use Rattle.scale_wire.specs.PartLaws.{passed, applied, not_lacking}
 use Rattle.scale_wire.specs.CompactLaws.{Suits, compact_part, too_many}
 
@@ -92,3 +95,14 @@ over_limit limit old new number fault fits read over fault_is = record {
   at_is = ap (λ (f : WireFault). f.at) fault_is ∙ omega arith;
   unchanged = refl;
 }
+
+pub account_read : (old new : Place) (bytes : List ℕ) (account : AccountId) → IsRead (byte_string 32) old bytes new
+  → account ≡ account_of bytes → IsRead account_form old account new
+account_read old new bytes account read is =
+  let made = account_is bytes read.in_range.0 read.in_range.1 in
+  let spelled : account_bytes account ≡ bytes = ap (λ (a : AccountId). account_bytes a) is ∙ made.1 in
+  record {
+    in_range = subst (λ (a : AccountId). fits_account a) (sym is) made.0;
+    whole = read.whole ∙ ap (λ (s : List ℕ). s ++ new.rest) (sym spelled);
+    at_is = read.at_is ∙ ap (λ (s : List ℕ). old.at + length s) (sym spelled);
+  }

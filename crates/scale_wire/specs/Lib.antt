@@ -6,6 +6,7 @@ pub mod Parts
 pub mod PartLaws
 pub mod CompactLaws
 pub mod CompactSteps
+pub mod AccountLaws
 pub mod Writing
 pub mod Reason
 pub mod Form

@@ -2,11 +2,12 @@
 ghost use Rattle.std.specs.Prelude.{◌≡◌, ◌≢◌, ℕ, ◌+◌, ◌^◌, ◌<◌, ◌≤◌, length, take, drop, MatchResult, MatchOption};
 ghost use Rattle.scale_wire.specs.Form.{IsBytes};
 ghost use Rattle.scale_wire.specs.Reading.{Takes, IsRead, IsFault};
-ghost use Rattle.scale_wire.specs.Parts.{fixed_u8, fixed_u32, fixed_u128, byte_string, tag_form, compact_form, compact_u16, compact_u32, compact_u64, length_form};
+ghost use Rattle.scale_wire.specs.Parts.{fixed_u8, fixed_u32, fixed_u128, byte_string, tag_form, compact_form, compact_u16, compact_u32, compact_u64, length_form, account_form};
 ghost use Rattle.scale_wire.specs.CompactLaws.{Suits};
 
 use crate::compact::read_compact;
 use crate::fault::{Why, WireFault};
+use npos_base::AccountId;
 use std::marker::Model;
 
 /// A place in bytes and what is left of them. Each `take_` call reads one part of a SCALE value at the
@@ -159,6 +160,14 @@ impl<'a> Cursor<'a> {
         } else {
             Err(self.fault(Why::TooMany))
         }
+    }
+
+    /// An account, its 32 bytes as they are.
+    pub fn take_account(&mut self) -> Result<AccountId, WireFault>
+        ensures { Takes account_form self.old result self.new }
+    {
+        let bytes = self.take_array()?;
+        Ok(AccountId::from_bytes(&bytes))
     }
 
     // A compact integer of a type that has at most `most` value bytes and the numbers up to `max`.

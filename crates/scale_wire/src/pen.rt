@@ -1,8 +1,8 @@
 //! Writing parts as bytes.
-ghost use Rattle.std.specs.Prelude.{◌≡◌, ◌+◌, ◌^◌, ◌<◌, ◌≤◌, [], ◌∷◌};
+ghost use Rattle.std.specs.Prelude.{◌≡◌, ◌+◌, ◌^◌, ◌<◌, ◌≤◌, []};
 ghost use Rattle.npos_base.specs.Account.{account_bytes};
 ghost use Rattle.scale_wire.specs.LittleEndian.{little_endian};
-ghost use Rattle.scale_wire.specs.Compact.{compact_bytes};
+ghost use Rattle.scale_wire.specs.Compact.{compact_bytes, least_bytes};
 ghost use Rattle.scale_wire.specs.Writing.{Appends};
 
 use npos_base::{AccountId, List, NoMemory};
@@ -70,11 +70,58 @@ impl Pen {
         self.put_bytes(&value.to_bytes())
     }
 
+    /// A compact integer, in the shortest mode that holds it.
+    pub fn put_compact(&mut self, value: u64) -> Result<(), NoMemory>
+        ensures { Appends (compact_bytes value) result self.old self.new }
+    {
+        if value < 1 << 6 {
+            self.put_u8((value * 4) as u8)
+        } else if value < 1 << 14 {
+            self.put_bytes(&((value * 4 + 1) as u16).to_le_bytes())
+        } else if value < 1 << 30 {
+            self.put_u32((value * 4 + 2) as u32)
+        } else {
+            self.put_big(value)
+        }
+    }
+
+    // A compact integer that only the longest mode holds: how many value bytes follow, and these bytes.
+    fn put_big(&mut self, value: u64) -> Result<(), NoMemory>
+        requires { 2 ^ 30 ≤ value }
+        ensures { Appends (compact_bytes value) result self.old self.new }
+    {
+        let count = byte_count(value);
+        let mut bytes = [0; 9];
+        bytes[0] = (count as u8 - 4) * 4 + 3;
+        bytes[1..].copy_from_slice(&value.to_le_bytes());
+        self.put_bytes(&bytes[..1 + count])
+    }
+
     /// The bytes written. It takes no memory.
     pub fn finish(self) -> List<u8>
         ensures { result ≡ self }
     {
         let Pen { bytes } = self;
         List::from_vec(bytes)
+    }
+}
+
+// The least number of bytes, from 4 on, that hold the number.
+#[tactic(auto, unfolding(crate::specs::Compact::least_bytes))]
+fn byte_count(value: u64) -> usize
+    ensures count { result ≡ least_bytes value }
+    ensures few { result ≤ 8 }
+    ensures four { 4 ≤ result }
+{
+    if value < 1 << 32 {
+        4
+    } else if value < 1 << 40 {
+        5
+    } else if value < 1 << 48 {
+        6
+    } else if value < 1 << 56 {
+        7
+    } else {
+        8
     }
 }
