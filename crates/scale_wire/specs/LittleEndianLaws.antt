@@ -1,9 +1,8 @@
 -- Bytes and numbers, the least significant first: each gives the other back.
-use Rattle.std.proofs.Common.{◌≡◌, ℕ, zero, suc, ◌+◌, ◌-◌, ◌*◌, ◌/◌, ◌%◌, ◌^◌, ◌<◌, ◌≤◌, List, [], ◌∷◌, ◌++◌, length, take, reverse, slice_index, refl, sym, ap, ap₂, ◌∙◌, subst, arith}
+use Rattle.std.proofs.Common.{◌≡◌, ℕ, zero, suc, ◌+◌, ◌-◌, ◌*◌, ◌/◌, ◌%◌, ◌^◌, ◌<◌, ◌≤◌, List, [], ◌∷◌, ◌++◌, length, take, slice_index, refl, sym, ap, ap₂, ◌∙◌, subst, arith}
 use Rattle.std.proofs.Math.Nat.{pow-suc, pow-succ', div-div-eq-div-mul}
-use Rattle.std.proofs.lemmas.List.{take_all, reverse-append}
-use Rattle.std.proofs.Math.Seq.{take-suc}
-use Rattle.std.specs.Int.{Width, w8, w16, w32, w64, w128, byte_len, byte_at, from_le_bytes, to_le_bytes, from_be_bytes, to_be_bytes, bytes_low_first, bytes_high_first, sum_through, byte_worth}
+use Rattle.std.proofs.lemmas.List.{take_all}
+use Rattle.std.specs.Int.{Width, w8, w16, w32, w64, w128, byte_len, byte_at, from_le_bytes, to_le_bytes, bytes_low_first, sum_through, byte_worth}
 use Rattle.scale_wire.specs.Form.{IsBytes}
 use Rattle.scale_wire.specs.LittleEndian.{little_endian, number_at}
 
@@ -120,67 +119,3 @@ pub from_le_bytes-number_at : (width : Width) (bytes : List ℕ) → length byte
 from_le_bytes-number_at width bytes long =
   let all : length bytes ≤ suc (byte_len width - 1) = omega (arith, some_byte width) in
   worth_through (byte_len width - 1) bytes ∙ ap (λ b. number_at b) (take_all (suc (byte_len width - 1)) bytes all)
-
--- ## The most significant byte first
-
-little_endian-snoc : (count number : ℕ)
-  → little_endian (suc count) number ≡ little_endian count number ++ (number / 256 ^ count % 256) ∷ []
-unfolding little_endian
-little_endian-snoc zero number = let whole : number % 256 ≡ number / 256 ^ 0 % 256 = omega arith in ap (λ (b : ℕ). b ∷ []) whole
-little_endian-snoc (suc count) number =
-  ap (λ (rest : List ℕ). number % 256 ∷ rest) (little_endian-snoc count (number / 256)
-    ∙ ap (λ (n : ℕ). little_endian count (number / 256) ++ (n % 256) ∷ []) (div-div-eq-div-mul number 256 (256 ^ count)
-      ∙ ap (λ (worth : ℕ). number / worth) (sym (pow-succ' 256 count))))
-
-high_first-reverse : (count number : ℕ) → bytes_high_first count number ≡ reverse (little_endian count number)
-unfolding little_endian
-high_first-reverse zero number = refl
-high_first-reverse (suc count) number =
-  ap₂ (λ (byte : ℕ) (rest : List ℕ). byte ∷ rest) (byte_at_is count number) (high_first-reverse count number)
-  ∙ (sym (reverse-append (little_endian count number) ((number / 256 ^ count % 256) ∷ []))
-  ∙ ap (λ (bytes : List ℕ). reverse bytes) (sym (little_endian-snoc count number)))
-
--- `to_be_bytes` at each width
-pub to_be_bytes-reverse : (width : Width) (number : ℕ) → to_be_bytes width number ≡ reverse (little_endian (byte_len width) number)
-to_be_bytes-reverse width number = high_first-reverse (byte_len width) number
-
-reverse_push : (bytes : List ℕ) (byte : ℕ) → number_at (reverse (bytes ++ byte ∷ [])) ≡ byte + 256 * number_at (reverse bytes)
-unfolding number_at
-reverse_push bytes byte = ap number_at (reverse-append bytes (byte ∷ []))
-
-first_worth : (worth byte : ℕ) → byte * worth ≡ worth * number_at (byte ∷ [])
-unfolding number_at
-first_worth worth byte = omega arith
-
-next_worth : (low high so_far byte sum worth all : ℕ) → high ≡ 256 * low → sum ≡ high * so_far → worth ≡ byte * low
-  → all ≡ byte + 256 * so_far → sum + worth ≡ low * all
-next_worth low high so_far byte sum worth all power before here more = rw (before, here, more, power) (omega arith)
-
-unit_worth : (number : ℕ) → 256 ^ 0 * number ≡ number
-unit_worth number = omega arith
-
--- the bytes so far, of `top + 1` bytes in all
-worth_down : (top count : ℕ) (bytes : List ℕ) → count ≤ top → count < length bytes
-  → sum_through (λ i. byte_worth (top - i) (slice_index bytes i)) count ≡ 256 ^ (top - count) * number_at (reverse (take (suc count) bytes))
-unfolding number_at
-worth_down top zero [] within long = absurd (omega arith)
-worth_down top zero (byte ∷ bytes) within long = worth_is (top - 0) byte ∙ first_worth (256 ^ (top - 0)) byte
-worth_down top (suc count) bytes within long =
-  let next : top - count ≡ suc (top - suc count) = omega arith in
-  let power : 256 ^ (top - count) ≡ 256 * 256 ^ (top - suc count) = ap (λ (n : ℕ). 256 ^ n) next ∙ pow-succ' 256 (top - suc count) in
-  let more : number_at (reverse (take (suc (suc count)) bytes)) ≡ slice_index bytes (suc count) + 256 * number_at (reverse (take (suc count) bytes)) =
-      ap (λ (b : List ℕ). number_at (reverse b)) (take-suc bytes (suc count) 0 long) ∙ reverse_push (take (suc count) bytes) (slice_index bytes (suc count)) in
-  next_worth (256 ^ (top - suc count)) (256 ^ (top - count)) (number_at (reverse (take (suc count) bytes))) (slice_index bytes (suc count)) _ _ _
-    power (worth_down top count bytes (omega arith) (omega arith)) (worth_is (top - suc count) (slice_index bytes (suc count))) more
-
--- `from_be_bytes` at each width
-pub from_be_bytes-reverse : (width : Width) (bytes : List ℕ) → length bytes ≡ byte_len width
-  → from_be_bytes width bytes ≡ number_at (reverse bytes)
-from_be_bytes-reverse width bytes long =
-  let some : 0 < byte_len width = some_byte width in
-  let all : length bytes ≤ suc (byte_len width - 1) = omega arith in
-  let none : (byte_len width - 1) - (byte_len width - 1) ≡ 0 = omega arith in
-  worth_down (byte_len width - 1) (byte_len width - 1) bytes (omega arith) (omega arith)
-  ∙ (ap (λ (n : ℕ). 256 ^ n * number_at (reverse (take (suc (byte_len width - 1)) bytes))) none
-  ∙ (unit_worth (number_at (reverse (take (suc (byte_len width - 1)) bytes)))
-  ∙ ap (λ (b : List ℕ). number_at (reverse b)) (take_all (suc (byte_len width - 1)) bytes all)))
