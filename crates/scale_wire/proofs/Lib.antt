@@ -2,3 +2,5 @@ pub mod ReadLemmas
 pub mod Modes
 pub mod PartLemmas
 pub mod PenLemmas
+pub mod ListLemmas
+pub mod LawLemmas

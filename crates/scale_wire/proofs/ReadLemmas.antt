@@ -1,14 +1,16 @@
 -- What readers and writers answer, where one part stands behind another.
-use Rattle.std.proofs.Common.{◌≡◌, ℕ, ◌+◌, ◌<◌, List, [], ◌∷◌, ◌++◌, length, refl, sym, ◌∙◌, ap, inr, arith, append_assoc}
-use Rattle.std.specs.Prelude.{Err}
+use Rattle.std.proofs.Common.{◌≡◌, ◌≢◌, ℕ, ◌+◌, ◌<◌, List, [], ◌∷◌, ◌++◌, length, refl, sym, ◌∙◌, ap, subst, inr, arith, append_assoc}
+use Rattle.std.proofs.lemmas.List.{append-nil}
+use Rattle.std.specs.Prelude.{Result, Ok, Err}
 use Rattle.scale_wire.specs.declared.fault.Why.{Why}
 use Rattle.scale_wire.specs.declared.fault.Why.TheVariants.{Trailing}
 use Rattle.scale_wire.specs.declared.fault.WireFault.{WireFault}
 use Rattle.scale_wire.specs.declared.fault.ReadFault.{ReadFault}
 use Rattle.scale_wire.specs.declared.fault.ReadFault.TheVariants.{Wire, NoMemory}
 use Rattle.scale_wire.specs.Form.{Form}
-use Rattle.scale_wire.specs.Composite.{BadThen, pair, triple}
-use Rattle.scale_wire.specs.Reading.{Place, Refuses, IsRead, Reads, HasRest, BadWhole, HasFront}
+use Rattle.scale_wire.specs.Composite.{BadThen, pair, triple, optional, BadOptional}
+use Rattle.scale_wire.specs.Parts.{tag_form}
+use Rattle.scale_wire.specs.Reading.{Place, Refuses, IsRead, IsFault, Reads, HasRest, BadWhole, HasFront, Writes}
 
 -- what is refused behind the head is refused as the whole
 pub behind_fault : {A : Type 0} (head : Form A) (bad : A → List ℕ → ℕ → Why → Type 0) (old mid new : Place) (first : A) (fault : WireFault) → IsRead head old first mid → Refuses (bad first) mid fault new → Refuses (BadThen head bad) old fault old
@@ -69,3 +71,23 @@ front_behind first second old mid new first_is has = record {
   split = ap (λ (s : List ℕ). first ++ s) has.split ∙ sym (append_assoc first has.front has.rest);
   new_is = has.new_is ∙ (ap (λ (s : List ℕ). s ++ has.front) first_is ∙ append_assoc old first has.front);
 }
+
+-- the first was appended, and then the second was written
+pub writes_behind : {E : Type 0} (first second old mid : List ℕ) (result : Result Unit E) (new : List ℕ) → mid ≡ old ++ first → Writes second mid result new → Writes (first ++ second) old result new
+writes_behind first second old mid (Ok done) new first_is written = written ∙ (ap (λ (s : List ℕ). s ++ second) first_is ∙ append_assoc old first second)
+writes_behind first second old mid (Err e) new first_is has = front_behind first second old mid new first_is has
+
+-- the value behind the tag of an option was refused; `here` is a copy of the cursor as it was
+pub optional_err : {A : Type 0} (value : Form A) (old here mid new : Place) (tag : ℕ) (fault : ReadFault) → here ≡ old → tag ≢ 0 → IsRead (tag_form 2) here tag mid → Reads value mid (Err fault) new → Reads (optional value) old (Err fault) old
+optional_err value old here mid new tag (Wire fault) same not_none read refused =
+    let is_some : tag ≡ 1 = omega (arith, read.in_range) in
+    subst (λ (o : Place). IsFault (optional value) o fault o) same (behind_fault (tag_form 2) (BadOptional value) here mid new tag fault read record {
+      place = refused.place;
+      bad = (is_some, refused.bad);
+      at_is = refused.at_is;
+      unchanged = refused.unchanged;
+    })
+optional_err value old here mid new tag NoMemory same not_none read refused = tt
+
+pub no_front : (bytes old : List ℕ) → HasFront bytes old old
+no_front bytes old = record { front = []; rest = bytes; split = refl; new_is = sym (append-nil old) }

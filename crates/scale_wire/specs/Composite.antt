@@ -115,9 +115,12 @@ row item first count = record {
 -- ## Lists
 
 -- a list is its length and then its items
+abbrev pub list_bytes : {A : Type 0} → Form A → List A → List ℕ
+list_bytes item xs = compact_bytes (length xs) ++ flat_map item.spelling xs
+
 abbrev pub list : {A : Type 0} → Form A → ℕ → Form (List A)
 list item limit = record {
-  spelling = λ xs. compact_bytes (length xs) ++ flat_map item.spelling xs;
+  spelling = list_bytes item;
   in_range = λ xs. (length xs ≤ limit) × AllByRecursion item.in_range xs;
   bad = BadThen (length_form limit) (BadItems item);
   longest = 5 + limit * item.longest;

@@ -1,7 +1,7 @@
 -- Forms that are made of others keep the laws of a form.
-use Rattle.std.specs.Prelude.{◌≡◌, ◌≢◌, ◌⊎◌, ℕ, zero, suc, ◌+◌, ◌*◌, ◌<◌, ◌≤◌, List, [], ◌∷◌, ◌++◌, length, Option, Some, None, IfSome, IsSomeAnd, refl}
-use Rattle.std.proofs.Common.{sym, ◌∙◌, ap, ap₂, subst, inl, inr, arith, append_assoc, length-append}
-use Rattle.std.proofs.Math.Nat.{mul-le-mul_right}
+use Rattle.std.specs.Prelude.{◌≡◌, ◌≢◌, ◌⊎◌, ℕ, zero, suc, ◌+◌, ◌*◌, ◌%◌, ◌^◌, ◌<◌, ◌≤◌, List, [], ◌∷◌, ◌++◌, length, Option, Some, None, IfSome, IsSomeAnd, refl}
+use Rattle.std.proofs.Common.{sym, ◌∙◌, ap, ap₂, subst, inl, inr, arith, lit<, append_assoc, length-append}
+use Rattle.std.proofs.Math.Nat.{mul-le-mul_right, mod-lt}
 use Rattle.scale_wire.specs.declared.fault.Why.{Why}
 use Rattle.scale_wire.specs.declared.fault.Why.TheVariants.{Short}
 use Rattle.scale_wire.specs.Form.{Form, Begins, IsRefused, IsWire, IsBytes}
@@ -334,6 +334,9 @@ module _ {A : Type 0} (item : ℕ → Form A) (item_laws : (position : ℕ) → 
   } (pair_laws (item first) (row item (suc first) count) (item_laws first) (row_laws (suc first) count))
 
 -- ## Lists
+
+pub limit_fits : (limit : ℕ) → limit % 2 ^ 32 < 2 ^ 32
+limit_fits limit = mod-lt limit (lit< tt)
 
 pub list_laws : {A : Type 0} (item : Form A) (limit : ℕ) → IsWire (length_form limit) → IsWire item → IsWire (list item limit)
 list_laws item limit length_laws item_laws = made_laws (list item limit) (followed (length_form limit) length (items item) (limit * item.longest)) (λ xs. xs) record {

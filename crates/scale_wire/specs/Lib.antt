@@ -13,3 +13,4 @@ pub mod Form
 pub mod Reading
 pub mod Composite
 pub mod FormLaws
+pub mod Laws

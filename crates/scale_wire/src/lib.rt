@@ -4,9 +4,12 @@
 mod compact;
 mod cursor;
 pub mod fault;
+pub mod laws;
 mod pen;
+mod up_to;
 mod wire;
 
 pub use cursor::Cursor;
 pub use pen::Pen;
-pub use wire::Wire;
+pub use up_to::{BytesUpTo, UpTo};
+pub use wire::{read_bytes, read_list, read_whole, write_bytes, write_list, write_tag, Wire};

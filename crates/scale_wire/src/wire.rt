@@ -1,7 +1,10 @@
 //! Values that have a spelling in SCALE.
-ghost use Rattle.std.specs.Prelude.{◌≡◌, ◌+◌, ◌<◌, ◌≤◌, ◌^◌};
+ghost use Rattle.std.specs.Prelude.{◌≡◌, ◌+◌, [], ◌∷◌, ◌++◌, ◌<◌, ◌≤◌, ◌^◌, length, flat_map};
+ghost use Rattle.std.specs.List.{AllByRecursion};
 ghost use Rattle.scale_wire.specs.Form.{Form, IsWire};
-ghost use Rattle.scale_wire.specs.Composite.{pair};
+ghost use Rattle.scale_wire.specs.Composite.{pair, items as items_of, list, list_bytes, byte_list};
+ghost use Rattle.scale_wire.specs.Compact.{compact_bytes};
+ghost use Rattle.scale_wire.specs.Writing.{Appends};
 ghost use Rattle.scale_wire.specs.Reading.{Reads, Writes, ReadsWhole};
 
 use crate::fault::{ReadFault, Why, WireFault};
@@ -74,6 +77,41 @@ impl<A: Wire, B: Wire, C: Wire> Wire for (A, B, C) {
     }
 }
 
+impl<A: Wire> Wire for Option<A> {
+    ghost use Rattle.scale_wire.specs.Composite.{optional};
+    ghost use Rattle.scale_wire.specs.FormLaws.{optional_laws};
+    ghost use Rattle.scale_wire.specs.PartLaws.{tag_laws};
+
+    ghost form = { optional A.form };
+
+    ghost laws = { optional_laws A.form A.laws (tag_laws 2) };
+
+    fn write(&self, pen: &mut Pen) -> Result<(), NoMemory> {
+        match self {
+            None => write_tag(0, pen),
+            Some(value) => {
+                write_tag(1, pen)?;
+                value.write(pen)
+            }
+        }
+    }
+
+    fn read(alloc: Global, cursor: &mut Cursor<'_>) -> Result<Option<A>, ReadFault> {
+        let mut here = cursor.fork();
+        let tag = here.take_tag(2)?;
+        let value = if tag == 0 { None } else { Some(A::read(alloc, &mut here)?) };
+        *cursor = here;
+        Ok(value)
+    }
+}
+
+/// Appends a tag, the number of a variant.
+pub fn write_tag(tag: u8, pen: &mut Pen) -> Result<(), NoMemory>
+    ensures { Appends (tag ∷ []) result pen.old pen.new }
+{
+    pen.put_bytes(&[tag])
+}
+
 // The first and then the second.
 fn write_both<A: Wire, B: Wire>(first: &A, second: &B, pen: &mut Pen) -> Result<(), NoMemory>
     requires { (pair A.form B.form).in_range (first.now, second.now) }
@@ -98,4 +136,72 @@ pub fn read_whole<T: Wire>(alloc: Global, bytes: &[u8]) -> Result<T, ReadFault>
             why: Why::Trailing,
         }))
     }
+}
+
+/// Reads a list of at most `limit` items.
+pub fn read_list<T: Wire>(alloc: Global, cursor: &mut Cursor<'_>, limit: u32) -> Result<List<T>, ReadFault>
+    ensures { Reads (list T.form limit) cursor.old result cursor.new }
+{
+    let mut here = cursor.fork();
+    let count = here.take_length(limit)?;
+    let items = read_items(alloc, &mut here, count)?;
+    *cursor = here;
+    Ok(items)
+}
+
+// Reads this many items. Room for them is made at once where as many bytes are left.
+fn read_items<T: Wire>(alloc: Global, cursor: &mut Cursor<'_>, count: u32) -> Result<List<T>, ReadFault>
+    ensures { Reads (items_of T.form count) cursor.old result cursor.new }
+{
+    let mut here = cursor.fork();
+    let room = here.rest().len().min(count as usize);
+    let mut items = Vec::with_capacity(alloc, room)?;
+    for _ in 0..count {
+        let item = T::read(alloc, &mut here)?;
+        items.push(item)?;
+    }
+    *cursor = here;
+    Ok(List::from_vec(items))
+}
+
+/// Appends a list: its length and then its items.
+#[tactic(auto, using(crate::proofs::ReadLemmas::writes_behind))]
+pub fn write_list<T: Wire>(items: &[T], pen: &mut Pen) -> Result<(), NoMemory>
+    requires { AllByRecursion T.form.in_range items.now }
+    ensures { Writes (list_bytes T.form items.now) pen.old result pen.new }
+{
+    pen.put_compact(items.len() as u64)?;
+    write_items(items, pen)
+}
+
+// The items, one behind the other.
+#[tactic(auto, using(crate::proofs::ListLemmas::items_front))]
+fn write_items<T: Wire>(items: &[T], pen: &mut Pen) -> Result<(), NoMemory>
+    requires { AllByRecursion T.form.in_range items.now }
+    ensures { Writes (flat_map T.form.spelling items.now) pen.old result pen.new }
+{
+    for item in items {
+        item.write(pen)?;
+    }
+    Ok(())
+}
+
+/// Reads a list of at most `limit` bytes.
+pub fn read_bytes(alloc: Global, cursor: &mut Cursor<'_>, limit: u32) -> Result<List<u8>, ReadFault>
+    ensures { Reads (byte_list limit) cursor.old result cursor.new }
+{
+    let mut here = cursor.fork();
+    let count = here.take_length(limit)?;
+    let bytes = here.take_bytes(count as usize)?;
+    let bytes = bytes.to_vec(alloc)?;
+    *cursor = here;
+    Ok(List::from_vec(bytes))
+}
+
+/// Appends a list of bytes: its length and then the bytes as they are.
+pub fn write_bytes(bytes: &[u8], pen: &mut Pen) -> Result<(), NoMemory>
+    ensures { Writes (compact_bytes (length bytes.now) ++ bytes.now) pen.old result pen.new }
+{
+    pen.put_compact(bytes.len() as u64)?;
+    pen.put_bytes(bytes)
 }

@@ -1,0 +1,5 @@
+use Rattle.scale_wire.proofs.LawLemmas.{persist}
+use Rattle.scale_wire.proofs.laws.faults_persist.Goals as goal
+
+pub returns : goal.returns
+returns g c = persist g.T.Wire.form g.T.Wire.laws
