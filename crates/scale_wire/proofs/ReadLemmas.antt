@@ -1,6 +1,5 @@
 -- What readers and writers answer, where one part stands behind another.
-use Rattle.std.proofs.Common.{◌≡◌, ◌≢◌, ℕ, ◌+◌, ◌<◌, List, [], ◌∷◌, ◌++◌, length, refl, sym, ◌∙◌, ap, subst, inr, arith, append_assoc}
-use Rattle.std.proofs.lemmas.List.{append-nil}
+use Rattle.std.proofs.Common.{◌≡◌, ◌≢◌, ℕ, ◌+◌, ◌<◌, List, [], ◌∷◌, ◌++◌, length, refl, sym, ◌∙◌, ap, subst, inr, arith, append_assoc, zero-add}
 use Rattle.std.specs.Prelude.{Result, Ok, Err}
 use Rattle.scale_wire.specs.declared.fault.Why.{Why}
 use Rattle.scale_wire.specs.declared.fault.Why.TheVariants.{Trailing}
@@ -8,9 +7,10 @@ use Rattle.scale_wire.specs.declared.fault.WireFault.{WireFault}
 use Rattle.scale_wire.specs.declared.fault.ReadFault.{ReadFault}
 use Rattle.scale_wire.specs.declared.fault.ReadFault.TheVariants.{Wire, NoMemory}
 use Rattle.scale_wire.specs.Form.{Form}
-use Rattle.scale_wire.specs.Composite.{BadThen, pair, triple, optional, BadOptional}
+use Rattle.scale_wire.specs.FormLaws.{AreVariants, variant_at_agrees}
+use Rattle.scale_wire.specs.Composite.{BadThen, pair, triple, optional, BadOptional, variant_at, tagged}
 use Rattle.scale_wire.specs.Parts.{tag_form}
-use Rattle.scale_wire.specs.Reading.{Place, Refuses, IsRead, IsFault, Reads, HasRest, BadWhole, HasFront, Writes}
+use Rattle.scale_wire.specs.Reading.{Place, Passes, Refuses, IsRead, IsFault, Reads, HasRest, BadWhole, HasFront, Writes}
 
 -- what is refused behind the head is refused as the whole
 pub behind_fault : {A : Type 0} (head : Form A) (bad : A → List ℕ → ℕ → Why → Type 0) (old mid new : Place) (first : A) (fault : WireFault) → IsRead head old first mid → Refuses (bad first) mid fault new → Refuses (BadThen head bad) old fault old
@@ -89,5 +89,36 @@ optional_err value old here mid new tag (Wire fault) same not_none read refused 
     })
 optional_err value old here mid new tag NoMemory same not_none read refused = tt
 
-pub no_front : (bytes old : List ℕ) → HasFront bytes old old
-no_front bytes old = record { front = []; rest = bytes; split = refl; new_is = sym (append-nil old) }
+-- the first of three was appended, and a front of the second
+pub second_front : (first second third old mid new : List ℕ) → mid ≡ old ++ first → HasFront second mid new → HasFront (first ++ (second ++ third)) old new
+second_front first second third old mid new first_is has = front_behind first (second ++ third) old mid new first_is (front_more second third mid new has)
+
+-- two of three were appended, and then the third was written
+pub third_written : {E : Type 0} (first second third old mid next : List ℕ) (result : Result Unit E) (new : List ℕ) → mid ≡ old ++ first → next ≡ mid ++ second → Writes third next result new → Writes (first ++ (second ++ third)) old result new
+third_written first second third old mid next result new first_is second_is written =
+    writes_behind first (second ++ third) old mid result new first_is (writes_behind second third mid next result new second_is written)
+
+-- ## Enums
+
+module _ {W : Type 0} (tag_of : W → ℕ) (variants : List (Form W)) where
+  -- the fields behind the tag were refused; `here` is a copy of the cursor as it was
+  pub tagged_err : (old here mid new : Place) (tag : ℕ) (fault : ReadFault) → here ≡ old → IsRead (tag_form (length variants)) here tag mid → Reads (variant_at variants tag) mid (Err fault) new → Reads (tagged tag_of variants) old (Err fault) old
+  tagged_err old here mid new tag (Wire fault) same read refused =
+      subst (λ (o : Place). IsFault (tagged tag_of variants) o fault o) same
+        (behind_fault (tag_form (length variants)) (λ t. (variant_at variants t).bad) here mid new tag fault read refused)
+  tagged_err old here mid new tag NoMemory same read refused = tt
+
+  -- the tag was read, and the fields behind it
+  pub tagged_ok : AreVariants tag_of 0 variants → (old here mid new : Place) (tag : ℕ) (value : W) → here ≡ old → IsRead (tag_form (length variants)) here tag mid → IsRead (variant_at variants tag) mid value new → IsRead (tagged tag_of variants) old value new
+  tagged_ok are old here mid new tag value same read more =
+      let has_tag : tag ≡ tag_of value = sym (variant_at_agrees tag_of 0 variants are tag value more.in_range ∙ zero-add tag) in
+      subst (λ (o : Place). IsRead (tagged tag_of variants) o value new) same (tagged_at tag (tag_of value) has_tag here mid new value read more)
+    where
+      tagged_at : (tag tag' : ℕ) → tag ≡ tag' → (here mid new : Place) (value : W) → IsRead (tag_form (length variants)) here tag mid → IsRead (variant_at variants tag) mid value new
+        → Passes ((tag' < length variants) × (variant_at variants tag').in_range value) (tag' ∷ (variant_at variants tag').spelling value) here new
+      tagged_at tag tag' has_tag here mid new value read more =
+          subst (λ (t : ℕ). Passes ((t < length variants) × (variant_at variants t).in_range value) (t ∷ (variant_at variants t).spelling value) here new) has_tag record {
+            in_range = (read.in_range, more.in_range);
+            whole = read.whole ∙ ap (λ (s : List ℕ). tag ∷ s) more.whole;
+            at_is = omega (arith, read.at_is, more.at_is);
+          }

@@ -451,7 +451,7 @@ module _ {W : Type 0} (tag_of : W → ℕ) where
   variant_at_laws first (variant ∷ variants) are zero below = are.0
   variant_at_laws first (variant ∷ variants) are (suc tag) below = variant_at_laws (suc first) variants are.2 tag (omega (arith, below))
 
-  variant_at_agrees : (first : ℕ) (variants : List (Form W)) → AreVariants tag_of first variants → (tag : ℕ) (w : W) → (variant_at variants tag).in_range w → tag_of w ≡ first + tag
+  pub variant_at_agrees : (first : ℕ) (variants : List (Form W)) → AreVariants tag_of first variants → (tag : ℕ) (w : W) → (variant_at variants tag).in_range w → tag_of w ≡ first + tag
   variant_at_agrees first [] are tag w fits = absurd fits
   variant_at_agrees first (variant ∷ variants) are zero w fits = are.1 w fits ∙ omega arith
   variant_at_agrees first (variant ∷ variants) are (suc tag) w fits =
