@@ -7,6 +7,7 @@ pub mod PartLaws
 pub mod CompactLaws
 pub mod CompactSteps
 pub mod AccountLaws
+pub mod Values
 pub mod Writing
 pub mod Reason
 pub mod Form
