@@ -7,6 +7,7 @@ pub mod fault;
 pub mod laws;
 mod pen;
 mod up_to;
+mod values;
 mod wire;
 
 pub use cursor::Cursor;
