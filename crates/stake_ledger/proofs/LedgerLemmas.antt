@@ -1,0 +1,111 @@
+-- The books' equation and the running totals, after one row is changed.
+use Rattle.std.proofs.Common.{◌≡◌, ◌≢◌, ℕ, ◌+◌, ◌-◌, ◌<◌, ◌≤◌, Bool, true, false, List, [], ◌∷◌, refl, ap, sym, ◌∙◌, subst, arith, Option, Some, None, unwrap_or, option_map, sum_by, All, cond, IfSome, nat_eq, ◌&&◌}
+use Rattle.std.specs.BTreeMap.{insert_entry, is_at}
+use Rattle.std.specs.Cmp.{IsTotalOrder}
+use Rattle.std.specs.Map.{keys_of, values_of, lookup, set_value}
+use Rattle.std.specs.List.Sorted.{IsStrictlySortedBy}
+use Rattle.std.specs.Ordering.{nat_cmp, is_eq}
+use Rattle.std.specs.declared.cmp.Ordering.{Ordering}
+use Rattle.std.specs.declared.cmp.Ordering.TheVariants.{Less, Equal, Greater}
+use Rattle.std.proofs.lemmas.Cmp.{then_total, on_total, nat_cmp_total}
+use Rattle.std.proofs.lemmas.List.Sums.{sum_by-cons}
+use Rattle.std.proofs.lemmas.Map.Entries.{sum_by-insert_entry}
+use Rattle.std.proofs.lemmas.Map.Lookups.{CmpEqualImpliesEq, exact_pairs, exact_unsigned}
+use Rattle.std.proofs.lemmas.Map.Views.{All-values-insert_entry, IfSome-lookup_from_All}
+use Rattle.std.proofs.lemmas.Grind.{common_steps}
+use Rattle.npos_base.specs.declared.account.AccountId.{AccountId}
+use Rattle.npos_base.specs.Account.{account_cmp}
+use Rattle.stake_ledger.specs.declared.row.Row.{Row}
+use Rattle.stake_ledger.specs.Chunks.{chunk_sum, IsSchedule}
+use Rattle.stake_ledger.specs.Rows.{empty_row, worth}
+use Rattle.stake_ledger.specs.Ledger.{Ledger, row_in, row_of, row_at, with_row, changed, total, totals_of, IsBalanced, OthersStay, issuance_cap}
+use Rattle.stake_ledger.proofs.MapLemmas.{sorted_put, lookup_put, lookup_other, put_in_place}
+
+pub account_total : IsTotalOrder account_cmp
+account_total = then_total (on_total (λ (a : AccountId). a.hi) nat_cmp_total) (on_total (λ (a : AccountId). a.lo) nat_cmp_total)
+
+-- accounts that compare equal are the same
+pub account_exact : (x y : AccountId) → account_cmp x y ≡ Equal → x ≡ y
+account_exact x y e =
+    ap (λ (p : ℕ × ℕ). record { hi = p.0; lo = p.1 }) (exact_pairs nat_cmp nat_cmp exact_unsigned exact_unsigned (x.hi, x.lo) (y.hi, y.lo) e)
+
+apart_at : (x y : AccountId) (r : Ordering) → account_cmp x y ≡ r → x ≢ y → is_eq r ≡ false
+apart_at x y Less e differ = refl
+apart_at x y Equal e differ = absurd (differ (account_exact x y e))
+apart_at x y Greater e differ = refl
+
+pub apart : (x y : AccountId) → x ≢ y → is_eq (account_cmp x y) ≡ false
+apart x y differ = apart_at x y (account_cmp x y) refl differ
+
+-- a row that is there is changed in its place
+pub changed_in_place : (who : AccountId) (rows : List (AccountId × Row)) (row new : Row) → IsStrictlySortedBy account_cmp (keys_of rows)
+    → lookup (is_at (account_cmp who)) rows ≡ Some row → set_value (is_at (account_cmp who)) rows new ≡ insert_entry account_cmp rows who new
+changed_in_place who rows row new ordered found = put_in_place account_total who new rows row ordered found
+
+-- no other row changes
+pub others_stay : (who : AccountId) (change : Row → Row) (ledger : Ledger) → OthersStay who ledger (changed who change ledger)
+others_stay who change ledger = λ other differ. lookup_other account_total who (change (row_at ledger who)) other ledger.rows (apart other who differ)
+
+pub others_by : (who : AccountId) (change : Row → Row) (old new : List (AccountId × Row)) → new ≡ with_row who change old
+    → (other : AccountId) → other ≢ who → lookup (is_at (account_cmp other)) new ≡ lookup (is_at (account_cmp other)) old
+others_by who change old new e other differ =
+    rw e (lookup_other account_total who (change (row_in old who)) other old (apart other who differ))
+
+pub row_in_other : (who : AccountId) (change : Row → Row) (rows : List (AccountId × Row)) (other : AccountId) → other ≢ who
+    → row_in (with_row who change rows) other ≡ row_in rows other
+row_in_other who change rows other differ =
+    ap (λ (o : Option Row). unwrap_or o empty_row) (lookup_other account_total who (change (row_in rows who)) other rows (apart other who differ))
+
+-- accounts of which a comparison says so are different
+pub different : (x y : AccountId) → (nat_eq x.hi y.hi && nat_eq x.lo y.lo) ≡ false → x ≢ y
+different x y no = λ same. ?
+
+pub row_of-changed : (who : AccountId) (change : Row → Row) (ledger : Ledger) → row_of (changed who change ledger) who ≡ Some (change (row_at ledger who))
+row_of-changed who change ledger = lookup_put account_total who (change (row_at ledger who)) ledger.rows
+
+part_at : (part : Row → ℕ) (o : Option Row) → part empty_row ≡ 0 → unwrap_or (option_map part o) 0 ≡ part (unwrap_or o empty_row)
+part_at part None none = sym none
+part_at part (Some row) none = refl
+
+-- a sum over all accounts, after one row is changed
+pub total-changed : (part : Row → ℕ) → part empty_row ≡ 0 → (who : AccountId) (change : Row → Row) (ledger : Ledger) → IsStrictlySortedBy account_cmp (keys_of ledger.rows)
+    → total part (changed who change ledger) + part (row_at ledger who) ≡ total part ledger + part (change (row_at ledger who))
+total-changed part none who change ledger ordered =
+    subst (λ n. total part (changed who change ledger) + n ≡ total part ledger + part (change (row_at ledger who))) (part_at part (row_of ledger who) none)
+      (sum_by-insert_entry part account_total ledger.rows who (change (row_at ledger who)) ordered)
+
+-- no account has more than all together
+pub part_within : (part : Row → ℕ) → part empty_row ≡ 0 → (who : AccountId) (ledger : Ledger) → IsStrictlySortedBy account_cmp (keys_of ledger.rows)
+    → part (row_at ledger who) ≤ total part ledger
+part_within part none who ledger ordered =
+    omega (arith, total-changed part none who (λ _. empty_row) ledger ordered, none)
+
+pub ordered-changed : (who : AccountId) (change : Row → Row) (ledger : Ledger) → IsStrictlySortedBy account_cmp (keys_of ledger.rows)
+    → IsStrictlySortedBy account_cmp (keys_of (changed who change ledger).rows)
+ordered-changed who change ledger ordered = sorted_put account_total who (change (row_at ledger who)) ledger.rows ordered
+
+pub schedules-changed : (who : AccountId) (change : Row → Row) (ledger : Ledger) → All (λ row. IsSchedule row.chunks) (values_of ledger.rows)
+    → IsSchedule (change (row_at ledger who)).chunks → All (λ row. IsSchedule row.chunks) (values_of (changed who change ledger).rows)
+schedules-changed who change ledger all here =
+    All-values-insert_entry account_cmp who (change (row_at ledger who)) (λ row. IsSchedule row.chunks) ledger.rows all here
+
+no_schedule : IsSchedule []
+no_schedule = record { whole = λ k d below. absurd (omega arith); few = omega arith; rising = λ i j d below within. absurd (omega arith) }
+
+schedule_of : (o : Option Row) → IfSome o (λ row. IsSchedule row.chunks) → IsSchedule (unwrap_or o empty_row).chunks
+schedule_of None all = no_schedule
+schedule_of (Some row) all = all
+
+-- the chunks of every account are in order
+pub schedule_in : (who : AccountId) (rows : List (AccountId × Row)) → All (λ row. IsSchedule row.chunks) (values_of rows) → IsSchedule (row_in rows who).chunks
+schedule_in who rows all =
+    schedule_of (lookup (is_at (account_cmp who)) rows) (IfSome-lookup_from_All (λ (row : Row). IsSchedule row.chunks) (is_at (account_cmp who)) rows all)
+
+pub schedule_at : (who : AccountId) (ledger : Ledger) → All (λ row. IsSchedule row.chunks) (values_of ledger.rows) → IsSchedule (row_at ledger who).chunks
+schedule_at who ledger all = schedule_in who ledger.rows all
+
+-- what all accounts have is the sum of its parts
+pub total_worth : (rows : List Row) → sum_by worth rows
+    ≡ sum_by (λ row. row.free) rows + sum_by (λ row. row.active) rows + sum_by (λ row. chunk_sum row.chunks) rows + sum_by (λ row. row.held) rows
+total_worth [] = refl
+total_worth (row ∷ rows) = rw (sum_by-cons, sum_by-cons, sum_by-cons, sum_by-cons, sum_by-cons, total_worth rows) (omega arith)

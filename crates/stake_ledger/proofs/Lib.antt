@@ -1,0 +1,6 @@
+pub mod ChunkLemmas
+pub mod MapLemmas
+pub mod LedgerLemmas
+pub mod RowLemmas
+pub mod ScheduleLemmas
+pub mod KeepLemmas

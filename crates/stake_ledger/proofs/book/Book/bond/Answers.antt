@@ -1,0 +1,26 @@
+use Rattle.std.proofs.Common.{◌≡◌, ◌≢◌, ℕ, ◌+◌, ◌-◌, ◌<◌, ◌≤◌, arith, rules, Fits, w64}
+use Rattle.std.proofs.lemmas.Grind.{common_steps}
+use Rattle.stake_ledger.specs.Rows.{bonded, unbonded, rebonded, withdrawn, gained}
+use Rattle.stake_ledger.specs.Ledger.{row_in}
+use Rattle.stake_ledger.specs.Calls.{unbond_amount, rebond_amount}
+use Rattle.stake_ledger.proofs.KeepLemmas.{worth_within, totals_within, free_within, active_within, unlocking_within, kept_bonded, kept_unbonded, kept_rebonded, kept_withdrawn, kept_endowed, kept_transferred}
+use Rattle.stake_ledger.proofs.LedgerLemmas.{others_by, schedule_at}
+use Rattle.stake_ledger.proofs.RowLemmas.{bond_funds, bond_extra_funds}
+use Rattle.stake_ledger.proofs.ChunkLemmas.{released_sum}
+use Rattle.stake_ledger.proofs.book.Book.bond.Goals as goal
+
+pub bond-requires : goal.bond-requires
+bond-requires c = omega (arith, worth_within c.args.who _ _ c.self.invariant)
+
+pub overflow_sub-self : goal.overflow_sub-self
+overflow_sub-self c = omega (arith, free_within c.args.who _ _ c.self.invariant, bond_funds (row_in c.self.inside.rows.entries c.args.who) c.args.value c.args.minimum c.in_ok-bond.ensures.accepted)
+
+pub overflow_add-self : goal.overflow_add-self
+overflow_add-self c =
+    omega (arith, totals_within _ _ c.self.invariant, free_within c.args.who _ _ c.self.invariant, bond_funds (row_in c.self.inside.rows.entries c.args.who) c.args.value c.args.minimum c.in_ok-bond.ensures.accepted)
+
+pub invariant_of-self-2 : goal.invariant_of-self-2
+invariant_of-self-2 c = rw c.in_ok-bond.ensures.ok (kept_bonded c.args.who c.args.value _ _ c.self.invariant (bond_funds (row_in c.self.inside.rows.entries c.args.who) c.args.value c.args.minimum c.in_ok-bond.ensures.accepted))
+
+pub returns-clause-others : goal.returns-clause-others
+returns-clause-others c = rw (← c.self.view_is) (others_by c.args.who (bonded c.args.value) _ _ c.in_ok-bond.ensures.ok)

@@ -1,0 +1,262 @@
+//! The books.
+ghost use Rattle.std.specs.Prelude.{◌≡◌, ◌≢◌, ◌-◌, ◌+◌, ◌≤◌, None, Some, OnErr, OnOk, IfErr, IfOk, is_some, All};
+ghost use Rattle.stake_ledger.specs.Refusals.{IsDue};
+ghost use Rattle.stake_ledger.specs.Chunks.{IsSchedule};
+ghost use Rattle.stake_ledger.specs.Rows.{is_bonded, bonded, unbonded, rebonded, withdrawn};
+ghost use Rattle.stake_ledger.specs.Ledger.{empty_ledger, row_of, row_at, changed, totals_of, issuance_cap, IsBalanced, OthersStay};
+ghost use Rattle.stake_ledger.specs.Calls.{endow_refusal, endowed, transfer_refusal, transferred, bond_refusal, bond_extra_refusal, unbond_refusal, unbond_amount, rebond_refusal, rebond_amount, withdraw_refusal, withdraw_amount};
+
+use crate::chunks::Chunk;
+use crate::refusal::LedgerRefusal;
+use crate::rows::{self, Rows};
+use crate::totals::Totals;
+use npos_base::AccountId;
+use std::alloc::Global;
+use std::collections::BTreeMap;
+use std::marker::Model;
+
+/// The most that may ever be issued, in units of stake.
+const CAP: u64 = 9_223_372_036_854_775_807;
+
+/// The books: a row for each account that was ever heard of, and the sums over them.
+#[derive(Drop)]
+pub struct Book {
+    alloc: Global,
+    rows: Rows,
+    genesis: u64,
+    totals: Totals,
+}
+
+impl Model for Book {
+    ghost use Rattle.std.specs.Prelude.{◌≡◌};
+    ghost use Rattle.stake_ledger.specs.Ledger.{Ledger, totals_of, IsBalanced};
+    ghost use Rattle.stake_ledger.specs.Kept.{IsKept};
+
+    ghost Value = { Ledger };
+
+    ghost view = { λ b. record { rows = b.rows.entries; genesis = b.genesis; minted = b.totals.minted; burned = b.totals.burned } };
+
+    ghost invariant = { λ b. IsKept (record { rows = b.rows.entries; genesis = b.genesis; minted = b.totals.minted; burned = b.totals.burned }) b.totals };
+}
+
+impl Book {
+    /// Books with no account.
+    pub fn new(alloc: Global) -> Book
+        ensures { result ≡ empty_ledger }
+    {
+        Book {
+            alloc,
+            rows: BTreeMap::new(alloc),
+            genesis: 0,
+            totals: Totals {
+                free: 0,
+                active: 0,
+                unlocking: 0,
+                deposits: 0,
+                minted: 0,
+                burned: 0,
+                issuance: 0,
+            },
+        }
+    }
+
+    /// Opens the row of an account that is not known yet, with the value free. It counts as genesis.
+    /// It refuses with `IssuanceCap` where genesis would pass 2^63 - 1.
+    #[tactic(auto, using(crate::proofs::LedgerLemmas::others_stay, crate::proofs::KeepLemmas::worth_within, crate::proofs::KeepLemmas::totals_within, crate::proofs::KeepLemmas::free_within, crate::proofs::KeepLemmas::active_within, crate::proofs::KeepLemmas::unlocking_within))]
+    pub fn endow(&mut self, who: AccountId, value: u64) -> Result<(), LedgerRefusal>
+        requires unknown { row_of self.old who ≡ None }
+        requires unminted { self.old.minted ≡ 0 }
+        ensures ok { OnOk result ((endow_refusal self.old value ≡ None) × (self.new ≡ endowed who value self.old)) }
+        ensures err { OnErr result (self.new ≡ self.old) }
+        ensures refused { IfErr result (IsDue (endow_refusal self.old value)) }
+        ensures others { OthersStay who self.old self.new }
+    {
+        if value > CAP - self.genesis {
+            return Err(LedgerRefusal::IssuanceCap);
+        }
+        rows::gain(&mut self.rows, self.alloc, who, value)?;
+        self.genesis += value;
+        self.totals.free += value;
+        self.totals.issuance += value;
+        Ok(())
+    }
+
+    /// Moves the value from one account's free stake to another's, whose row is opened where it has none.
+    /// It refuses with `ZeroValue`, `SameAccount` or `LowFunds`.
+    #[tactic(auto, using(crate::proofs::LedgerLemmas::others_stay, crate::proofs::KeepLemmas::worth_within, crate::proofs::KeepLemmas::totals_within, crate::proofs::KeepLemmas::free_within, crate::proofs::KeepLemmas::active_within, crate::proofs::KeepLemmas::unlocking_within))]
+    pub fn transfer(&mut self, from: AccountId, to: AccountId, value: u64) -> Result<(), LedgerRefusal>
+        ensures ok {
+            OnOk result ((transfer_refusal self.old from to value ≡ None) × (self.new ≡ transferred from to value self.old))
+        }
+        ensures err { OnErr result (self.new ≡ self.old) }
+        ensures refused { IfErr result (IsDue (transfer_refusal self.old from to value)) }
+        ensures others {
+            (other : AccountId) → other ≢ from → other ≢ to → row_of self.new other ≡ row_of self.old other
+        }
+    {
+        if value == 0 {
+            return Err(LedgerRefusal::ZeroValue);
+        }
+        if from == to {
+            return Err(LedgerRefusal::SameAccount);
+        }
+        if self.free(from) < value {
+            return Err(LedgerRefusal::LowFunds);
+        }
+        rows::gain(&mut self.rows, self.alloc, to, value)?;
+        rows::pay(&mut self.rows, from, value);
+        Ok(())
+    }
+
+    /// Moves the value from free to active, for an account that is not bonded. It takes no memory.
+    /// It refuses with `ZeroValue`, `AlreadyBonded`, `BelowMinimum` (below `minimum`) or `LowFunds`.
+    #[tactic(auto, using(crate::proofs::LedgerLemmas::others_stay, crate::proofs::KeepLemmas::worth_within, crate::proofs::KeepLemmas::totals_within, crate::proofs::KeepLemmas::free_within, crate::proofs::KeepLemmas::active_within, crate::proofs::KeepLemmas::unlocking_within, crate::proofs::RowLemmas::bond_funds))]
+    pub fn bond(&mut self, who: AccountId, value: u64, minimum: u64) -> Result<(), LedgerRefusal>
+        ensures ok {
+            OnOk result ((bond_refusal (row_at self.old who) value minimum ≡ None) × (self.new ≡ changed who (bonded value) self.old))
+        }
+        ensures err { OnErr result (self.new ≡ self.old) }
+        ensures refused { IfErr result (λ refusal. bond_refusal (row_at self.old who) value minimum ≡ Some refusal) }
+        ensures others { OthersStay who self.old self.new }
+    {
+        rows::bond(&mut self.rows, self.alloc, who, value, minimum)?;
+        self.totals.free -= value;
+        self.totals.active += value;
+        Ok(())
+    }
+
+    /// Moves the value from free to active, for an account that is bonded. It takes no memory.
+    /// It refuses with `ZeroValue`, `NotBonded` or `LowFunds`.
+    #[tactic(auto, using(crate::proofs::LedgerLemmas::others_stay, crate::proofs::KeepLemmas::worth_within, crate::proofs::KeepLemmas::totals_within, crate::proofs::KeepLemmas::free_within, crate::proofs::KeepLemmas::active_within, crate::proofs::KeepLemmas::unlocking_within, crate::proofs::RowLemmas::bond_extra_funds))]
+    pub fn bond_extra(&mut self, who: AccountId, value: u64) -> Result<(), LedgerRefusal>
+        ensures ok {
+            OnOk result ((bond_extra_refusal (row_at self.old who) value ≡ None) × (self.new ≡ changed who (bonded value) self.old))
+        }
+        ensures err { OnErr result (self.new ≡ self.old) }
+        ensures refused { IfErr result (λ refusal. bond_extra_refusal (row_at self.old who) value ≡ Some refusal) }
+        ensures others { OthersStay who self.old self.new }
+    {
+        rows::bond_extra(&mut self.rows, self.alloc, who, value)?;
+        self.totals.free -= value;
+        self.totals.active += value;
+        Ok(())
+    }
+
+    /// Moves up to the value from active to a chunk that is released in the era `release`, and answers how much.
+    /// It joins the last chunk where that has the same release. It refuses with `ZeroValue`, `NotBonded`,
+    /// `LowFunds` (nothing is active), `BelowMinimum` (less than `least` would stay active) or `NoMoreChunks`
+    /// (32 stand and none has this release).
+    #[tactic(auto, using(crate::proofs::LedgerLemmas::others_stay, crate::proofs::KeepLemmas::worth_within, crate::proofs::KeepLemmas::totals_within, crate::proofs::KeepLemmas::free_within, crate::proofs::KeepLemmas::active_within, crate::proofs::KeepLemmas::unlocking_within))]
+    pub fn unbond(&mut self, who: AccountId, value: u64, release: u32, least: u64) -> Result<u64, LedgerRefusal>
+        requires { All (λ chunk. chunk.release ≤ release) (row_at self.old who).chunks }
+        ensures ok {
+            OnOk result ((unbond_refusal (row_at self.old who) value release least ≡ None)
+                × (self.new ≡ changed who (unbonded (unbond_amount (row_at self.old who) value) release) self.old))
+        }
+        ensures amount { IfOk result (λ amount. amount ≡ unbond_amount (row_at self.old who) value) }
+        ensures err { OnErr result (self.new ≡ self.old) }
+        ensures refused { IfErr result (IsDue (unbond_refusal (row_at self.old who) value release least)) }
+        ensures others { OthersStay who self.old self.new }
+    {
+        let amount = rows::unbond(&mut self.rows, self.alloc, who, value, release, least)?;
+        self.totals.active -= amount;
+        self.totals.unlocking += amount;
+        Ok(amount)
+    }
+
+    /// Moves up to the value from the chunks, the latest first, back to active, and answers how much. Emptied
+    /// chunks go. It takes no memory, and refuses with `ZeroValue`, `NotBonded` or `NoChunk`.
+    #[tactic(auto, using(crate::proofs::LedgerLemmas::others_stay, crate::proofs::KeepLemmas::worth_within, crate::proofs::KeepLemmas::totals_within, crate::proofs::KeepLemmas::free_within, crate::proofs::KeepLemmas::active_within, crate::proofs::KeepLemmas::unlocking_within))]
+    pub fn rebond(&mut self, who: AccountId, value: u64) -> Result<u64, LedgerRefusal>
+        ensures ok {
+            OnOk result ((rebond_refusal (row_at self.old who) value ≡ None)
+                × (self.new ≡ changed who (rebonded (rebond_amount (row_at self.old who) value)) self.old))
+        }
+        ensures amount { IfOk result (λ amount. amount ≡ rebond_amount (row_at self.old who) value) }
+        ensures err { OnErr result (self.new ≡ self.old) }
+        ensures refused { IfErr result (λ refusal. rebond_refusal (row_at self.old who) value ≡ Some refusal) }
+        ensures others { OthersStay who self.old self.new }
+    {
+        let amount = rows::rebond(&mut self.rows, self.alloc, who, value)?;
+        self.totals.unlocking -= amount;
+        self.totals.active += amount;
+        Ok(amount)
+    }
+
+    /// Frees the chunks that are released by this era, and answers how much. It takes no memory, and refuses
+    /// with `NotBonded`.
+    #[tactic(auto, using(crate::proofs::LedgerLemmas::others_stay, crate::proofs::KeepLemmas::worth_within, crate::proofs::KeepLemmas::totals_within, crate::proofs::KeepLemmas::free_within, crate::proofs::KeepLemmas::active_within, crate::proofs::KeepLemmas::unlocking_within, crate::proofs::ChunkLemmas::released_sum))]
+    pub fn withdraw(&mut self, who: AccountId, era: u32) -> Result<u64, LedgerRefusal>
+        ensures ok {
+            OnOk result ((withdraw_refusal (row_at self.old who) ≡ None) × (self.new ≡ changed who (withdrawn era) self.old))
+        }
+        ensures amount { IfOk result (λ amount. amount ≡ withdraw_amount (row_at self.old who) era) }
+        ensures err { OnErr result (self.new ≡ self.old) }
+        ensures refused { IfErr result (λ refusal. withdraw_refusal (row_at self.old who) ≡ Some refusal) }
+        ensures others { OthersStay who self.old self.new }
+    {
+        let freed = rows::withdraw(&mut self.rows, self.alloc, who, era)?;
+        self.totals.unlocking -= freed;
+        self.totals.free += freed;
+        Ok(freed)
+    }
+
+    /// Whether the account has a row: it was endowed or was sent a transfer.
+    pub fn knows(&self, who: AccountId) -> bool
+        ensures { result ≡ is_some (row_of self.now who) }
+    {
+        self.rows.contains_key(&who)
+    }
+
+    /// What the account may spend; 0 where it is not known.
+    pub fn free(&self, who: AccountId) -> u64
+        ensures { result ≡ (row_at self.now who).free }
+    {
+        self.rows.get(&who).map_or(0, |row| row.free)
+    }
+
+    /// What the account has bonded and not unbonded; 0 where it is not known.
+    pub fn active(&self, who: AccountId) -> u64
+        ensures { result ≡ (row_at self.now who).active }
+    {
+        self.rows.get(&who).map_or(0, |row| row.active)
+    }
+
+    /// Whether active and the account's chunks together are above 0.
+    #[tactic(auto, using(crate::proofs::KeepLemmas::worth_within))]
+    pub fn bonded(&self, who: AccountId) -> bool
+        ensures { result ≡ is_bonded (row_at self.now who) }
+    {
+        match self.rows.get(&who) {
+            Some(row) => row.is_bonded(),
+            None => false,
+        }
+    }
+
+    /// The account's chunks by rising release: none is 0, and at most 32 stand.
+    #[tactic(auto, using(crate::proofs::LedgerLemmas::schedule_at))]
+    pub fn chunks(&self, who: AccountId) -> &[Chunk]
+        ensures chunks { result.now ≡ (row_at self.now who).chunks }
+        ensures schedule { IsSchedule result.now }
+    {
+        match self.rows.get(&who) {
+            Some(row) => row.chunks.as_slice(),
+            None => &[],
+        }
+    }
+
+    /// The sums over all accounts, in constant time. What the accounts hold and what was burned is what was issued.
+    pub fn totals(&self) -> Totals
+        ensures totals { result ≡ totals_of self.now }
+        ensures balanced { IsBalanced self.now }
+    {
+        self.totals
+    }
+
+    /// What may still be minted: 2^63 - 1 less genesis and what was minted.
+    pub fn room(&self) -> u64
+        ensures { result ≡ issuance_cap - (self.now.genesis + self.now.minted) }
+    {
+        CAP - self.genesis - self.totals.minted
+    }
+}

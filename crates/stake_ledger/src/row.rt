@@ -1,0 +1,157 @@
+//! What one account has.
+ghost use Rattle.std.specs.Prelude.{◌≡◌, ◌+◌, ◌^◌, ◌<◌, ◌≤◌, IsTrue, OnErr, OnOk, IfErr, IfOk, None, Some, length};
+ghost use Rattle.stake_ledger.specs.Refusals.{IsDue};
+ghost use Rattle.stake_ledger.specs.Rows.{empty_row, worth, is_bonded, bonded, unbonded, rebonded, withdrawn};
+ghost use Rattle.stake_ledger.specs.Calls.{bond_refusal, bond_extra_refusal, unbond_refusal, unbond_amount, rebond_refusal, rebond_amount, withdraw_refusal, withdraw_amount};
+
+use crate::chunks::Chunks;
+use crate::refusal::LedgerRefusal;
+use std::alloc::Global;
+
+/// What one account has, in units of stake: free, bonded and active, bonded and on its way out, and held as deposits.
+#[derive(Drop)]
+pub struct Row {
+    pub free: u64,
+    pub active: u64,
+    pub chunks: Chunks,
+    pub held: u64,
+}
+
+impl Row {
+    /// The row of an account that has nothing.
+    pub fn new(alloc: Global) -> Row
+        ensures { result ≡ empty_row }
+    {
+        Row {
+            free: 0,
+            active: 0,
+            chunks: Chunks::new(alloc),
+            held: 0,
+        }
+    }
+
+    /// Whether anything is active or on its way out.
+    pub fn is_bonded(&self) -> bool
+        requires { worth self.now < 2 ^ 64 }
+        ensures { result ≡ is_bonded self.now }
+    {
+        self.active + self.chunks.sum() > 0
+    }
+
+    /// Moves the value from free to active.
+    pub fn bond(&mut self, value: u64, minimum: u64) -> Result<(), LedgerRefusal>
+        requires { worth self.old < 2 ^ 64 }
+        ensures ok { OnOk result ((bond_refusal self.old value minimum ≡ None) × (self.new ≡ bonded value self.old)) }
+        ensures err { OnErr result (self.new ≡ self.old) }
+        ensures refused { IfErr result (λ refusal. bond_refusal self.old value minimum ≡ Some refusal) }
+    {
+        if value == 0 {
+            return Err(LedgerRefusal::ZeroValue);
+        }
+        if self.is_bonded() {
+            return Err(LedgerRefusal::AlreadyBonded);
+        }
+        if value < minimum {
+            return Err(LedgerRefusal::BelowMinimum);
+        }
+        if self.free < value {
+            return Err(LedgerRefusal::LowFunds);
+        }
+        self.free -= value;
+        self.active += value;
+        Ok(())
+    }
+
+    /// Moves the value from free to active, where the account is bonded already.
+    pub fn bond_extra(&mut self, value: u64) -> Result<(), LedgerRefusal>
+        requires { worth self.old < 2 ^ 64 }
+        ensures ok { OnOk result ((bond_extra_refusal self.old value ≡ None) × (self.new ≡ bonded value self.old)) }
+        ensures err { OnErr result (self.new ≡ self.old) }
+        ensures refused { IfErr result (λ refusal. bond_extra_refusal self.old value ≡ Some refusal) }
+    {
+        if value == 0 {
+            return Err(LedgerRefusal::ZeroValue);
+        }
+        if !self.is_bonded() {
+            return Err(LedgerRefusal::NotBonded);
+        }
+        if self.free < value {
+            return Err(LedgerRefusal::LowFunds);
+        }
+        self.free -= value;
+        self.active += value;
+        Ok(())
+    }
+
+    /// Moves up to `value` from active to a chunk with this release.
+    pub fn unbond(&mut self, value: u64, release: u32, least: u64) -> Result<u64, LedgerRefusal>
+        requires fits { worth self.old < 2 ^ 64 }
+        requires few { length self.old.chunks ≤ 32 }
+        ensures ok {
+            OnOk result ((unbond_refusal self.old value release least ≡ None)
+                × (self.new ≡ unbonded (unbond_amount self.old value) release self.old))
+        }
+        ensures amount { IfOk result (λ amount. amount ≡ unbond_amount self.old value) }
+        ensures err { OnErr result (self.new ≡ self.old) }
+        ensures refused { IfErr result (IsDue (unbond_refusal self.old value release least)) }
+    {
+        if value == 0 {
+            return Err(LedgerRefusal::ZeroValue);
+        }
+        if !self.is_bonded() {
+            return Err(LedgerRefusal::NotBonded);
+        }
+        if self.active == 0 {
+            return Err(LedgerRefusal::LowFunds);
+        }
+        let amount = value.min(self.active);
+        if self.active - amount < least {
+            return Err(LedgerRefusal::BelowMinimum);
+        }
+        self.chunks.add(amount, release)?;
+        self.active -= amount;
+        Ok(amount)
+    }
+
+    /// Moves up to `value` from the chunks, the latest first, back to active.
+    pub fn rebond(&mut self, value: u64) -> Result<u64, LedgerRefusal>
+        requires { worth self.old < 2 ^ 64 }
+        ensures ok {
+            OnOk result ((rebond_refusal self.old value ≡ None) × (self.new ≡ rebonded (rebond_amount self.old value) self.old))
+        }
+        ensures amount { IfOk result (λ amount. amount ≡ rebond_amount self.old value) }
+        ensures err { OnErr result (self.new ≡ self.old) }
+        ensures refused { IfErr result (λ refusal. rebond_refusal self.old value ≡ Some refusal) }
+    {
+        if value == 0 {
+            return Err(LedgerRefusal::ZeroValue);
+        }
+        if !self.is_bonded() {
+            return Err(LedgerRefusal::NotBonded);
+        }
+        if self.chunks.is_empty() {
+            return Err(LedgerRefusal::NoChunk);
+        }
+        let amount = value.min(self.chunks.sum());
+        self.chunks.take_latest(amount);
+        self.active += amount;
+        Ok(amount)
+    }
+
+    /// Frees the chunks that are released by this era.
+    #[tactic(auto, using(crate::proofs::ChunkLemmas::released_sum))]
+    pub fn withdraw(&mut self, era: u32) -> Result<u64, LedgerRefusal>
+        requires { worth self.old < 2 ^ 64 }
+        ensures ok { OnOk result ((withdraw_refusal self.old ≡ None) × (self.new ≡ withdrawn era self.old)) }
+        ensures amount { IfOk result (λ amount. amount ≡ withdraw_amount self.old era) }
+        ensures err { OnErr result (self.new ≡ self.old) }
+        ensures refused { IfErr result (λ refusal. withdraw_refusal self.old ≡ Some refusal) }
+    {
+        if !self.is_bonded() {
+            return Err(LedgerRefusal::NotBonded);
+        }
+        let freed = self.chunks.release(era);
+        self.free += freed;
+        Ok(freed)
+    }
+}
