@@ -1,11 +1,10 @@
 -- What an amount that joins the chunks, and one that is taken from them, leaves.
-use Rattle.std.proofs.Common.{◌≡◌, ℕ, ◌+◌, ◌-◌, ◌<◌, ◌≤◌, suc, Bool, true, false, List, [], ◌∷◌, ◌++◌, length, slice_set, slice_index_or, refl, ap, sym, ◌∙◌, subst, arith, ◌==◌, All, sum_by, AllPairs, cond, Some, None, nat_lt, nat_le}
-use Rattle.std.specs.Option.{option_map_or}
+use Rattle.std.proofs.Common.{◌≡◌, ℕ, ◌+◌, ◌-◌, ◌<◌, ◌≤◌, suc, true, false, List, [], ◌∷◌, ◌++◌, length, slice_set, slice_index_or, refl, ap, sym, ◌∙◌, subst, arith, Some, None, nat_lt, nat_le}
 use Rattle.std.proofs.lemmas.List.Sums.{get_or-le-sum_by}
 use Rattle.std.proofs.lemmas.List.Filters.{sum_by-filter_both}
 use Rattle.std.proofs.lemmas.Grind.{common_steps}
 use Rattle.stake_ledger.specs.declared.chunks.Chunk.{Chunk}
-use Rattle.stake_ledger.specs.Chunks.{chunk_sum, chunk_refusal, with_chunk, without_latest, is_empty, lessened, released, unreleased}
+use Rattle.stake_ledger.specs.Chunks.{chunk_sum, chunk_refusal, with_chunk, without_latest, released, unreleased}
 use Rattle.stake_ledger.specs.declared.refusal.LedgerRefusal.TheVariants.{NoMoreChunks}
 use Rattle.stake_ledger.specs.Joining.{joins_last}
 
@@ -32,7 +31,7 @@ joined amount release [] x n e joins is = cc
 joined amount release (c ∷ later) x n e joins is =
     let last : n - 1 ≡ length later = omega arith in
     subst (λ k. slice_set (c ∷ later) k (record { value = x.value + amount; release = x.release }) ≡ with_chunk amount release (c ∷ later)) (sym last)
-      (sym (joined_at amount release c later x joins (subst (λ k. x ≡ slice_index_or (c ∷ later) k x) last is)))
+    (sym (joined_at amount release c later x joins (subst (λ k. x ≡ slice_index_or (c ∷ later) k x) last is)))
 
 -- then there is a last chunk, which holds no more than all together
 pub nonempty : (release : ℕ) (chunks : List Chunk) → joins_last release chunks ≡ true → 0 < length chunks
@@ -92,7 +91,7 @@ taken_within left [] x n e some is below = absurd (omega arith)
 taken_within left (c ∷ later) x n e some is below =
     let last : n - 1 ≡ length later = omega arith in
     subst (λ k. slice_set (c ∷ later) k (record { value = x.value - left; release = x.release }) ≡ without_latest left (c ∷ later)) (sym last)
-      (taken_at left c later x (subst (λ k. x ≡ slice_index_or (c ∷ later) k x) last is) below)
+    (taken_at left c later x (subst (λ k. x ≡ slice_index_or (c ∷ later) k x) last is) below)
 
 -- a larger one empties it, and takes the rest from those before
 pub taken_past : (left : ℕ) (chunks : List Chunk) (x : Chunk) → x.value ≤ left

@@ -1,17 +1,16 @@
 -- The books stay balanced, and the running totals the sums.
-use Rattle.std.proofs.Common.{◌≡◌, ◌≢◌, ℕ, ◌+◌, ◌-◌, ◌^◌, ◌<◌, ◌≤◌, Bool, true, false, List, [], ◌∷◌, length, refl, ap, sym, ◌∙◌, subst, arith, Option, Some, None, unwrap_or, All, Fits, w64}
-use Rattle.std.proofs.lemmas.Grind.{common_steps}
-use Rattle.std.specs.Map.{keys_of, values_of}
+use Rattle.std.proofs.Common.{◌≡◌, ◌≢◌, ℕ, ◌+◌, ◌-◌, ◌≤◌, refl, ap, sym, ◌∙◌, arith, Option, None, unwrap_or, All}
+use Rattle.std.specs.Map.{values_of}
 use Rattle.npos_base.specs.declared.account.AccountId.{AccountId}
 use Rattle.stake_ledger.specs.declared.row.Row.{Row}
 use Rattle.stake_ledger.specs.declared.totals.Totals.{Totals}
-use Rattle.stake_ledger.specs.Chunks.{chunk_sum, IsSchedule, with_chunk, without_latest, released, unreleased}
-use Rattle.stake_ledger.specs.Rows.{empty_row, worth, is_bonded, gained, paid, bonded, unbonded, rebonded, withdrawn}
-use Rattle.stake_ledger.specs.Ledger.{Ledger, row_of, row_at, changed, total, totals_of, IsBalanced, OthersStay, issuance_cap}
+use Rattle.stake_ledger.specs.Chunks.{chunk_sum, IsSchedule}
+use Rattle.stake_ledger.specs.Rows.{empty_row, worth, gained, paid, bonded, unbonded, rebonded, withdrawn}
+use Rattle.stake_ledger.specs.Ledger.{Ledger, row_at, changed, total, totals_of, IsBalanced, issuance_cap}
 use Rattle.stake_ledger.specs.Kept.{IsKept}
-use Rattle.stake_ledger.specs.Calls.{bond_refusal, bond_extra_refusal, unbond_refusal, unbond_amount, rebond_refusal, rebond_amount, withdraw_refusal, withdraw_amount, endowed, transferred}
+use Rattle.stake_ledger.specs.Calls.{unbond_refusal, unbond_amount, rebond_amount, withdraw_amount, endowed, transferred}
 use Rattle.stake_ledger.proofs.LedgerLemmas.{total-changed, part_within, ordered-changed, schedules-changed, schedule_at, total_worth, others_stay}
-use Rattle.stake_ledger.proofs.RowLemmas.{bond_funds, bond_extra_funds, unbond_some, unbond_few}
+use Rattle.stake_ledger.proofs.RowLemmas.{unbond_some, unbond_few}
 use Rattle.stake_ledger.proofs.ScheduleLemmas.{schedule_with, schedule_without, schedule_unreleased, sum_with, sum_without}
 use Rattle.stake_ledger.proofs.ChunkLemmas.{released_sum}
 
@@ -36,18 +35,19 @@ balanced-changed who change ledger balanced keeps = record {
   distinct = ordered-changed who change ledger balanced.distinct;
   schedules = schedules-changed who change ledger balanced.schedules keeps.schedule;
   equation = omega (arith, total-changed worth refl who change ledger balanced.distinct, keeps.worth_stays, balanced.equation);
-  capped = balanced.capped }
+  capped = balanced.capped;
+}
 
 same_parts : (f g a b u v d e m n p q i j : ℕ) → f ≡ g → a ≡ b → u ≡ v → d ≡ e → m ≡ n → p ≡ q → i ≡ j
     → (let left : Totals = record { free = f; active = a; unlocking = u; deposits = d; minted = m; burned = p; issuance = i } in
-       let right : Totals = record { free = g; active = b; unlocking = v; deposits = e; minted = n; burned = q; issuance = j } in left ≡ right)
+    let right : Totals = record { free = g; active = b; unlocking = v; deposits = e; minted = n; burned = q; issuance = j } in left ≡ right)
 same_parts f g a b u v d e m n p q i j free active unlocking deposits minted burned issuance = cc
 
 totals_same : (a b : Totals) → a.free ≡ b.free → a.active ≡ b.active → a.unlocking ≡ b.unlocking → a.deposits ≡ b.deposits
     → a.minted ≡ b.minted → a.burned ≡ b.burned → a.issuance ≡ b.issuance → a ≡ b
 totals_same a b free active unlocking deposits minted burned issuance =
     same_parts a.free b.free a.active b.active a.unlocking b.unlocking a.deposits b.deposits a.minted b.minted a.burned b.burned a.issuance b.issuance
-      free active unlocking deposits minted burned issuance
+    free active unlocking deposits minted burned issuance
 
 pub kept-changed : (who : AccountId) (change : Row → Row) (ledger : Ledger) (totals new : Totals) → IsKept ledger totals
     → KeepsRow (row_at ledger who) (change (row_at ledger who)) → Moves totals new (row_at ledger who) (change (row_at ledger who))
@@ -57,13 +57,14 @@ kept-changed who change ledger totals new kept keeps moves =
     record {
       balanced = balanced-changed who change ledger kept.balanced keeps;
       running = totals_same new (totals_of (changed who change ledger))
-        (omega (arith, total-changed (λ row. row.free) refl who change ledger ordered, moves.free_moves, ap (λ (t : Totals). t.free) kept.running))
-        (omega (arith, total-changed (λ row. row.active) refl who change ledger ordered, moves.active_moves, ap (λ (t : Totals). t.active) kept.running))
-        (omega (arith, total-changed (λ row. chunk_sum row.chunks) refl who change ledger ordered, moves.unlocking_moves, ap (λ (t : Totals). t.unlocking) kept.running))
-        (omega (arith, total-changed (λ row. row.held) refl who change ledger ordered, moves.deposits_move, ap (λ (t : Totals). t.deposits) kept.running))
-        (moves.minted_stays ∙ ap (λ (t : Totals). t.minted) kept.running)
-        (moves.burned_stays ∙ ap (λ (t : Totals). t.burned) kept.running)
-        (moves.issuance_stays ∙ ap (λ (t : Totals). t.issuance) kept.running) }
+          (omega (arith, total-changed (λ row. row.free) refl who change ledger ordered, moves.free_moves, ap (λ (t : Totals). t.free) kept.running))
+          (omega (arith, total-changed (λ row. row.active) refl who change ledger ordered, moves.active_moves, ap (λ (t : Totals). t.active) kept.running))
+          (omega (arith, total-changed (λ row. chunk_sum row.chunks) refl who change ledger ordered, moves.unlocking_moves, ap (λ (t : Totals). t.unlocking) kept.running))
+          (omega (arith, total-changed (λ row. row.held) refl who change ledger ordered, moves.deposits_move, ap (λ (t : Totals). t.deposits) kept.running))
+          (moves.minted_stays ∙ ap (λ (t : Totals). t.minted) kept.running)
+          (moves.burned_stays ∙ ap (λ (t : Totals). t.burned) kept.running)
+          (moves.issuance_stays ∙ ap (λ (t : Totals). t.issuance) kept.running);
+    }
 
 -- ---- bounds
 
@@ -94,17 +95,20 @@ pub keeps_unbonded : (row : Row) (value release least : ℕ) → IsSchedule row.
     → KeepsRow row (unbonded (unbond_amount row value) release row)
 keeps_unbonded row value release least s within allowed = record {
   worth_stays = omega (arith, sum_with (unbond_amount row value) release row.chunks);
-  schedule = schedule_with (unbond_amount row value) release row.chunks s (unbond_some row value release least allowed) within (unbond_few row value release least allowed) }
+  schedule = schedule_with (unbond_amount row value) release row.chunks s (unbond_some row value release least allowed) within (unbond_few row value release least allowed);
+}
 
 pub keeps_rebonded : (row : Row) (value : ℕ) → IsSchedule row.chunks → KeepsRow row (rebonded (rebond_amount row value) row)
 keeps_rebonded row value s = record {
   worth_stays = omega (arith, sum_without (rebond_amount row value) row.chunks (omega arith));
-  schedule = schedule_without (rebond_amount row value) row.chunks s }
+  schedule = schedule_without (rebond_amount row value) row.chunks s;
+}
 
 pub keeps_withdrawn : (row : Row) (era : ℕ) → IsSchedule row.chunks → KeepsRow row (withdrawn era row)
 keeps_withdrawn row era s = record {
   worth_stays = omega (arith, released_sum era row.chunks);
-  schedule = schedule_unreleased era row.chunks s }
+  schedule = schedule_unreleased era row.chunks s;
+}
 
 -- ---- each call keeps the books
 
@@ -116,62 +120,66 @@ pub kept_bonded : (who : AccountId) (value : ℕ) (ledger : Ledger) (totals : To
     → IsKept (changed who (bonded value) ledger) (record totals { free = totals.free - value; active = totals.active + value })
 kept_bonded who value ledger totals kept within =
     kept-changed who (bonded value) ledger totals (record totals { free = totals.free - value; active = totals.active + value }) kept
-      (keeps_bonded (row_at ledger who) value (schedule_at who ledger kept.balanced.schedules) within)
-      (record {
-        free_moves = omega (arith, free_within who ledger totals kept);
-        active_moves = omega arith;
-        unlocking_moves = refl;
-        deposits_move = refl;
-        minted_stays = refl;
-        burned_stays = refl;
-        issuance_stays = refl })
+    (keeps_bonded (row_at ledger who) value (schedule_at who ledger kept.balanced.schedules) within)
+    (record {
+      free_moves = omega (arith, free_within who ledger totals kept);
+      active_moves = omega arith;
+      unlocking_moves = refl;
+      deposits_move = refl;
+      minted_stays = refl;
+      burned_stays = refl;
+      issuance_stays = refl;
+    })
 
 pub kept_unbonded : (who : AccountId) (value release least : ℕ) (ledger : Ledger) (totals : Totals) → IsKept ledger totals
     → All (λ c. c.release ≤ release) (row_at ledger who).chunks → unbond_refusal (row_at ledger who) value release least ≡ None → (amount : ℕ) → amount ≡ unbond_amount (row_at ledger who) value
     → IsKept (changed who (unbonded (unbond_amount (row_at ledger who) value) release) ledger)
-        (record totals { active = totals.active - amount; unlocking = totals.unlocking + amount })
+    (record totals { active = totals.active - amount; unlocking = totals.unlocking + amount })
 kept_unbonded who value release least ledger totals kept within allowed amount is =
     kept-changed who (unbonded (unbond_amount (row_at ledger who) value) release) ledger totals
-      (record totals { active = totals.active - amount; unlocking = totals.unlocking + amount }) kept
-      (keeps_unbonded (row_at ledger who) value release least (schedule_at who ledger kept.balanced.schedules) within allowed)
-      (record {
-        free_moves = refl;
-        active_moves = omega (arith, active_within who ledger totals kept, is);
-        unlocking_moves = omega (arith, sum_with (unbond_amount (row_at ledger who) value) release (row_at ledger who).chunks, is);
-        deposits_move = refl;
-        minted_stays = refl;
-        burned_stays = refl;
-        issuance_stays = refl })
+    (record totals { active = totals.active - amount; unlocking = totals.unlocking + amount }) kept
+    (keeps_unbonded (row_at ledger who) value release least (schedule_at who ledger kept.balanced.schedules) within allowed)
+    (record {
+      free_moves = refl;
+      active_moves = omega (arith, active_within who ledger totals kept, is);
+      unlocking_moves = omega (arith, sum_with (unbond_amount (row_at ledger who) value) release (row_at ledger who).chunks, is);
+      deposits_move = refl;
+      minted_stays = refl;
+      burned_stays = refl;
+      issuance_stays = refl;
+    })
 
 pub kept_rebonded : (who : AccountId) (value : ℕ) (ledger : Ledger) (totals : Totals) → IsKept ledger totals → (amount : ℕ) → amount ≡ rebond_amount (row_at ledger who) value
     → IsKept (changed who (rebonded (rebond_amount (row_at ledger who) value)) ledger)
-        (record totals { active = totals.active + amount; unlocking = totals.unlocking - amount })
+    (record totals { active = totals.active + amount; unlocking = totals.unlocking - amount })
 kept_rebonded who value ledger totals kept amount is =
     kept-changed who (rebonded (rebond_amount (row_at ledger who) value)) ledger totals
-      (record totals { active = totals.active + amount; unlocking = totals.unlocking - amount }) kept
-      (keeps_rebonded (row_at ledger who) value (schedule_at who ledger kept.balanced.schedules))
-      (record {
-        free_moves = refl;
-        active_moves = omega (arith, is);
-        unlocking_moves = omega (arith, sum_without (rebond_amount (row_at ledger who) value) (row_at ledger who).chunks (omega arith), unlocking_within who ledger totals kept, is);
-        deposits_move = refl;
-        minted_stays = refl;
-        burned_stays = refl;
-        issuance_stays = refl })
+    (record totals { active = totals.active + amount; unlocking = totals.unlocking - amount }) kept
+    (keeps_rebonded (row_at ledger who) value (schedule_at who ledger kept.balanced.schedules))
+    (record {
+      free_moves = refl;
+      active_moves = omega (arith, is);
+      unlocking_moves = omega (arith, sum_without (rebond_amount (row_at ledger who) value) (row_at ledger who).chunks (omega arith), unlocking_within who ledger totals kept, is);
+      deposits_move = refl;
+      minted_stays = refl;
+      burned_stays = refl;
+      issuance_stays = refl;
+    })
 
 pub kept_withdrawn : (who : AccountId) (era : ℕ) (ledger : Ledger) (totals : Totals) → IsKept ledger totals → (amount : ℕ) → amount ≡ withdraw_amount (row_at ledger who) era
     → IsKept (changed who (withdrawn era) ledger) (record totals { free = totals.free + amount; unlocking = totals.unlocking - amount })
 kept_withdrawn who era ledger totals kept amount is =
     kept-changed who (withdrawn era) ledger totals (record totals { free = totals.free + amount; unlocking = totals.unlocking - amount }) kept
-      (keeps_withdrawn (row_at ledger who) era (schedule_at who ledger kept.balanced.schedules))
-      (record {
-        free_moves = omega (arith, is);
-        active_moves = refl;
-        unlocking_moves = omega (arith, released_sum era (row_at ledger who).chunks, unlocking_within who ledger totals kept, is);
-        deposits_move = refl;
-        minted_stays = refl;
-        burned_stays = refl;
-        issuance_stays = refl })
+    (keeps_withdrawn (row_at ledger who) era (schedule_at who ledger kept.balanced.schedules))
+    (record {
+      free_moves = omega (arith, is);
+      active_moves = refl;
+      unlocking_moves = omega (arith, released_sum era (row_at ledger who).chunks, unlocking_within who ledger totals kept, is);
+      deposits_move = refl;
+      minted_stays = refl;
+      burned_stays = refl;
+      issuance_stays = refl;
+    })
 
 pub balanced_endowed : (who : AccountId) (value : ℕ) (ledger : Ledger) → IsBalanced ledger → ledger.minted ≡ 0 → ledger.genesis + value ≤ issuance_cap
     → IsBalanced (endowed who value ledger)
@@ -179,7 +187,8 @@ balanced_endowed who value ledger balanced unminted within = record {
   distinct = ordered-changed who (gained value) ledger balanced.distinct;
   schedules = schedules-changed who (gained value) ledger balanced.schedules (schedule_at who ledger balanced.schedules);
   equation = omega (arith, total-changed worth refl who (gained value) ledger balanced.distinct, balanced.equation);
-  capped = omega (arith, unminted) }
+  capped = omega (arith, unminted);
+}
 
 pub kept_endowed : (who : AccountId) (value : ℕ) (ledger : Ledger) (totals : Totals) → IsKept ledger totals → ledger.minted ≡ 0 → ledger.genesis + value ≤ issuance_cap
     → IsKept (endowed who value ledger) (record totals { free = totals.free + value; issuance = totals.issuance + value })
@@ -188,13 +197,14 @@ kept_endowed who value ledger totals kept unminted within =
     record {
       balanced = balanced_endowed who value ledger kept.balanced unminted within;
       running = totals_same (record totals { free = totals.free + value; issuance = totals.issuance + value }) (totals_of (endowed who value ledger))
-        (omega (arith, total-changed (λ row. row.free) refl who (gained value) ledger ordered, ap (λ (t : Totals). t.free) kept.running))
-        (omega (arith, total-changed (λ row. row.active) refl who (gained value) ledger ordered, ap (λ (t : Totals). t.active) kept.running))
-        (omega (arith, total-changed (λ row. chunk_sum row.chunks) refl who (gained value) ledger ordered, ap (λ (t : Totals). t.unlocking) kept.running))
-        (omega (arith, total-changed (λ row. row.held) refl who (gained value) ledger ordered, ap (λ (t : Totals). t.deposits) kept.running))
-        (ap (λ (t : Totals). t.minted) kept.running)
-        (ap (λ (t : Totals). t.burned) kept.running)
-        (omega (arith, kept.balanced.equation, ap (λ (t : Totals). t.issuance) kept.running)) }
+          (omega (arith, total-changed (λ row. row.free) refl who (gained value) ledger ordered, ap (λ (t : Totals). t.free) kept.running))
+          (omega (arith, total-changed (λ row. row.active) refl who (gained value) ledger ordered, ap (λ (t : Totals). t.active) kept.running))
+          (omega (arith, total-changed (λ row. chunk_sum row.chunks) refl who (gained value) ledger ordered, ap (λ (t : Totals). t.unlocking) kept.running))
+          (omega (arith, total-changed (λ row. row.held) refl who (gained value) ledger ordered, ap (λ (t : Totals). t.deposits) kept.running))
+          (ap (λ (t : Totals). t.minted) kept.running)
+          (ap (λ (t : Totals). t.burned) kept.running)
+          (omega (arith, kept.balanced.equation, ap (λ (t : Totals). t.issuance) kept.running));
+    }
 
 -- the payer's row is not changed by what the other one gains
 payer_stays : (from to : AccountId) (value : ℕ) (ledger : Ledger) → from ≢ to → row_at (changed to (gained value) ledger) from ≡ row_at ledger from
@@ -203,9 +213,13 @@ payer_stays from to value ledger differ = ap (λ (o : Option Row). unwrap_or o e
 total_transferred : (part : Row → ℕ) → part empty_row ≡ 0 → ((row : Row) (value : ℕ) → part (gained value row) ≡ part row) → ((row : Row) (value : ℕ) → part (paid value row) ≡ part row)
     → (from to : AccountId) (value : ℕ) (ledger : Ledger) → IsBalanced ledger → total part (transferred from to value ledger) ≡ total part ledger
 total_transferred part none gains pays from to value ledger balanced =
-    omega (arith, total-changed part none to (gained value) ledger balanced.distinct, gains (row_at ledger to) value,
+    omega (
+      arith,
+      total-changed part none to (gained value) ledger balanced.distinct,
+      gains (row_at ledger to) value,
       total-changed part none from (paid value) (changed to (gained value) ledger) (ordered-changed to (gained value) ledger balanced.distinct),
-      pays (row_at (changed to (gained value) ledger) from) value)
+      pays (row_at (changed to (gained value) ledger) from) value,
+    )
 
 free_transferred : (part : Row → ℕ) → part empty_row ≡ 0 → ((row : Row) (value : ℕ) → part (gained value row) ≡ part row + value)
     → ((row : Row) (value : ℕ) → value ≤ row.free → part (paid value row) + value ≡ part row)
@@ -214,9 +228,13 @@ free_transferred : (part : Row → ℕ) → part empty_row ≡ 0 → ((row : Row
 free_transferred part none gains pays from to value ledger balanced differ within =
     let same = payer_stays from to value ledger differ in
     let enough : value ≤ (row_at (changed to (gained value) ledger) from).free = rw same within in
-    omega (arith, total-changed part none to (gained value) ledger balanced.distinct, gains (row_at ledger to) value,
+    omega (
+      arith,
+      total-changed part none to (gained value) ledger balanced.distinct,
+      gains (row_at ledger to) value,
       total-changed part none from (paid value) (changed to (gained value) ledger) (ordered-changed to (gained value) ledger balanced.distinct),
-      pays (row_at (changed to (gained value) ledger) from) value enough)
+      pays (row_at (changed to (gained value) ledger) from) value enough,
+    )
 
 pub balanced_transferred : (from to : AccountId) (value : ℕ) (ledger : Ledger) → IsBalanced ledger → from ≢ to → value ≤ (row_at ledger from).free
     → IsBalanced (transferred from to value ledger)
@@ -226,17 +244,19 @@ balanced_transferred from to value ledger balanced differ within =
       distinct = ordered-changed from (paid value) (changed to (gained value) ledger) (ordered-changed to (gained value) ledger balanced.distinct);
       schedules = schedules-changed from (paid value) (changed to (gained value) ledger) first (schedule_at from (changed to (gained value) ledger) first);
       equation = omega (arith, free_transferred worth refl (λ row n. omega arith) (λ row n w. omega arith) from to value ledger balanced differ within, balanced.equation);
-      capped = balanced.capped }
+      capped = balanced.capped;
+    }
 
 pub kept_transferred : (from to : AccountId) (value : ℕ) (ledger : Ledger) (totals : Totals) → IsKept ledger totals → from ≢ to → value ≤ (row_at ledger from).free
     → IsKept (transferred from to value ledger) totals
 kept_transferred from to value ledger totals kept differ within = record {
   balanced = balanced_transferred from to value ledger kept.balanced differ within;
   running = totals_same totals (totals_of (transferred from to value ledger))
-    (ap (λ (t : Totals). t.free) kept.running ∙ sym (free_transferred (λ row. row.free) refl (λ row n. refl) (λ row n w. omega arith) from to value ledger kept.balanced differ within))
-    (ap (λ (t : Totals). t.active) kept.running ∙ sym (total_transferred (λ row. row.active) refl (λ row n. refl) (λ row n. refl) from to value ledger kept.balanced))
-    (ap (λ (t : Totals). t.unlocking) kept.running ∙ sym (total_transferred (λ row. chunk_sum row.chunks) refl (λ row n. refl) (λ row n. refl) from to value ledger kept.balanced))
-    (ap (λ (t : Totals). t.deposits) kept.running ∙ sym (total_transferred (λ row. row.held) refl (λ row n. refl) (λ row n. refl) from to value ledger kept.balanced))
-    (ap (λ (t : Totals). t.minted) kept.running)
-    (ap (λ (t : Totals). t.burned) kept.running)
-    (ap (λ (t : Totals). t.issuance) kept.running) }
+      (ap (λ (t : Totals). t.free) kept.running ∙ sym (free_transferred (λ row. row.free) refl (λ row n. refl) (λ row n w. omega arith) from to value ledger kept.balanced differ within))
+      (ap (λ (t : Totals). t.active) kept.running ∙ sym (total_transferred (λ row. row.active) refl (λ row n. refl) (λ row n. refl) from to value ledger kept.balanced))
+      (ap (λ (t : Totals). t.unlocking) kept.running ∙ sym (total_transferred (λ row. chunk_sum row.chunks) refl (λ row n. refl) (λ row n. refl) from to value ledger kept.balanced))
+      (ap (λ (t : Totals). t.deposits) kept.running ∙ sym (total_transferred (λ row. row.held) refl (λ row n. refl) (λ row n. refl) from to value ledger kept.balanced))
+      (ap (λ (t : Totals). t.minted) kept.running)
+      (ap (λ (t : Totals). t.burned) kept.running)
+      (ap (λ (t : Totals). t.issuance) kept.running);
+}

@@ -1,5 +1,5 @@
 -- The books' equation and the running totals, after one row is changed.
-use Rattle.std.proofs.Common.{◌≡◌, ◌≢◌, ℕ, ◌+◌, ◌-◌, ◌<◌, ◌≤◌, Bool, true, false, List, [], ◌∷◌, refl, ap, sym, ◌∙◌, subst, arith, Option, Some, None, unwrap_or, option_map, sum_by, All, cond, IfSome, nat_eq, ◌&&◌}
+use Rattle.std.proofs.Common.{◌≡◌, ◌≢◌, ℕ, ◌+◌, ◌≤◌, false, List, [], ◌∷◌, refl, ap, sym, subst, arith, Option, Some, None, unwrap_or, option_map, sum_by, All, IfSome, nat_eq, ◌&&◌, true≢false}
 use Rattle.std.specs.BTreeMap.{insert_entry, is_at}
 use Rattle.std.specs.Cmp.{IsTotalOrder}
 use Rattle.std.specs.Map.{keys_of, values_of, lookup, set_value}
@@ -10,7 +10,7 @@ use Rattle.std.specs.declared.cmp.Ordering.TheVariants.{Less, Equal, Greater}
 use Rattle.std.proofs.lemmas.Cmp.{then_total, on_total, nat_cmp_total}
 use Rattle.std.proofs.lemmas.List.Sums.{sum_by-cons}
 use Rattle.std.proofs.lemmas.Map.Entries.{sum_by-insert_entry}
-use Rattle.std.proofs.lemmas.Map.Lookups.{CmpEqualImpliesEq, exact_pairs, exact_unsigned}
+use Rattle.std.proofs.lemmas.Map.Lookups.{exact_pairs, exact_unsigned}
 use Rattle.std.proofs.lemmas.Map.Views.{All-values-insert_entry, IfSome-lookup_from_All}
 use Rattle.std.proofs.lemmas.Grind.{common_steps}
 use Rattle.npos_base.specs.declared.account.AccountId.{AccountId}
@@ -18,7 +18,7 @@ use Rattle.npos_base.specs.Account.{account_cmp}
 use Rattle.stake_ledger.specs.declared.row.Row.{Row}
 use Rattle.stake_ledger.specs.Chunks.{chunk_sum, IsSchedule}
 use Rattle.stake_ledger.specs.Rows.{empty_row, worth}
-use Rattle.stake_ledger.specs.Ledger.{Ledger, row_in, row_of, row_at, with_row, changed, total, totals_of, IsBalanced, OthersStay, issuance_cap}
+use Rattle.stake_ledger.specs.Ledger.{Ledger, row_in, row_of, row_at, with_row, changed, total, OthersStay}
 use Rattle.stake_ledger.proofs.MapLemmas.{sorted_put, lookup_put, lookup_other, put_in_place}
 
 pub account_total : IsTotalOrder account_cmp
@@ -58,7 +58,7 @@ row_in_other who change rows other differ =
 
 -- accounts of which a comparison says so are different
 pub different : (x y : AccountId) → (nat_eq x.hi y.hi && nat_eq x.lo y.lo) ≡ false → x ≢ y
-different x y no = λ same. ?
+different x y unlike = λ same. true≢false (grind (arith, common_steps, ap (λ (a : AccountId). a.hi) same, ap (λ (a : AccountId). a.lo) same, unlike))
 
 pub row_of-changed : (who : AccountId) (change : Row → Row) (ledger : Ledger) → row_of (changed who change ledger) who ≡ Some (change (row_at ledger who))
 row_of-changed who change ledger = lookup_put account_total who (change (row_at ledger who)) ledger.rows
@@ -72,7 +72,7 @@ pub total-changed : (part : Row → ℕ) → part empty_row ≡ 0 → (who : Acc
     → total part (changed who change ledger) + part (row_at ledger who) ≡ total part ledger + part (change (row_at ledger who))
 total-changed part none who change ledger ordered =
     subst (λ n. total part (changed who change ledger) + n ≡ total part ledger + part (change (row_at ledger who))) (part_at part (row_of ledger who) none)
-      (sum_by-insert_entry part account_total ledger.rows who (change (row_at ledger who)) ordered)
+    (sum_by-insert_entry part account_total ledger.rows who (change (row_at ledger who)) ordered)
 
 -- no account has more than all together
 pub part_within : (part : Row → ℕ) → part empty_row ≡ 0 → (who : AccountId) (ledger : Ledger) → IsStrictlySortedBy account_cmp (keys_of ledger.rows)

@@ -1,12 +1,9 @@
 -- What a call that is not refused may count on, and that it keeps what the account has.
-use Rattle.std.proofs.Common.{◌≡◌, ℕ, ◌+◌, ◌-◌, ◌<◌, ◌≤◌, Bool, true, false, List, [], ◌∷◌, length, refl, ap, sym, ◌∙◌, subst, arith, Option, Some, None, All, AllPairs, min, nat_lt, nat_le, ◌==◌}
+use Rattle.std.proofs.Common.{◌≡◌, ℕ, ◌<◌, ◌≤◌, length, arith, None}
 use Rattle.std.proofs.lemmas.Grind.{common_steps}
 use Rattle.stake_ledger.specs.declared.row.Row.{Row}
-use Rattle.stake_ledger.specs.declared.chunks.Chunk.{Chunk}
-use Rattle.stake_ledger.specs.declared.refusal.LedgerRefusal.{LedgerRefusal}
-use Rattle.stake_ledger.specs.Chunks.{chunk_sum, IsSchedule, with_chunk, without_latest, unreleased}
-use Rattle.stake_ledger.specs.Rows.{worth, gained, paid, bonded, unbonded, rebonded, withdrawn}
-use Rattle.stake_ledger.specs.Calls.{bond_refusal, bond_extra_refusal, unbond_refusal, unbond_amount, rebond_refusal, rebond_amount, withdraw_refusal}
+use Rattle.stake_ledger.specs.Chunks.{with_chunk}
+use Rattle.stake_ledger.specs.Calls.{bond_refusal, bond_extra_refusal, unbond_refusal, unbond_amount}
 
 pub bond_funds : (row : Row) (value minimum : ℕ) → bond_refusal row value minimum ≡ None → value ≤ row.free
 bond_funds row value minimum allowed = grind (arith, common_steps, allowed)

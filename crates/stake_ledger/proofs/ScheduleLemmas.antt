@@ -1,15 +1,12 @@
 -- Chunks stay a schedule: none is 0, at most 32 stand, and their releases rise.
-use Rattle.std.proofs.Common.{◌≡◌, ℕ, ◌+◌, ◌-◌, ◌<◌, ◌≤◌, suc, Bool, true, false, cond, List, [], ◌∷◌, ◌++◌, length, slice_index_or, refl, ap, sym, ◌∙◌, subst, arith, ◌==◌, ◌&&◌, All, AllPairs, nat_lt, nat_le, filter, sum_by, if◌then◌else◌}
+use Rattle.std.proofs.Common.{◌≡◌, ℕ, ◌+◌, ◌-◌, ◌<◌, ◌≤◌, suc, Bool, true, false, List, [], ◌∷◌, length, refl, sym, ◌∙◌, arith, ◌==◌, All, AllPairs, nat_lt, nat_le, if◌then◌else◌}
 use Rattle.std.proofs.lemmas.Grind.{common_steps}
 use Rattle.std.proofs.lemmas.List.Elements.{All-cons, All-nil, All-tail, All-filter}
 use Rattle.std.proofs.lemmas.List.Filters.{length-filter_both}
 use Rattle.std.proofs.lemmas.List.Kept.{AllPairs-cons, AllPairs-filter}
 use Rattle.std.proofs.lemmas.List.Sums.{sum_by-cons}
 use Rattle.stake_ledger.specs.declared.chunks.Chunk.{Chunk}
-use Rattle.stake_ledger.specs.Chunks.{chunk_sum, IsSchedule, is_empty, with_chunk, without_latest, lessened, released, unreleased}
-
-
-
+use Rattle.stake_ledger.specs.Chunks.{chunk_sum, IsSchedule, with_chunk, without_latest, lessened, unreleased}
 
 head_of : (P : Chunk → Type 0) (c : Chunk) (cs : List Chunk) → All P (c ∷ cs) → P c
 head_of P c cs all = all 0 c (omega arith)
@@ -31,7 +28,7 @@ releases_joined_at : (P : ℕ → Type 0) (amount release : ℕ) (c : Chunk) (b 
 releases_joined_at P amount release c true here first = All-cons (λ x. P x.release) (record c { value = c.value + amount }) [] first (All-nil (λ x. P x.release))
 releases_joined_at P amount release c false here first =
     All-cons (λ x. P x.release) c (record { value = amount; release = release } ∷ []) first
-      (All-cons (λ x. P x.release) (record { value = amount; release = release }) [] here (All-nil (λ x. P x.release)))
+    (All-cons (λ x. P x.release) (record { value = amount; release = release }) [] here (All-nil (λ x. P x.release)))
 
 releases_with : (P : ℕ → Type 0) (amount release : ℕ) (cs : List Chunk) → P release → All (λ x. P x.release) cs → All (λ x. P x.release) (with_chunk amount release cs)
 releases_with P amount release [] here all = All-cons (λ x. P x.release) (record { value = amount; release = release }) [] here (All-nil (λ x. P x.release))
@@ -44,7 +41,7 @@ whole_at : (amount release : ℕ) (c : Chunk) (b : Bool) → 0 < amount → 0 < 
 whole_at amount release c true some first = All-cons (λ x. 0 < x.value) (record c { value = c.value + amount }) [] (omega arith) (All-nil _)
 whole_at amount release c false some first =
     All-cons (λ x. 0 < x.value) c (record { value = amount; release = release } ∷ []) first
-      (All-cons (λ x. 0 < x.value) (record { value = amount; release = release }) [] some (All-nil _))
+    (All-cons (λ x. 0 < x.value) (record { value = amount; release = release }) [] some (All-nil _))
 
 whole_with : (amount release : ℕ) (cs : List Chunk) → 0 < amount → All (λ x. 0 < x.value) cs → All (λ x. 0 < x.value) (with_chunk amount release cs)
 whole_with amount release [] some all = All-cons (λ x. 0 < x.value) (record { value = amount; release = release }) [] some (All-nil (λ x. 0 < x.value))
@@ -58,7 +55,7 @@ rising_at amount release c true is within = single _
 rising_at amount release c false is within =
     let below : c.release < release = grind (arith, common_steps, is) in
     AllPairs-cons (λ e l. e.release < l.release) c (record { value = amount; release = release } ∷ [])
-      (All-cons (λ l. c.release < l.release) (record { value = amount; release = release }) [] below (All-nil _)) (single _)
+    (All-cons (λ l. c.release < l.release) (record { value = amount; release = release }) [] below (All-nil _)) (single _)
 
 rising_with : (amount release : ℕ) (cs : List Chunk) → All (λ x. x.release ≤ release) cs → AllPairs (λ e l. e.release < l.release) cs
     → AllPairs (λ e l. e.release < l.release) (with_chunk amount release cs)
@@ -68,15 +65,16 @@ rising_with amount release (c ∷ d ∷ more) within pairs =
     let next : c.release < d.release = pairs_head c (d ∷ more) pairs 0 d (omega arith) in
     let below : c.release < release = omega (arith, head_of (λ x. x.release ≤ release) d more (All-tail (λ x. x.release ≤ release) c (d ∷ more) within)) in
     AllPairs-cons (λ e l. e.release < l.release) c (with_chunk amount release (d ∷ more))
-      (releases_with (λ r. c.release < r) amount release (d ∷ more) below (pairs_head c (d ∷ more) pairs))
-      (rising_with amount release (d ∷ more) (All-tail (λ x. x.release ≤ release) c (d ∷ more) within) (pairs_tail c (d ∷ more) pairs))
+    (releases_with (λ r. c.release < r) amount release (d ∷ more) below (pairs_head c (d ∷ more) pairs))
+    (rising_with amount release (d ∷ more) (All-tail (λ x. x.release ≤ release) c (d ∷ more) within) (pairs_tail c (d ∷ more) pairs))
 
 pub schedule_with : (amount release : ℕ) (cs : List Chunk) → IsSchedule cs → 0 < amount → All (λ x. x.release ≤ release) cs → length (with_chunk amount release cs) ≤ 32
     → IsSchedule (with_chunk amount release cs)
 schedule_with amount release cs s some within few = record {
   whole = whole_with amount release cs some s.whole;
   few = few;
-  rising = rising_with amount release cs within s.rising }
+  rising = rising_with amount release cs within s.rising;
+}
 
 sum_at : (amount release : ℕ) (c : Chunk) (b : Bool)
     → chunk_sum (if b then record c { value = c.value + amount } ∷ [] else c ∷ record { value = amount; release = release } ∷ []) ≡ c.value + amount
@@ -89,8 +87,8 @@ sum_with amount release (c ∷ []) = sum_at amount release c (c.release == relea
 sum_with amount release (c ∷ d ∷ more) =
     sum_by-cons (λ (x : Chunk). x.value) c (with_chunk amount release (d ∷ more)) ∙
     (let e : chunk_sum (with_chunk amount release (d ∷ more)) ≡ chunk_sum (d ∷ more) + amount = sum_with amount release (d ∷ more) in
-     let f : chunk_sum (c ∷ d ∷ more) ≡ c.value + chunk_sum (d ∷ more) = sum_by-cons (λ (x : Chunk). x.value) c (d ∷ more) in
-     omega arith)
+    let f : chunk_sum (c ∷ d ∷ more) ≡ c.value + chunk_sum (d ∷ more) = sum_by-cons (λ (x : Chunk). x.value) c (d ∷ more) in
+    omega arith)
 
 -- ---- an amount is taken from the latest
 
@@ -137,7 +135,7 @@ rising_without : (n : ℕ) (cs : List Chunk) → AllPairs (λ e l. e.release < l
 rising_without n [] pairs = pairs
 rising_without n (c ∷ later) pairs =
     rising_taken_at n c later (nat_lt n (chunk_sum later)) (releases_without (λ r. c.release < r) n later (pairs_head c later pairs))
-      (rising_without n later (pairs_tail c later pairs))
+    (rising_without n later (pairs_tail c later pairs))
 
 fewer_lessened : (n : ℕ) (c : Chunk) (b : Bool) → length (if b then record c { value = c.value - n } ∷ [] else []) ≤ 1
 fewer_lessened n c true = omega arith
@@ -156,7 +154,8 @@ pub schedule_without : (n : ℕ) (cs : List Chunk) → IsSchedule cs → IsSched
 schedule_without n cs s = record {
   whole = whole_without n cs s.whole;
   few = omega (arith, fewer_without n cs, s.few);
-  rising = rising_without n cs s.rising }
+  rising = rising_without n cs s.rising;
+}
 
 sum_lessened : (n : ℕ) (c : Chunk) (b : Bool) → nat_lt n c.value ≡ b → n ≤ c.value → chunk_sum (if b then record c { value = c.value - n } ∷ [] else []) + n ≡ c.value
 sum_lessened n c true is within = grind (arith, common_steps, is)
@@ -184,4 +183,5 @@ pub schedule_unreleased : (era : ℕ) (cs : List Chunk) → IsSchedule cs → Is
 schedule_unreleased era cs s = record {
   whole = All-filter (λ c. nat_lt era c.release) (λ c. 0 < c.value) cs s.whole;
   few = omega (arith, length-filter_both (λ (c : Chunk). nat_lt era c.release) (λ (c : Chunk). nat_le c.release era) (λ c. grind (arith, common_steps)) cs, s.few);
-  rising = AllPairs-filter (λ e l. e.release < l.release) (λ c. nat_lt era c.release) cs s.rising }
+  rising = AllPairs-filter (λ e l. e.release < l.release) (λ c. nat_lt era c.release) cs s.rising;
+}

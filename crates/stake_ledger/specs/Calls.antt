@@ -1,8 +1,8 @@
 -- When each call refuses, by the first reason that applies, and what it makes of the books.
-use Rattle.std.specs.Prelude.{ℕ, ◌+◌, ◌-◌, min, List, Option, Some, None, nat_lt, ◌==◌, not, if◌then◌else◌}
+use Rattle.std.specs.Prelude.{ℕ, ◌+◌, ◌-◌, min, Option, Some, None, nat_lt, ◌==◌, not, if◌then◌else◌}
 use Rattle.npos_base.specs.declared.account.AccountId.{AccountId}
 use Rattle.stake_ledger.specs.declared.refusal.LedgerRefusal.{LedgerRefusal}
-use Rattle.stake_ledger.specs.declared.refusal.LedgerRefusal.TheVariants.{LowFunds, NotBonded, AlreadyBonded, BelowMinimum, NoMoreChunks, NoChunk, ZeroValue, SameAccount, IssuanceCap}
+use Rattle.stake_ledger.specs.declared.refusal.LedgerRefusal.TheVariants.{LowFunds, NotBonded, AlreadyBonded, BelowMinimum, NoChunk, ZeroValue, SameAccount, IssuanceCap}
 use Rattle.stake_ledger.specs.declared.row.Row.{Row}
 use Rattle.stake_ledger.specs.Accounts.{is_same}
 use Rattle.stake_ledger.specs.Chunks.{chunk_sum, chunk_refusal, is_empty, released}

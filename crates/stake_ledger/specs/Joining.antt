@@ -1,5 +1,5 @@
 -- How the code finds whether an amount joins the last chunk.
-use Rattle.std.specs.Prelude.{ℕ, Bool, true, false, List, ◌==◌, slice_get, length, ◌-◌}
+use Rattle.std.specs.Prelude.{ℕ, Bool, false, List, ◌==◌, slice_get, length, ◌-◌}
 use Rattle.std.specs.Option.{option_map_or}
 use Rattle.stake_ledger.specs.declared.chunks.Chunk.{Chunk}
 

@@ -1,5 +1,5 @@
 -- The books: a row for each known account, and what came in and went out.
-use Rattle.std.specs.Prelude.{◌≡◌, ◌≢◌, ℕ, ◌+◌, ◌-◌, ◌^◌, ◌≤◌, List, Option, [], map, sum_by, All, unwrap_or}
+use Rattle.std.specs.Prelude.{◌≡◌, ◌≢◌, ℕ, ◌+◌, ◌-◌, ◌^◌, ◌≤◌, List, Option, [], sum_by, All, unwrap_or}
 use Rattle.std.specs.BTreeMap.{insert_entry, is_at}
 use Rattle.std.specs.List.Sorted.{IsStrictlySortedBy}
 use Rattle.std.specs.Map.{keys_of, values_of, lookup}
@@ -43,13 +43,14 @@ total part ledger = sum_by part (values_of ledger.rows)
 
 abbrev pub totals_of : Ledger → Totals
 totals_of ledger = record {
-    free = total (λ row. row.free) ledger;
-    active = total (λ row. row.active) ledger;
-    unlocking = total (λ row. chunk_sum row.chunks) ledger;
-    deposits = total (λ row. row.held) ledger;
-    minted = ledger.minted;
-    burned = ledger.burned;
-    issuance = ledger.genesis + ledger.minted - ledger.burned }
+  free = total (λ row. row.free) ledger;
+  active = total (λ row. row.active) ledger;
+  unlocking = total (λ row. chunk_sum row.chunks) ledger;
+  deposits = total (λ row. row.held) ledger;
+  minted = ledger.minted;
+  burned = ledger.burned;
+  issuance = ledger.genesis + ledger.minted - ledger.burned;
+}
 
 -- the most that may ever be issued
 abbrev pub issuance_cap : ℕ

@@ -84,15 +84,16 @@ impl Book {
     /// Moves the value from one account's free stake to another's, whose row is opened where it has none.
     /// It refuses with `ZeroValue`, `SameAccount` or `LowFunds`.
     #[tactic(auto, using(crate::proofs::LedgerLemmas::others_stay, crate::proofs::KeepLemmas::worth_within, crate::proofs::KeepLemmas::totals_within, crate::proofs::KeepLemmas::free_within, crate::proofs::KeepLemmas::active_within, crate::proofs::KeepLemmas::unlocking_within))]
-    pub fn transfer(&mut self, from: AccountId, to: AccountId, value: u64) -> Result<(), LedgerRefusal>
-        ensures ok {
-            OnOk result ((transfer_refusal self.old from to value ≡ None) × (self.new ≡ transferred from to value self.old))
-        }
+    pub fn transfer(
+        &mut self,
+        from: AccountId,
+        to: AccountId,
+        value: u64,
+    ) -> Result<(), LedgerRefusal>
+        ensures ok { OnOk result ((transfer_refusal self.old from to value ≡ None) × (self.new ≡ transferred from to value self.old)) }
         ensures err { OnErr result (self.new ≡ self.old) }
         ensures refused { IfErr result (IsDue (transfer_refusal self.old from to value)) }
-        ensures others {
-            (other : AccountId) → other ≢ from → other ≢ to → row_of self.new other ≡ row_of self.old other
-        }
+        ensures others { (other : AccountId) → other ≢ from → other ≢ to → row_of self.new other ≡ row_of self.old other }
     {
         if value == 0 {
             return Err(LedgerRefusal::ZeroValue);
@@ -112,9 +113,7 @@ impl Book {
     /// It refuses with `ZeroValue`, `AlreadyBonded`, `BelowMinimum` (below `minimum`) or `LowFunds`.
     #[tactic(auto, using(crate::proofs::LedgerLemmas::others_stay, crate::proofs::KeepLemmas::worth_within, crate::proofs::KeepLemmas::totals_within, crate::proofs::KeepLemmas::free_within, crate::proofs::KeepLemmas::active_within, crate::proofs::KeepLemmas::unlocking_within, crate::proofs::RowLemmas::bond_funds))]
     pub fn bond(&mut self, who: AccountId, value: u64, minimum: u64) -> Result<(), LedgerRefusal>
-        ensures ok {
-            OnOk result ((bond_refusal (row_at self.old who) value minimum ≡ None) × (self.new ≡ changed who (bonded value) self.old))
-        }
+        ensures ok { OnOk result ((bond_refusal (row_at self.old who) value minimum ≡ None) × (self.new ≡ changed who (bonded value) self.old)) }
         ensures err { OnErr result (self.new ≡ self.old) }
         ensures refused { IfErr result (λ refusal. bond_refusal (row_at self.old who) value minimum ≡ Some refusal) }
         ensures others { OthersStay who self.old self.new }
@@ -129,9 +128,7 @@ impl Book {
     /// It refuses with `ZeroValue`, `NotBonded` or `LowFunds`.
     #[tactic(auto, using(crate::proofs::LedgerLemmas::others_stay, crate::proofs::KeepLemmas::worth_within, crate::proofs::KeepLemmas::totals_within, crate::proofs::KeepLemmas::free_within, crate::proofs::KeepLemmas::active_within, crate::proofs::KeepLemmas::unlocking_within, crate::proofs::RowLemmas::bond_extra_funds))]
     pub fn bond_extra(&mut self, who: AccountId, value: u64) -> Result<(), LedgerRefusal>
-        ensures ok {
-            OnOk result ((bond_extra_refusal (row_at self.old who) value ≡ None) × (self.new ≡ changed who (bonded value) self.old))
-        }
+        ensures ok { OnOk result ((bond_extra_refusal (row_at self.old who) value ≡ None) × (self.new ≡ changed who (bonded value) self.old)) }
         ensures err { OnErr result (self.new ≡ self.old) }
         ensures refused { IfErr result (λ refusal. bond_extra_refusal (row_at self.old who) value ≡ Some refusal) }
         ensures others { OthersStay who self.old self.new }
@@ -147,12 +144,16 @@ impl Book {
     /// `LowFunds` (nothing is active), `BelowMinimum` (less than `least` would stay active) or `NoMoreChunks`
     /// (32 stand and none has this release).
     #[tactic(auto, using(crate::proofs::LedgerLemmas::others_stay, crate::proofs::KeepLemmas::worth_within, crate::proofs::KeepLemmas::totals_within, crate::proofs::KeepLemmas::free_within, crate::proofs::KeepLemmas::active_within, crate::proofs::KeepLemmas::unlocking_within))]
-    pub fn unbond(&mut self, who: AccountId, value: u64, release: u32, least: u64) -> Result<u64, LedgerRefusal>
+    pub fn unbond(
+        &mut self,
+        who: AccountId,
+        value: u64,
+        release: u32,
+        least: u64,
+    ) -> Result<u64, LedgerRefusal>
         requires { All (λ chunk. chunk.release ≤ release) (row_at self.old who).chunks }
-        ensures ok {
-            OnOk result ((unbond_refusal (row_at self.old who) value release least ≡ None)
-                × (self.new ≡ changed who (unbonded (unbond_amount (row_at self.old who) value) release) self.old))
-        }
+        ensures ok { OnOk result ((unbond_refusal (row_at self.old who) value release least ≡ None)
+            × (self.new ≡ changed who (unbonded (unbond_amount (row_at self.old who) value) release) self.old)) }
         ensures amount { IfOk result (λ amount. amount ≡ unbond_amount (row_at self.old who) value) }
         ensures err { OnErr result (self.new ≡ self.old) }
         ensures refused { IfErr result (IsDue (unbond_refusal (row_at self.old who) value release least)) }
@@ -168,10 +169,8 @@ impl Book {
     /// chunks go. It takes no memory, and refuses with `ZeroValue`, `NotBonded` or `NoChunk`.
     #[tactic(auto, using(crate::proofs::LedgerLemmas::others_stay, crate::proofs::KeepLemmas::worth_within, crate::proofs::KeepLemmas::totals_within, crate::proofs::KeepLemmas::free_within, crate::proofs::KeepLemmas::active_within, crate::proofs::KeepLemmas::unlocking_within))]
     pub fn rebond(&mut self, who: AccountId, value: u64) -> Result<u64, LedgerRefusal>
-        ensures ok {
-            OnOk result ((rebond_refusal (row_at self.old who) value ≡ None)
-                × (self.new ≡ changed who (rebonded (rebond_amount (row_at self.old who) value)) self.old))
-        }
+        ensures ok { OnOk result ((rebond_refusal (row_at self.old who) value ≡ None)
+            × (self.new ≡ changed who (rebonded (rebond_amount (row_at self.old who) value)) self.old)) }
         ensures amount { IfOk result (λ amount. amount ≡ rebond_amount (row_at self.old who) value) }
         ensures err { OnErr result (self.new ≡ self.old) }
         ensures refused { IfErr result (λ refusal. rebond_refusal (row_at self.old who) value ≡ Some refusal) }
@@ -187,9 +186,7 @@ impl Book {
     /// with `NotBonded`.
     #[tactic(auto, using(crate::proofs::LedgerLemmas::others_stay, crate::proofs::KeepLemmas::worth_within, crate::proofs::KeepLemmas::totals_within, crate::proofs::KeepLemmas::free_within, crate::proofs::KeepLemmas::active_within, crate::proofs::KeepLemmas::unlocking_within, crate::proofs::ChunkLemmas::released_sum))]
     pub fn withdraw(&mut self, who: AccountId, era: u32) -> Result<u64, LedgerRefusal>
-        ensures ok {
-            OnOk result ((withdraw_refusal (row_at self.old who) ≡ None) × (self.new ≡ changed who (withdrawn era) self.old))
-        }
+        ensures ok { OnOk result ((withdraw_refusal (row_at self.old who) ≡ None) × (self.new ≡ changed who (withdrawn era) self.old)) }
         ensures amount { IfOk result (λ amount. amount ≡ withdraw_amount (row_at self.old who) era) }
         ensures err { OnErr result (self.new ≡ self.old) }
         ensures refused { IfErr result (λ refusal. withdraw_refusal (row_at self.old who) ≡ Some refusal) }

@@ -123,7 +123,12 @@ impl Chunks {
         ensures amount { result ≡ chunk_sum (released era self.old) }
         ensures chunks { self.new ≡ unreleased era self.old }
     {
-        let freed = self.items.iter().filter(|chunk| chunk.release <= era).map(|chunk| chunk.value).sum();
+        let freed = self
+            .items
+            .iter()
+            .filter(|chunk| chunk.release <= era)
+            .map(|chunk| chunk.value)
+            .sum();
         self.items.retain(|chunk| chunk.release > era);
         freed
     }

@@ -8,6 +8,8 @@ mod chunks;
 mod refusal;
 mod row;
 mod rows;
+#[cfg(test)]
+mod tests;
 mod totals;
 
 pub use book::Book;

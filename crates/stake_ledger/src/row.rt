@@ -87,10 +87,8 @@ impl Row {
     pub fn unbond(&mut self, value: u64, release: u32, least: u64) -> Result<u64, LedgerRefusal>
         requires fits { worth self.old < 2 ^ 64 }
         requires few { length self.old.chunks ≤ 32 }
-        ensures ok {
-            OnOk result ((unbond_refusal self.old value release least ≡ None)
-                × (self.new ≡ unbonded (unbond_amount self.old value) release self.old))
-        }
+        ensures ok { OnOk result ((unbond_refusal self.old value release least ≡ None)
+            × (self.new ≡ unbonded (unbond_amount self.old value) release self.old)) }
         ensures amount { IfOk result (λ amount. amount ≡ unbond_amount self.old value) }
         ensures err { OnErr result (self.new ≡ self.old) }
         ensures refused { IfErr result (IsDue (unbond_refusal self.old value release least)) }
@@ -116,9 +114,7 @@ impl Row {
     /// Moves up to `value` from the chunks, the latest first, back to active.
     pub fn rebond(&mut self, value: u64) -> Result<u64, LedgerRefusal>
         requires { worth self.old < 2 ^ 64 }
-        ensures ok {
-            OnOk result ((rebond_refusal self.old value ≡ None) × (self.new ≡ rebonded (rebond_amount self.old value) self.old))
-        }
+        ensures ok { OnOk result ((rebond_refusal self.old value ≡ None) × (self.new ≡ rebonded (rebond_amount self.old value) self.old)) }
         ensures amount { IfOk result (λ amount. amount ≡ rebond_amount self.old value) }
         ensures err { OnErr result (self.new ≡ self.old) }
         ensures refused { IfErr result (λ refusal. rebond_refusal self.old value ≡ Some refusal) }

@@ -47,7 +47,13 @@ pub fn pay(rows: &mut Rows, who: AccountId, value: u64)
 
 /// `Row::bond` at the account's row. An account without a row answers as one that has nothing.
 #[tactic(auto, using(crate::proofs::LedgerLemmas::changed_in_place, std::proofs::lemmas::Map::Steps::set_value_same))]
-pub fn bond(rows: &mut Rows, alloc: Global, who: AccountId, value: u64, minimum: u64) -> Result<(), LedgerRefusal>
+pub fn bond(
+    rows: &mut Rows,
+    alloc: Global,
+    who: AccountId,
+    value: u64,
+    minimum: u64,
+) -> Result<(), LedgerRefusal>
     requires { worth (row_in rows.old.entries who) < 2 ^ 64 }
     ensures accepted { OnOk result (bond_refusal (row_in rows.old.entries who) value minimum ≡ None) }
     ensures ok { OnOk result (rows.new.entries ≡ with_row who (bonded value) rows.old.entries) }
@@ -62,7 +68,12 @@ pub fn bond(rows: &mut Rows, alloc: Global, who: AccountId, value: u64, minimum:
 
 /// `Row::bond_extra` at the account's row. An account without a row answers as one that has nothing.
 #[tactic(auto, using(crate::proofs::LedgerLemmas::changed_in_place, std::proofs::lemmas::Map::Steps::set_value_same))]
-pub fn bond_extra(rows: &mut Rows, alloc: Global, who: AccountId, value: u64) -> Result<(), LedgerRefusal>
+pub fn bond_extra(
+    rows: &mut Rows,
+    alloc: Global,
+    who: AccountId,
+    value: u64,
+) -> Result<(), LedgerRefusal>
     requires { worth (row_in rows.old.entries who) < 2 ^ 64 }
     ensures accepted { OnOk result (bond_extra_refusal (row_in rows.old.entries who) value ≡ None) }
     ensures ok { OnOk result (rows.new.entries ≡ with_row who (bonded value) rows.old.entries) }
@@ -77,7 +88,14 @@ pub fn bond_extra(rows: &mut Rows, alloc: Global, who: AccountId, value: u64) ->
 
 /// `Row::unbond` at the account's row. An account without a row answers as one that has nothing.
 #[tactic(auto, using(crate::proofs::LedgerLemmas::changed_in_place, std::proofs::lemmas::Map::Steps::set_value_same))]
-pub fn unbond(rows: &mut Rows, alloc: Global, who: AccountId, value: u64, release: u32, least: u64) -> Result<u64, LedgerRefusal>
+pub fn unbond(
+    rows: &mut Rows,
+    alloc: Global,
+    who: AccountId,
+    value: u64,
+    release: u32,
+    least: u64,
+) -> Result<u64, LedgerRefusal>
     requires fits { worth (row_in rows.old.entries who) < 2 ^ 64 }
     requires few { length (row_in rows.old.entries who).chunks ≤ 32 }
     ensures accepted { OnOk result (unbond_refusal (row_in rows.old.entries who) value release least ≡ None) }
@@ -94,7 +112,12 @@ pub fn unbond(rows: &mut Rows, alloc: Global, who: AccountId, value: u64, releas
 
 /// `Row::rebond` at the account's row. An account without a row answers as one that has nothing.
 #[tactic(auto, using(crate::proofs::LedgerLemmas::changed_in_place, std::proofs::lemmas::Map::Steps::set_value_same))]
-pub fn rebond(rows: &mut Rows, alloc: Global, who: AccountId, value: u64) -> Result<u64, LedgerRefusal>
+pub fn rebond(
+    rows: &mut Rows,
+    alloc: Global,
+    who: AccountId,
+    value: u64,
+) -> Result<u64, LedgerRefusal>
     requires { worth (row_in rows.old.entries who) < 2 ^ 64 }
     ensures accepted { OnOk result (rebond_refusal (row_in rows.old.entries who) value ≡ None) }
     ensures ok { OnOk result (rows.new.entries ≡ with_row who (rebonded (rebond_amount (row_in rows.old.entries who) value)) rows.old.entries) }
@@ -110,7 +133,12 @@ pub fn rebond(rows: &mut Rows, alloc: Global, who: AccountId, value: u64) -> Res
 
 /// `Row::withdraw` at the account's row. An account without a row answers as one that has nothing.
 #[tactic(auto, using(crate::proofs::LedgerLemmas::changed_in_place, std::proofs::lemmas::Map::Steps::set_value_same))]
-pub fn withdraw(rows: &mut Rows, alloc: Global, who: AccountId, era: u32) -> Result<u64, LedgerRefusal>
+pub fn withdraw(
+    rows: &mut Rows,
+    alloc: Global,
+    who: AccountId,
+    era: u32,
+) -> Result<u64, LedgerRefusal>
     requires { worth (row_in rows.old.entries who) < 2 ^ 64 }
     ensures accepted { OnOk result (withdraw_refusal (row_in rows.old.entries who) ≡ None) }
     ensures ok { OnOk result (rows.new.entries ≡ with_row who (withdrawn era) rows.old.entries) }

@@ -1,12 +1,9 @@
-use Rattle.std.proofs.Common.{◌≡◌, ◌≢◌, ℕ, ◌+◌, ◌-◌, ◌<◌, ◌≤◌, arith, rules, Fits, w64}
-use Rattle.std.proofs.lemmas.Grind.{common_steps}
-use Rattle.stake_ledger.specs.Rows.{bonded, unbonded, rebonded, withdrawn, gained}
+use Rattle.std.proofs.Common.{arith}
+use Rattle.stake_ledger.specs.Rows.{bonded}
 use Rattle.stake_ledger.specs.Ledger.{row_in}
-use Rattle.stake_ledger.specs.Calls.{unbond_amount, rebond_amount}
-use Rattle.stake_ledger.proofs.KeepLemmas.{worth_within, totals_within, free_within, active_within, unlocking_within, kept_bonded, kept_unbonded, kept_rebonded, kept_withdrawn, kept_endowed, kept_transferred}
-use Rattle.stake_ledger.proofs.LedgerLemmas.{others_by, schedule_at}
-use Rattle.stake_ledger.proofs.RowLemmas.{bond_funds, bond_extra_funds}
-use Rattle.stake_ledger.proofs.ChunkLemmas.{released_sum}
+use Rattle.stake_ledger.proofs.KeepLemmas.{worth_within, totals_within, free_within, kept_bonded}
+use Rattle.stake_ledger.proofs.LedgerLemmas.{others_by}
+use Rattle.stake_ledger.proofs.RowLemmas.{bond_extra_funds}
 use Rattle.stake_ledger.proofs.book.Book.bond_extra.Goals as goal
 
 pub bond_extra-requires : goal.bond_extra-requires

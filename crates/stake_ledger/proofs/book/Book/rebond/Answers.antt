@@ -1,12 +1,9 @@
-use Rattle.std.proofs.Common.{◌≡◌, ◌≢◌, ℕ, ◌+◌, ◌-◌, ◌<◌, ◌≤◌, arith, rules, Fits, w64}
-use Rattle.std.proofs.lemmas.Grind.{common_steps}
-use Rattle.stake_ledger.specs.Rows.{bonded, unbonded, rebonded, withdrawn, gained}
+use Rattle.std.proofs.Common.{arith}
+use Rattle.stake_ledger.specs.Rows.{rebonded}
 use Rattle.stake_ledger.specs.Ledger.{row_in}
-use Rattle.stake_ledger.specs.Calls.{unbond_amount, rebond_amount}
-use Rattle.stake_ledger.proofs.KeepLemmas.{worth_within, totals_within, free_within, active_within, unlocking_within, kept_bonded, kept_unbonded, kept_rebonded, kept_withdrawn, kept_endowed, kept_transferred}
-use Rattle.stake_ledger.proofs.LedgerLemmas.{others_by, schedule_at}
-use Rattle.stake_ledger.proofs.RowLemmas.{bond_funds, bond_extra_funds}
-use Rattle.stake_ledger.proofs.ChunkLemmas.{released_sum}
+use Rattle.stake_ledger.specs.Calls.{rebond_amount}
+use Rattle.stake_ledger.proofs.KeepLemmas.{worth_within, totals_within, unlocking_within, kept_rebonded}
+use Rattle.stake_ledger.proofs.LedgerLemmas.{others_by}
 use Rattle.stake_ledger.proofs.book.Book.rebond.Goals as goal
 
 pub rebond-requires : goal.rebond-requires
@@ -22,7 +19,7 @@ overflow_add-self c =
 pub invariant_of-self-2 : goal.invariant_of-self-2
 invariant_of-self-2 c =
     rw c.in_ok-amount.ensures.ok
-      (kept_rebonded c.args.who c.args.value _ _ c.self.invariant c.in_ok-amount.amount c.in_ok-amount.ensures.amount)
+    (kept_rebonded c.args.who c.args.value _ _ c.self.invariant c.in_ok-amount.amount c.in_ok-amount.ensures.amount)
 
 pub returns-clause-others : goal.returns-clause-others
 returns-clause-others c =

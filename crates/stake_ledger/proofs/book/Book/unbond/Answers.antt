@@ -1,19 +1,16 @@
-use Rattle.std.proofs.Common.{◌≡◌, ◌≢◌, ℕ, ◌+◌, ◌-◌, ◌<◌, ◌≤◌, arith, rules, Fits, w64}
-use Rattle.std.proofs.lemmas.Grind.{common_steps}
-use Rattle.stake_ledger.specs.Rows.{bonded, unbonded, rebonded, withdrawn, gained}
+use Rattle.std.proofs.Common.{arith}
+use Rattle.stake_ledger.specs.Rows.{unbonded}
 use Rattle.stake_ledger.specs.Ledger.{row_in}
-use Rattle.stake_ledger.specs.Calls.{unbond_amount, rebond_amount}
-use Rattle.stake_ledger.proofs.KeepLemmas.{worth_within, totals_within, free_within, active_within, unlocking_within, kept_bonded, kept_unbonded, kept_rebonded, kept_withdrawn, kept_endowed, kept_transferred}
-use Rattle.stake_ledger.proofs.LedgerLemmas.{others_by, schedule_at}
-use Rattle.stake_ledger.proofs.RowLemmas.{bond_funds, bond_extra_funds}
-use Rattle.stake_ledger.proofs.ChunkLemmas.{released_sum}
+use Rattle.stake_ledger.specs.Calls.{unbond_amount}
+use Rattle.stake_ledger.proofs.KeepLemmas.{worth_within, totals_within, active_within, kept_unbonded}
+use Rattle.stake_ledger.proofs.LedgerLemmas.{others_by, schedule_in}
 use Rattle.stake_ledger.proofs.book.Book.unbond.Goals as goal
 
 pub unbond-requires-clause-fits : goal.unbond-requires-clause-fits
 unbond-requires-clause-fits c = omega (arith, worth_within c.args.who _ _ c.self.invariant)
 
 pub unbond-requires-clause-few : goal.unbond-requires-clause-few
-unbond-requires-clause-few c = (schedule_at c.args.who _ c.self.invariant.balanced.schedules).few
+unbond-requires-clause-few c = (schedule_in c.args.who c.self.inside.rows.entries c.self.invariant.balanced.schedules).few
 
 pub overflow_sub-self : goal.overflow_sub-self
 overflow_sub-self c = omega (arith, active_within c.args.who _ _ c.self.invariant, c.in_ok-amount.ensures.amount)
@@ -25,8 +22,8 @@ overflow_add-self c =
 pub invariant_of-self-2 : goal.invariant_of-self-2
 invariant_of-self-2 c =
     rw c.in_ok-amount.ensures.ok
-      (kept_unbonded c.args.who c.args.value c.args.release c.args.least _ _ c.self.invariant (rw c.self.view_is c.requires) c.in_ok-amount.ensures.accepted
-        c.in_ok-amount.amount c.in_ok-amount.ensures.amount)
+    (kept_unbonded c.args.who c.args.value c.args.release c.args.least _ _ c.self.invariant (rw (← c.self.view_is) at c.requires) c.in_ok-amount.ensures.accepted
+    c.in_ok-amount.amount c.in_ok-amount.ensures.amount)
 
 pub returns-clause-others : goal.returns-clause-others
 returns-clause-others c =

@@ -1,12 +1,11 @@
-use Rattle.std.proofs.Common.{◌≡◌, ◌≤◌, ℕ, vec_len}
+use Rattle.std.proofs.Common.{◌≡◌, ◌≤◌, vec_len}
 use Rattle.stake_ledger.specs.Chunks.{chunk_sum, without_latest}
 use Rattle.stake_ledger.proofs.chunks.Chunks.take_latest.Given as goal
 
--- what is still to be taken is within what is left, and the rest of the way gives the same
-pub record Rest : Type 0 where
-
+-- what is still to be taken is within what is left, and taking it leaves what the whole would
 abbrev pub invariant-chunks : goal.invariant-chunks
-invariant-chunks l = (l.left ≤ chunk_sum l.self-inside.items.items) × (without_latest l.left l.self-inside.items.items ≡ without_latest l.fn.amount l.fn.self)
+invariant-chunks l =
+    (l.left ≤ chunk_sum l.self-inside.items.items) × (without_latest l.left l.self-inside.items.items ≡ without_latest l.fn.amount l.fn.self)
 
 abbrev pub decreases-chunks : goal.decreases-chunks
 decreases-chunks l = vec_len l.self-inside.items
