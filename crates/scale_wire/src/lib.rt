@@ -5,6 +5,8 @@ mod compact;
 mod cursor;
 pub mod fault;
 pub mod laws;
+#[cfg(test)]
+mod part_tests;
 mod pen;
 mod up_to;
 mod values;
