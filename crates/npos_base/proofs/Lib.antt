@@ -1,3 +1,4 @@
 pub mod AccountBytes
+pub mod AccountOrder
 pub mod Appended
 pub mod BigEndian

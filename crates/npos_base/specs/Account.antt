@@ -1,5 +1,5 @@
 -- An account is 32 bytes: 16 of `hi` and 16 of `lo`, the greatest first.
-use Rattle.std.specs.Prelude.{ℕ, List, ◌++◌, take, drop}
+use Rattle.std.specs.Prelude.{ℕ, Bool, ◌&&◌, nat_eq, List, ◌++◌, take, drop}
 use Rattle.std.specs.Int.{w128, from_be_bytes, to_be_bytes}
 use Rattle.std.specs.Ordering.{nat_cmp, ordering_then}
 use Rattle.std.specs.declared.cmp.Ordering.{Ordering}
@@ -16,3 +16,7 @@ account_of bytes = record { hi = from_be_bytes w128 (take 16 bytes); lo = from_b
 -- the order of accounts, which is the order of their bytes
 abbrev pub account_cmp : AccountId → AccountId → Ordering
 account_cmp a b = ordering_then (nat_cmp a.hi b.hi) (nat_cmp a.lo b.lo)
+
+-- the accounts are one
+abbrev pub same_account : AccountId → AccountId → Bool
+same_account a b = nat_eq a.hi b.hi && nat_eq a.lo b.lo

@@ -1,0 +1,25 @@
+-- The account leaves the validators kept beside the standings.
+use Rattle.std.proofs.Common.{◌≡◌, sym, ◌∙◌, ap, subst}
+use Rattle.std.proofs.lemmas.Result.{err_from_is_err_and}
+use Rattle.voter_lists.specs.Refusal.{answer_of}
+use Rattle.voter_lists.specs.Roles.{nominate_refusal}
+use Rattle.npos_base.specs.Account.{account_cmp}
+use Rattle.voter_lists.proofs.RefusalLemmas.{meets_answer}
+use Rattle.voter_lists.proofs.ValidatorLemmas.{ranked_rise, ranked_nominating, others_keep}
+use Rattle.voter_lists.proofs.roles.Roles.nominate.Goals as goal
+
+pub returns-in_err-check_targets-clause-meets : goal.returns-in_err-check_targets-clause-meets
+returns-in_err-check_targets-clause-meets c =
+    let p = err_from_is_err_and c.from_residual.result c.from_residual.ensures.1 in
+    rw (p.1, p.2) (meets_answer _ c.in_err-check_targets.field-0.0 _ c.args.self.now
+    (ap (λ targets. answer_of (nominate_refusal c.args.self.now c.args.who targets)) (sym c.as_slice.ensures) ∙ sym c.in_err-check_targets.ensures))
+
+pub leave-requires : goal.leave-requires
+leave-requires c = record { rising = ranked_rise c.self.inside.standings.entries c.self.inside.validators.items c.self.invariant }
+
+pub invariant_of-self-2 : goal.invariant_of-self-2
+invariant_of-self-2 c =
+    ranked_nominating c.args.who c.args.targets c.self.inside.standings.entries _ c.self.inside.validators.items _ c.self.invariant c.in_ok-insert.ensures.entries c.insert.ensures.ordered c.leave.ensures
+
+pub returns-clause-others : goal.returns-clause-others
+returns-clause-others c = rw (← c.self.view_is) (others_keep c.self.inside.standings.entries _ c.args.who c.in_ok-insert.ensures.updates.2)

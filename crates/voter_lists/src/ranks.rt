@@ -1,0 +1,38 @@
+//! Accounts in a vector, each once and by rising account, so that the one at a place is at hand.
+ghost use Rattle.std.specs.Prelude.{◌≡◌, ◌<◌, vec_len};
+ghost use Rattle.std.specs.Vec.{vec_capacity};
+ghost use Rattle.std.specs.BTreeMap.{is_at};
+ghost use Rattle.std.specs.BTreeSet.{insert_key};
+ghost use Rattle.std.specs.Set.{remove_key};
+ghost use Rattle.std.specs.List.Sorted.{IsStrictlySortedBy};
+ghost use Rattle.npos_base.specs.Account.{account_cmp};
+
+use npos_base::AccountId;
+
+/// Puts the account at its place, where it is not there already.
+pub(crate) fn enter(accounts: &mut Vec<AccountId>, who: AccountId)
+    requires rising { IsStrictlySortedBy account_cmp accounts.old.items }
+    requires room { vec_len accounts.old < vec_capacity accounts.old }
+    ensures { accounts.new.items ≡ insert_key account_cmp accounts.old.items who }
+{
+    match accounts.as_slice().binary_search(&who) {
+        Ok(_) => {}
+        Err(place) => match accounts.insert(place, who) {
+            Ok(()) => {}
+            Err(_) => unreachable!(),
+        },
+    }
+}
+
+/// Takes the account out, where it is there.
+pub(crate) fn leave(accounts: &mut Vec<AccountId>, who: AccountId)
+    requires rising { IsStrictlySortedBy account_cmp accounts.old.items }
+    ensures { accounts.new.items ≡ remove_key (is_at (account_cmp who)) accounts.old.items }
+{
+    match accounts.as_slice().binary_search(&who) {
+        Ok(place) => {
+            let _ = accounts.remove(place);
+        }
+        Err(_) => {}
+    }
+}

@@ -1,0 +1,182 @@
+//! The roles of accounts, after Substrate's staking pallet.
+ghost use Rattle.std.specs.Prelude.{◌≡◌, ◌≢◌, ◌<◌, ◌≤◌, [], ◌∷◌, length, Some, slice_get};
+ghost use Rattle.std.specs.List.{list_any};
+ghost use Rattle.npos_base.specs.Account.{account_cmp};
+ghost use Rattle.voter_lists.specs.Refusal.{Meets, answer_of};
+ghost use Rattle.voter_lists.specs.Roles.{role_of, nominated_by, validators_of, is_validator, KeepsOthers, has_repeat, is_no_target, nominate_refusal, nominated, validate_refusal, validating, chill_refusal, without_role};
+
+use crate::ListRefusal;
+use crate::ranks::{enter, leave};
+use crate::standing::{Role, Standing};
+use npos_base::{AccountId, List};
+use std::alloc::Global;
+use std::collections::BTreeMap;
+use std::marker::Model;
+
+/// The most validators that there are at a time.
+const MOST_VALIDATORS: usize = 2048;
+/// The most targets of one nominator.
+const MOST_TARGETS: usize = 16;
+/// The whole, in billionths.
+const BILLION: u32 = 1_000_000_000;
+
+/// Who is a validator and who a nominator. Contracts see the list of accounts with their standings, by rising account.
+#[derive(Drop)]
+pub struct Roles {
+    standings: BTreeMap<AccountId, Standing>,
+    validators: Vec<AccountId>,
+}
+
+impl Model for Roles {
+    ghost use Rattle.voter_lists.specs.Roles.{RoleList};
+
+    ghost Value = { RoleList };
+
+    ghost use Rattle.voter_lists.specs.Ranked.{AreRanked};
+
+    ghost view = { λ r. r.standings.entries };
+
+    ghost invariant = { λ r. AreRanked r.standings.entries r.validators.items };
+}
+
+impl Roles {
+    /// Nobody has a role. It takes no memory.
+    pub fn new(alloc: Global) -> Roles
+        ensures { result ≡ [] }
+    {
+        Roles {
+            standings: BTreeMap::new(alloc),
+            validators: Vec::new(alloc),
+        }
+    }
+
+    /// The account becomes a nominator of these targets, in place of any role that it had.
+    pub fn nominate(&mut self, who: AccountId, targets: List<AccountId>) -> Result<(), ListRefusal>
+        ensures meets { Meets (nominate_refusal self.old who targets) (nominated self.old who targets) self.old self.new result }
+        ensures others { KeepsOthers self.old self.new who }
+    {
+        self.check_targets(who, targets.as_slice())?;
+        self.standings.insert(who, Standing::Nominator(targets))?;
+        leave(&mut self.validators, who);
+        Ok(())
+    }
+
+    /// The account becomes a validator with this commission in billionths, in place of any role that it had.
+    pub fn validate(&mut self, who: AccountId, commission: u32) -> Result<(), ListRefusal>
+        ensures meets { Meets (validate_refusal self.old who commission) (validating self.old who commission) self.old self.new result }
+        ensures others { KeepsOthers self.old self.new who }
+    {
+        if commission > BILLION {
+            return Err(ListRefusal::BadFraction);
+        }
+        if !self.is_validator(who) && self.validators.len() >= MOST_VALIDATORS {
+            return Err(ListRefusal::TooManyValidators);
+        }
+        self.validators.reserve(1)?;
+        self.standings
+            .insert(who, Standing::Validator { commission })?;
+        enter(&mut self.validators, who);
+        Ok(())
+    }
+
+    /// The account has no role any more. It takes no memory.
+    pub fn chill(&mut self, who: AccountId) -> Result<(), ListRefusal>
+        ensures meets { Meets (chill_refusal self.old who) (without_role self.old who) self.old self.new result }
+        ensures answer { result ≡ answer_of (chill_refusal self.old who) }
+        ensures others { KeepsOthers self.old self.new who }
+    {
+        if !self.standings.contains_key(&who) {
+            return Err(ListRefusal::NotListed);
+        }
+        let _ = self.standings.remove(&who);
+        leave(&mut self.validators, who);
+        Ok(())
+    }
+
+    /// The role of an account.
+    pub fn role(&self, who: AccountId) -> Role
+        ensures { result ≡ role_of self.now who }
+    {
+        match self.standings.get(&who) {
+            None => Role::Nobody,
+            Some(Standing::Nominator(_)) => Role::Nominator,
+            Some(Standing::Validator { commission }) => Role::Validator {
+                commission: *commission,
+            },
+        }
+    }
+
+    /// The targets of a nominator, in the order in which it named them. Nobody else has any.
+    pub fn targets_of(&self, who: AccountId) -> &[AccountId]
+        ensures { result.now ≡ nominated_by self.now who }
+    {
+        match self.standings.get(&who) {
+            Some(Standing::Nominator(targets)) => targets.as_slice(),
+            _ => &[],
+        }
+    }
+
+    /// How many validators there are, at most 2,048.
+    pub fn validator_count(&self) -> usize
+        ensures count { result ≡ length (validators_of self.now) }
+        ensures most { result ≤ 2048 }
+    {
+        self.validators.len()
+    }
+
+    /// The validator at this place among all by rising account.
+    pub fn validator_at(&self, i: usize) -> AccountId
+        requires { i < length (validators_of self.now) }
+        ensures { slice_get (validators_of self.now) i ≡ Some result }
+    {
+        self.validators[i]
+    }
+
+    fn is_validator(&self, who: AccountId) -> bool
+        ensures { result ≡ is_validator self.now who }
+    {
+        matches!(self.standings.get(&who), Some(Standing::Validator { .. }))
+    }
+
+    /// Whether the account may nominate these targets.
+    fn check_targets(&self, who: AccountId, targets: &[AccountId]) -> Result<(), ListRefusal>
+        ensures { result ≡ answer_of (nominate_refusal self.now who targets.now) }
+    {
+        if targets.is_empty() {
+            return Err(ListRefusal::NoTargets);
+        }
+        if targets.len() > MOST_TARGETS {
+            return Err(ListRefusal::TooManyTargets);
+        }
+        if repeats(targets) {
+            return Err(ListRefusal::RepeatedTarget);
+        }
+        if self.misses(who, targets) {
+            return Err(ListRefusal::NotValidator);
+        }
+        Ok(())
+    }
+
+    /// Whether a target is no validator, or is the nominator itself.
+    fn misses(&self, who: AccountId, targets: &[AccountId]) -> bool
+        ensures { result ≡ list_any (λ target. is_no_target self.now who target) targets.now }
+    {
+        targets
+            .iter()
+            .any(|target| !self.is_validator(*target) || *target == who)
+    }
+}
+
+/// Whether some account stands twice. The accounts are few.
+fn repeats(accounts: &[AccountId]) -> bool
+    ensures { result ≡ has_repeat accounts.now }
+{
+    let mut rest = accounts;
+    while let Some((first, others)) = rest.split_first() {
+        if others.contains(first) {
+            return true;
+        }
+        rest = others;
+    }
+    false
+}

@@ -1,0 +1,20 @@
+//! What an account does in elections.
+
+use npos_base::{AccountId, List};
+
+/// The role of an account, as Substrate's staking pallet has it. A validator's commission is in billionths.
+#[derive(Clone, Copy, Debug, PartialEq, Eq, Hash)]
+pub enum Role {
+    Nobody,
+    Nominator,
+    Validator { commission: u32 },
+}
+
+/// What is kept of an account that has a role.
+#[derive(Debug, Drop)]
+pub enum Standing {
+    /// It nominates these validators, in the order in which it named them.
+    Nominator(List<AccountId>),
+    /// It may be elected, and keeps this part of its rewards, in billionths.
+    Validator { commission: u32 },
+}
