@@ -15,4 +15,4 @@ mod wire;
 pub use cursor::Cursor;
 pub use pen::Pen;
 pub use up_to::{BytesUpTo, UpTo};
-pub use wire::{read_bytes, read_list, read_whole, write_bytes, write_list, write_tag, Wire};
+pub use wire::{read_bytes, read_list, read_whole, write_both, write_bytes, write_list, write_tag, Wire};

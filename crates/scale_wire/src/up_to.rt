@@ -43,7 +43,7 @@ impl<T: Wire, const LIMIT: u32> Wire for UpTo<T, LIMIT> {
     ghost laws = { list_laws T.form (LIMIT % 2 ^ 32) (length_laws (LIMIT % 2 ^ 32) (limit_fits LIMIT)) T.laws };
 
     fn write(&self, pen: &mut Pen) -> Result<(), NoMemory> {
-        write_list(self.items.as_slice(), pen)
+        write_list(&self.items, pen)
     }
 
     fn read(alloc: Global, cursor: &mut Cursor<'_>) -> Result<UpTo<T, LIMIT>, ReadFault> {
@@ -87,7 +87,7 @@ impl<const LIMIT: u32> Wire for BytesUpTo<LIMIT> {
     ghost laws = { byte_list_laws (LIMIT % 2 ^ 32) (length_laws (LIMIT % 2 ^ 32) (limit_fits LIMIT)) byte_string_laws };
 
     fn write(&self, pen: &mut Pen) -> Result<(), NoMemory> {
-        write_bytes(self.bytes.as_slice(), pen)
+        write_bytes(&self.bytes, pen)
     }
 
     fn read(alloc: Global, cursor: &mut Cursor<'_>) -> Result<BytesUpTo<LIMIT>, ReadFault> {

@@ -112,8 +112,8 @@ pub fn write_tag(tag: u8, pen: &mut Pen) -> Result<(), NoMemory>
     pen.put_bytes(&[tag])
 }
 
-// The first and then the second.
-fn write_both<A: Wire, B: Wire>(first: &A, second: &B, pen: &mut Pen) -> Result<(), NoMemory>
+/// Appends the first and then the second, as a pair of the two is spelled.
+pub fn write_both<A: Wire, B: Wire>(first: &A, second: &B, pen: &mut Pen) -> Result<(), NoMemory>
     requires { (pair A.form B.form).in_range (first.now, second.now) }
     ensures { Writes ((pair A.form B.form).spelling (first.now, second.now)) pen.old result pen.new }
 {
@@ -166,12 +166,12 @@ fn read_items<T: Wire>(alloc: Global, cursor: &mut Cursor<'_>, count: u32) -> Re
 
 /// Appends a list: its length and then its items.
 #[tactic(auto, using(crate::proofs::ReadLemmas::writes_behind))]
-pub fn write_list<T: Wire>(items: &[T], pen: &mut Pen) -> Result<(), NoMemory>
+pub fn write_list<T: Wire>(items: &List<T>, pen: &mut Pen) -> Result<(), NoMemory>
     requires { AllByRecursion T.form.in_range items.now }
     ensures { Writes (list_bytes T.form items.now) pen.old result pen.new }
 {
     pen.put_compact(items.len() as u64)?;
-    write_items(items, pen)
+    write_items(items.as_slice(), pen)
 }
 
 // The items, one behind the other.
@@ -199,9 +199,9 @@ pub fn read_bytes(alloc: Global, cursor: &mut Cursor<'_>, limit: u32) -> Result<
 }
 
 /// Appends a list of bytes: its length and then the bytes as they are.
-pub fn write_bytes(bytes: &[u8], pen: &mut Pen) -> Result<(), NoMemory>
+pub fn write_bytes(bytes: &List<u8>, pen: &mut Pen) -> Result<(), NoMemory>
     ensures { Writes (compact_bytes (length bytes.now) ++ bytes.now) pen.old result pen.new }
 {
     pen.put_compact(bytes.len() as u64)?;
-    pen.put_bytes(bytes)
+    pen.put_bytes(bytes.as_slice())
 }

@@ -1,0 +1,4 @@
+pub mod Genesis
+pub mod GenesisLaws
+pub mod Calls
+pub mod CallLaws

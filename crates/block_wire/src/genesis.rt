@@ -1,0 +1,201 @@
+//! How a chain begins: the endowments, and the parameters of its elections.
+ghost use Rattle.std.specs.Prelude.{◌≡◌, ◌<◌};
+ghost use Rattle.scale_wire.specs.Reading.{Reads, Writes};
+ghost use Rattle.scale_wire.specs.Composite.{pair, list, variant_at};
+ghost use Rattle.block_wire.specs.Genesis.{endowment_form, params_form, tag_of_genesis, genesis_variants};
+
+use npos_base::{AccountId, List, NoMemory};
+use scale_wire::fault::ReadFault;
+use scale_wire::{Cursor, Pen, UpTo, Wire, write_list, write_tag};
+use std::alloc::Global;
+
+/// An account and the units that it has at the beginning, free.
+#[derive(Clone, Copy, Debug, PartialEq, Eq)]
+pub struct Endowment {
+    pub who: AccountId,
+    pub value: u64,
+}
+
+impl Wire for Endowment {
+    ghost use Rattle.block_wire.specs.Genesis.{endowment_form};
+    ghost use Rattle.block_wire.specs.GenesisLaws.{endowment_laws};
+
+    ghost form = { endowment_form };
+
+    ghost laws = { endowment_laws };
+
+    fn write(&self, pen: &mut Pen) -> Result<(), NoMemory> {
+        (self.who, self.value).write(pen)
+    }
+
+    fn read(alloc: Global, cursor: &mut Cursor<'_>) -> Result<Endowment, ReadFault> {
+        let (who, value) = <(AccountId, u64)>::read(alloc, cursor)?;
+        Ok(Endowment { who, value })
+    }
+}
+
+/// The parameters of the elections, as the staking and election pallets of Substrate take them at genesis.
+#[derive(Debug, Drop)]
+pub struct Params {
+    /// The account that may end other accounts' roles and set points.
+    pub root: AccountId,
+    /// How many validators a committee has.
+    pub seats: u32,
+    /// How many blocks an era has.
+    pub era_blocks: u32,
+    /// The block of an era, counted from 0, at which the snapshot is taken.
+    pub offset: u32,
+    /// How many blocks submissions are taken for.
+    pub signed: u32,
+    /// How many eras pass before unbonded units are free.
+    pub bonding_eras: u32,
+    /// The least units that can be bonded.
+    pub least_bond: u64,
+    /// The upper ends of the bags of voters, in units, strictly rising.
+    pub thresholds: List<u64>,
+    /// How many submissions wait at most.
+    pub queue: u32,
+    /// How many bytes a submitted solution has at most.
+    pub solution_max: u32,
+    /// The units that a submission holds.
+    pub deposit: u64,
+    /// The units that the submission which is seated is paid.
+    pub reward: u64,
+    /// The units that the validators of an era are paid together.
+    pub era_reward: u64,
+}
+
+type Head = (AccountId, (u32, u32, u32), (u32, u32, u64));
+
+type Tail = ((u32, u32), (u64, u64, u64));
+
+impl Wire for Params {
+    ghost use Rattle.block_wire.specs.Genesis.{params_form};
+    ghost use Rattle.block_wire.specs.GenesisLaws.{params_laws};
+
+    ghost form = { params_form };
+
+    ghost laws = { params_laws };
+
+    fn write(&self, pen: &mut Pen) -> Result<(), NoMemory> {
+        let phases = (self.seats, self.era_blocks, self.offset);
+        let bonding = (self.signed, self.bonding_eras, self.least_bond);
+        (self.root, phases, bonding).write(pen)?;
+        write_list(&self.thresholds, pen)?;
+        let amounts = (self.deposit, self.reward, self.era_reward);
+        ((self.queue, self.solution_max), amounts).write(pen)
+    }
+
+    fn read(alloc: Global, cursor: &mut Cursor<'_>) -> Result<Params, ReadFault> {
+        let (head, thresholds, tail) = <(Head, UpTo<u64, 200>, Tail)>::read(alloc, cursor)?;
+        let (root, (seats, era_blocks, offset), (signed, bonding_eras, least_bond)) = head;
+        let ((queue, solution_max), (deposit, reward, era_reward)) = tail;
+        Ok(Params {
+            root,
+            seats,
+            era_blocks,
+            offset,
+            signed,
+            bonding_eras,
+            least_bond,
+            thresholds: thresholds.into_list(),
+            queue,
+            solution_max,
+            deposit,
+            reward,
+            era_reward,
+        })
+    }
+}
+
+/// The first value of a stream.
+#[derive(Debug, Drop)]
+pub enum Genesis {
+    /// Endowments alone: the chain has no elections.
+    Plain { endowments: List<Endowment> },
+    /// Endowments, and the parameters of the elections.
+    Full {
+        endowments: List<Endowment>,
+        params: Params,
+    },
+}
+
+type Endowments = UpTo<Endowment, 65_536>;
+
+impl Wire for Genesis {
+    ghost use Rattle.block_wire.specs.Genesis.{genesis_form};
+    ghost use Rattle.block_wire.specs.GenesisLaws.{genesis_laws};
+
+    ghost form = { genesis_form };
+
+    ghost laws = { genesis_laws };
+
+    fn write(&self, pen: &mut Pen) -> Result<(), NoMemory> {
+        write_tag(genesis_tag(self), pen)?;
+        write_genesis_fields(self, pen)
+    }
+
+    fn read(alloc: Global, cursor: &mut Cursor<'_>) -> Result<Genesis, ReadFault> {
+        let mut here = cursor.fork();
+        let tag = here.take_tag(2)?;
+        let genesis = read_genesis_fields(alloc, tag, &mut here)?;
+        *cursor = here;
+        Ok(genesis)
+    }
+}
+
+fn genesis_tag(genesis: &Genesis) -> u8
+    ensures { result ≡ tag_of_genesis genesis.now }
+{
+    match genesis {
+        Genesis::Plain { .. } => 0,
+        Genesis::Full { .. } => 1,
+    }
+}
+
+fn read_genesis_fields(alloc: Global, tag: u8, cursor: &mut Cursor<'_>) -> Result<Genesis, ReadFault>
+    requires { tag < 2 }
+    ensures { Reads (variant_at genesis_variants tag) cursor.old result cursor.new }
+{
+    match tag {
+        0 => read_plain(alloc, cursor),
+        _ => read_full(alloc, cursor),
+    }
+}
+
+fn read_plain(alloc: Global, cursor: &mut Cursor<'_>) -> Result<Genesis, ReadFault>
+    ensures { Reads (variant_at genesis_variants 0) cursor.old result cursor.new }
+{
+    let endowments = Endowments::read(alloc, cursor)?;
+    Ok(Genesis::Plain {
+        endowments: endowments.into_list(),
+    })
+}
+
+fn read_full(alloc: Global, cursor: &mut Cursor<'_>) -> Result<Genesis, ReadFault>
+    ensures { Reads (variant_at genesis_variants 1) cursor.old result cursor.new }
+{
+    let (endowments, params) = <(Endowments, Params)>::read(alloc, cursor)?;
+    Ok(Genesis::Full {
+        endowments: endowments.into_list(),
+        params,
+    })
+}
+
+fn write_genesis_fields(genesis: &Genesis, pen: &mut Pen) -> Result<(), NoMemory>
+    requires { (variant_at genesis_variants (tag_of_genesis genesis.now)).in_range genesis.now }
+    ensures { Writes ((variant_at genesis_variants (tag_of_genesis genesis.now)).spelling genesis.now) pen.old result pen.new }
+{
+    match genesis {
+        Genesis::Plain { endowments } => write_list(endowments, pen),
+        Genesis::Full { endowments, params } => write_full(endowments, params, pen),
+    }
+}
+
+fn write_full(endowments: &List<Endowment>, params: &Params, pen: &mut Pen) -> Result<(), NoMemory>
+    requires { (pair (list endowment_form 65536) params_form).in_range (endowments.now, params.now) }
+    ensures { Writes ((pair (list endowment_form 65536) params_form).spelling (endowments.now, params.now)) pen.old result pen.new }
+{
+    write_list(endowments, pen)?;
+    params.write(pen)
+}

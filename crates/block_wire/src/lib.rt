@@ -1,0 +1,11 @@
+//! What a stream of blocks is made of: the genesis, the blocks and their calls, each as a type with its one spelling in
+//! SCALE.
+#![tactic(auto)]
+
+mod block;
+mod call;
+mod genesis;
+
+pub use block::Block;
+pub use call::{Call, CallKind};
+pub use genesis::{Endowment, Genesis, Params};
