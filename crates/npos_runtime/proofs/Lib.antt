@@ -1,0 +1,5 @@
+pub mod FaultLemmas
+pub mod LiveLemmas
+pub mod EndowLemmas
+pub mod BeginLemmas
+pub mod OutcomeLemmas

@@ -1,0 +1,7 @@
+use Rattle.std.proofs.Common.{◌≡◌, drop}
+use Rattle.npos_runtime.specs.Genesis.{threshold_fault}
+use Rattle.npos_runtime.proofs.begin.check_thresholds.Given as goal
+
+-- the first fault of the thresholds that are left is that of all
+abbrev pub invariant-loop-place : goal.invariant-loop-place
+invariant-loop-place l = threshold_fault l.place l.before (drop l.place l.thresholds) ≡ threshold_fault 0 0 l.thresholds

@@ -1,0 +1,9 @@
+pub mod Rules
+pub mod Refusals
+pub mod Stops
+pub mod Outcome
+pub mod Calls
+pub mod Step
+pub mod Genesis
+pub mod Live
+pub mod Life

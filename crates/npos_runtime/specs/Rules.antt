@@ -1,0 +1,27 @@
+-- What the params of the genesis say. A plain genesis has none: the column of constants is what holds then.
+use Rattle.std.specs.Prelude.{ℕ, ◌+◌, ◌-◌, ◌/◌, ◌%◌, Option, Some, None, nat_lt, ◌==◌, ◌&&◌, if◌then◌else◌}
+use Rattle.block_wire.specs.declared.genesis.Params.{Params}
+
+-- the number of eras that stake stays bonded after an unbond
+abbrev pub bonding_eras_of : Option Params → ℕ
+bonding_eras_of None = 28
+bonding_eras_of (Some params) = params.bonding_eras
+
+abbrev pub least_bond_of : Option Params → ℕ
+least_bond_of None = 1
+least_bond_of (Some params) = params.least_bond
+
+-- the era of the block with this number; without params there is but one
+abbrev pub era_of : Option Params → ℕ → ℕ
+era_of None number = 0
+era_of (Some params) number = (number - 1) / params.era_blocks
+
+-- where the block stands in its era, counted from 0
+abbrev pub place_of : Params → ℕ → ℕ
+place_of params number = (number - 1) % params.era_blocks
+
+-- the era that begins with this block, if one does; the first one is there from the start
+abbrev pub begun_era : Option Params → ℕ → Option ℕ
+begun_era None number = None
+begun_era (Some params) number =
+    if (place_of params number == 0) && nat_lt 0 (era_of (Some params) number) then Some (era_of (Some params) number) else None

@@ -1,0 +1,37 @@
+-- The step of a block: the line of the block, the era that may begin, and then the calls in order.
+use Rattle.std.specs.Prelude.{ℕ, ◌+◌, List, [], ◌∷◌, ◌++◌, Option, Some, None, option_map, option_to_list}
+use Rattle.block_wire.specs.declared.call.Call.{Call}
+use Rattle.block_wire.specs.declared.block.Block.{Block}
+use Rattle.npos_runtime.specs.declared.chain.Chain.{Chain}
+use Rattle.npos_runtime.specs.declared.line.Line.{Line}
+use Rattle.npos_runtime.specs.declared.line.Line.TheVariants as lines
+use Rattle.npos_runtime.specs.declared.refusal.Refusal.{Refusal}
+use Rattle.npos_runtime.specs.Rules.{begun_era}
+use Rattle.npos_runtime.specs.Refusals.{code_of}
+use Rattle.npos_runtime.specs.Outcome.{Outcome, quiet, after}
+use Rattle.npos_runtime.specs.Calls.{stop_of, done_of}
+
+abbrev pub opened : ℕ → Chain → Outcome
+opened number chain = record { state = chain; lines = lines.Block number ∷ [] }
+
+abbrev pub era_phase : Chain → Outcome
+era_phase chain = record { state = chain; lines = option_to_list (option_map lines.Era (begun_era chain.params chain.due)) }
+
+-- one call, at its place in the block
+abbrev pub call_after : Option Refusal → ℕ → Call → Chain → Outcome
+call_after None index call chain = record { state = done_of chain call.who call.kind; lines = lines.CallOk index ∷ [] }
+call_after (Some refusal) index call chain = record { state = chain; lines = lines.CallRefused index (code_of refusal) ∷ [] }
+
+abbrev pub call_outcome : ℕ → Call → Chain → Outcome
+call_outcome index call chain = call_after (stop_of chain call.who call.kind) index call chain
+
+abbrev pub calls_outcome : ℕ → List Call → Chain → Outcome
+calls_outcome index [] chain = quiet chain
+calls_outcome index (call ∷ calls) chain = after (call_outcome index call chain) (calls_outcome (index + 1) calls)
+
+-- the next block is due
+abbrev pub closed : Chain → Outcome
+closed chain = quiet (record chain { due = chain.due + 1 })
+
+abbrev pub step : Chain → Block → Outcome
+step chain block = after (after (after (opened block.number chain) era_phase) (calls_outcome 0 block.calls)) closed

@@ -1,0 +1,14 @@
+//! The state of a chain.
+
+use block_wire::Params;
+use stake_ledger::Book;
+
+/// The state of a chain, between two blocks. Contracts see it as the record of what its parts stand for.
+#[derive(Drop)]
+pub struct Chain {
+    /// The params of a full genesis; a plain one has none, and then there are no eras.
+    pub params: Option<Params>,
+    pub book: Book,
+    /// The number of the next block.
+    pub due: u64,
+}

@@ -1,0 +1,18 @@
+//! The chain: how it starts from a genesis, and the step of a block.
+#![tactic(auto)]
+
+mod act;
+mod begin;
+mod chain;
+mod line;
+mod refusal;
+mod rules;
+mod runtime;
+mod step;
+mod stop;
+
+pub use begin::GenesisFault;
+pub use chain::Chain;
+pub use line::Line;
+pub use refusal::Refusal;
+pub use runtime::{BlockFault, Receipt, Runtime};

@@ -1,0 +1,44 @@
+//! Why a call of a block is refused.
+ghost use Rattle.std.specs.Prelude.{◌≡◌};
+ghost use Rattle.npos_runtime.specs.Refusals.{code_of, ledger_code};
+
+use stake_ledger::LedgerRefusal;
+
+/// Why a call of a block is refused. The chain is then as it was.
+#[derive(Clone, Copy, Debug, PartialEq, Eq)]
+pub enum Refusal {
+    /// The books refuse, for one of their reasons other than want of memory.
+    Ledger(LedgerRefusal),
+    /// Calls of this kind are not built yet.
+    NotBuilt,
+}
+
+impl Refusal {
+    /// The number that is printed.
+    pub fn code(self) -> u32
+        ensures { result ≡ code_of self }
+    {
+        match self {
+            Refusal::Ledger(refusal) => ledger_code(refusal),
+            Refusal::NotBuilt => 99,
+        }
+    }
+}
+
+/// The number of a reason of the books. Want of memory is none, and has the number 0.
+fn ledger_code(refusal: LedgerRefusal) -> u32
+    ensures { result ≡ ledger_code refusal }
+{
+    match refusal {
+        LedgerRefusal::LowFunds => 1,
+        LedgerRefusal::NotBonded => 2,
+        LedgerRefusal::AlreadyBonded => 3,
+        LedgerRefusal::BelowMinimum => 4,
+        LedgerRefusal::NoMoreChunks => 5,
+        LedgerRefusal::NoChunk => 6,
+        LedgerRefusal::ZeroValue => 7,
+        LedgerRefusal::SameAccount => 8,
+        LedgerRefusal::IssuanceCap => 9,
+        LedgerRefusal::NoMemory => 0,
+    }
+}

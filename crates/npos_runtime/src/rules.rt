@@ -1,0 +1,52 @@
+//! What the params of the genesis say, and what holds without params.
+ghost use Rattle.std.specs.Prelude.{◌≡◌, ◌<◌, ◌≤◌, ◌^◌, IfSome};
+ghost use Rattle.npos_runtime.specs.Rules as rules;
+ghost use Rattle.npos_runtime.specs.Live.{AreSound};
+
+use block_wire::Params;
+
+/// The number of eras that stake stays bonded after an unbond: Substrate's bonding duration.
+pub fn bonding_eras_of(params: &Option<Params>) -> u32
+    ensures { result ≡ rules.bonding_eras_of params.now }
+{
+    params.as_ref().map_or(28, |params| params.bonding_eras)
+}
+
+/// The least active stake of a bond and of an account with a role.
+pub fn least_bond_of(params: &Option<Params>) -> u64
+    ensures { result ≡ rules.least_bond_of params.now }
+{
+    params.as_ref().map_or(1, |params| params.least_bond)
+}
+
+/// The era of the block with this number.
+pub fn era_of(params: &Option<Params>, number: u64) -> u32
+    requires sound { AreSound params.now }
+    requires counted { 1 ≤ number }
+    requires numbered { number ≤ 2 ^ 32 }
+    ensures value { result ≡ rules.era_of params.now number }
+    ensures small { result < 2 ^ 31 }
+{
+    match params {
+        None => 0,
+        Some(params) => ((number - 1) / u64::from(params.era_blocks)) as u32,
+    }
+}
+
+/// The era that begins with the block of this number, if one does.
+pub fn begun_era(params: &Option<Params>, number: u64) -> Option<u32>
+    requires sound { AreSound params.now }
+    requires numbered { number ≤ 2 ^ 32 }
+    requires counted { 1 ≤ number }
+    ensures { result ≡ rules.begun_era params.now number }
+{
+    let Some(blocks) = params.as_ref().map(|params| u64::from(params.era_blocks)) else {
+        return None;
+    };
+    let era = era_of(params, number);
+    if (number - 1) % blocks == 0 && 0 < era {
+        Some(era)
+    } else {
+        None
+    }
+}

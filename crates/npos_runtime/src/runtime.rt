@@ -1,0 +1,131 @@
+//! The chain as its users hold it.
+ghost use Rattle.std.specs.Prelude.{◌≡◌, ◌≢◌, ◌<◌, ◌≤◌, ◌^◌, true, false, length, None, Err, OnOk, IfOk, IfErr};
+ghost use Rattle.stake_ledger.specs.Ledger.{IsBalanced, totals_of};
+ghost use Rattle.npos_runtime.specs.Genesis.{IsFault, endowments_of, genesis_chain, genesis_fault, thresholds_of};
+ghost use Rattle.npos_runtime.specs.Life.{AppliesWell, HasFault};
+ghost use Rattle.npos_runtime.specs.declared.runtime.BlockFault.TheVariants as faults;
+
+use crate::begin::begin;
+use crate::step::take_block;
+use crate::{Chain, GenesisFault, Line};
+use block_wire::{Block, Genesis};
+use npos_base::List;
+use stake_ledger::{Book, Totals};
+use std::alloc::Global;
+use std::marker::Model;
+use thiserror::Error;
+
+/// Why a block was not taken.
+#[derive(Clone, Copy, Debug, PartialEq, Eq, Error)]
+pub enum BlockFault {
+    /// Memory ran out in an earlier block, and the chain has been lost there.
+    #[error("the chain ended for want of memory")]
+    Spent,
+    /// The number of the block is not the due one. Nothing changed.
+    #[error("block {found} where {due} is due")]
+    WrongNumber { due: u64, found: u32 },
+    /// Memory ran out in this block. The runtime is spent.
+    #[error("no memory")]
+    NoMemory,
+}
+
+/// What a block told.
+#[derive(Drop)]
+pub struct Receipt {
+    pub lines: List<Line>,
+}
+
+/// A running chain. Contracts see it as the chain's state, and whether it is spent.
+#[derive(Drop)]
+pub struct Runtime {
+    alloc: Global,
+    chain: Chain,
+    spent: bool,
+}
+
+impl Model for Runtime {
+    ghost use Rattle.std.specs.Prelude.{◌≡◌, false};
+    ghost use Rattle.npos_runtime.specs.Life.{Life};
+    ghost use Rattle.npos_runtime.specs.Live.{IsLive};
+
+    ghost Value = { Life };
+
+    ghost view = { λ r. record { state = r.chain; spent = r.spent } };
+
+    ghost invariant = { λ r. r.spent ≡ false → IsLive r.chain };
+}
+
+impl Runtime {
+    /// The chain of a genesis, or the first fault that the genesis has.
+    #[tactic(auto, using(crate::proofs::BeginLemmas::live_begun))]
+    pub fn start(alloc: Global, genesis: Genesis) -> Result<Runtime, GenesisFault>
+        requires few_endowments { length (endowments_of genesis) ≤ 65536 }
+        requires few_thresholds { length (thresholds_of genesis) ≤ 200 }
+        ensures ok { IfOk result (λ runtime. (genesis_fault genesis ≡ None)
+            × (runtime ≡ record { state = genesis_chain genesis; spent = false })) }
+        ensures refused { IfErr result (IsFault (genesis_fault genesis)) }
+    {
+        let chain = begin(alloc, genesis)?;
+        Ok(Runtime {
+            alloc,
+            chain,
+            spent: false,
+        })
+    }
+
+    /// Takes the block whose number is due, and tells what happened in it. A block with another number changes
+    /// nothing. After want of memory the runtime is spent.
+    pub fn apply(&mut self, block: Block) -> Result<Receipt, BlockFault>
+        requires { length block.calls < 2 ^ 32 }
+        ensures ok { IfOk result (λ receipt. AppliesWell self.old self.new block receipt.lines) }
+        ensures fault { IfErr result (HasFault self.old self.new block) }
+        ensures spent { self.old.spent ≡ true → result ≡ Err faults.Spent }
+        ensures wrong { self.old.spent ≡ false → block.number ≢ self.old.state.due
+            → result ≡ Err (faults.WrongNumber self.old.state.due block.number) }
+        ensures books { OnOk result (IsBalanced self.new.state.book) }
+    {
+        if self.spent {
+            return Err(BlockFault::Spent);
+        }
+        if u64::from(block.number) != self.chain.due {
+            return Err(BlockFault::WrongNumber {
+                due: self.chain.due,
+                found: block.number,
+            });
+        }
+        let Block { number, calls } = block;
+        let mut lines = Vec::new(self.alloc);
+        self.spent = true;
+        match take_block(&mut self.chain, &mut lines, number, calls.into_vec()) {
+            Ok(()) => {
+                self.spent = false;
+                Ok(Receipt {
+                    lines: List::from_vec(lines),
+                })
+            }
+            Err(_) => Err(BlockFault::NoMemory),
+        }
+    }
+
+    /// The number of the next block.
+    pub fn due(&self) -> u64
+        ensures { result ≡ self.now.state.due }
+    {
+        self.chain.due
+    }
+
+    /// The books.
+    pub fn book(&self) -> &Book
+        ensures { result.now ≡ self.now.state.book }
+    {
+        &self.chain.book
+    }
+
+    /// The sums over the books.
+    pub fn totals(&self) -> Totals
+        ensures value { result ≡ totals_of self.now.state.book }
+        ensures balanced { IsBalanced self.now.state.book }
+    {
+        self.chain.book.totals()
+    }
+}

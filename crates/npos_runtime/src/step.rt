@@ -1,0 +1,76 @@
+//! The parts of a step: each tells its lines and says what becomes of the chain.
+ghost use Rattle.std.specs.Prelude.{◌≡◌, ◌+◌, ◌<◌, ◌≤◌, ◌^◌, [], length, OnOk, IfOk};
+ghost use Rattle.npos_runtime.specs.Outcome.{Goes, Outcome};
+ghost use Rattle.npos_runtime.specs.Step.{call_outcome, calls_outcome, era_phase, opened, step};
+ghost use Rattle.npos_runtime.specs.Live.{IsLive};
+
+use crate::act::act;
+use crate::rules::begun_era;
+use crate::stop::Stop;
+use crate::{Chain, Line};
+use block_wire::Call;
+use npos_base::NoMemory;
+
+/// An era may begin.
+fn begin_era(chain: &Chain, lines: &mut Vec<Line>) -> Result<(), NoMemory>
+    requires { IsLive chain.now }
+    ensures { OnOk result (Goes (era_phase chain.now) chain.now lines.old.items lines.new.items) }
+{
+    if let Some(era) = begun_era(&chain.params, chain.due) {
+        lines.push(Line::Era { era })?;
+    }
+    Ok(())
+}
+
+/// One call, at its place in the block.
+fn take_call(
+    chain: &mut Chain,
+    lines: &mut Vec<Line>,
+    index: u32,
+    call: Call,
+) -> Result<(), NoMemory>
+    requires { IsLive chain.old }
+    ensures { OnOk result (Goes (call_outcome index call chain.old) chain.new lines.old.items lines.new.items) }
+{
+    let Call { who, kind } = call;
+    let line = match act(chain, who, kind) {
+        Ok(()) => Line::CallOk { index },
+        Err(Stop::Refused(refusal)) => Line::CallRefused {
+            index,
+            code: refusal.code(),
+        },
+        Err(Stop::NoMemory) => return Err(NoMemory),
+    };
+    lines.push(line)?;
+    Ok(())
+}
+
+/// The calls in order.
+fn take_calls(chain: &mut Chain, lines: &mut Vec<Line>, calls: Vec<Call>) -> Result<(), NoMemory>
+    requires live { IsLive chain.old }
+    requires few { length calls.items < 2 ^ 32 }
+    ensures goes { OnOk result (Goes (calls_outcome 0 calls.items chain.old) chain.new lines.old.items lines.new.items) }
+    ensures live_after { OnOk result (IsLive chain.new) }
+{
+    let mut index = 0;
+    'turns: for call in calls {
+        take_call(chain, lines, index, call)?;
+        index += 1;
+    }
+    Ok(())
+}
+
+/// The whole step of the block that is due.
+pub fn take_block(chain: &mut Chain, lines: &mut Vec<Line>, number: u32, calls: Vec<Call>) -> Result<(), NoMemory>
+    requires live { IsLive chain.old }
+    requires few { length calls.items < 2 ^ 32 }
+    requires due { number ≡ chain.old.due }
+    ensures goes { OnOk result (Goes (step chain.old (record { number = number; calls = calls.items })) chain.new lines.old.items lines.new.items) }
+    ensures live_after { OnOk result (IsLive chain.new) }
+{
+    lines.push(Line::Block { number })?;
+    begin_era(chain, lines)?;
+    take_calls(chain, lines, calls)?;
+    chain.due += 1;
+    Ok(())
+}
