@@ -5,6 +5,7 @@
 mod block;
 mod call;
 mod genesis;
+pub mod laws;
 
 pub use block::Block;
 pub use call::{Call, CallKind};
