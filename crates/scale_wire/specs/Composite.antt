@@ -23,16 +23,7 @@ pub record Behind {A : Type 0} (head : Form A) (bad : A → List ℕ → ℕ →
 abbrev pub BadThen : {A : Type 0} → Form A → (A → List ℕ → ℕ → Why → Type 0) → List ℕ → ℕ → Why → Type 0
 BadThen head bad bytes at why = head.bad bytes at why ⊎ Behind head bad bytes at why
 
--- ## One part behind another
-
--- The form of values that are spelled as a head and then as what the head leaves due.
-abbrev pub followed : {A W : Type 0} → Form A → (W → A) → (A → Form W) → ℕ → Form W
-followed head first_of tail most = record {
-  spelling = λ w. head.spelling (first_of w) ++ (tail (first_of w)).spelling w;
-  in_range = λ w. head.in_range (first_of w) × (tail (first_of w)).in_range w;
-  bad = BadThen head (λ first. (tail first).bad);
-  longest = head.longest + most;
-}
+-- ## Pairs and triples
 
 abbrev pub pair : {A B : Type 0} → Form A → Form B → Form (A × B)
 pair a b = record {

@@ -6,7 +6,7 @@ use Rattle.scale_wire.specs.declared.fault.Why.{Why}
 use Rattle.scale_wire.specs.declared.fault.Why.TheVariants.{Short}
 use Rattle.scale_wire.specs.Form.{Form, Begins, IsRefused, IsWire, IsBytes}
 use Rattle.scale_wire.specs.Parts.{byte_string, length_form, tag_form}
-use Rattle.scale_wire.specs.Composite.{followed, pair, triple, seen, nothing, items, row, IsRow, list, byte_list, optional, optional_bytes, BadOptional, variant, variant_bytes, variant_at, longest_variant, tagged}
+use Rattle.scale_wire.specs.Composite.{BadThen, pair, triple, seen, nothing, items, row, IsRow, list, byte_list, optional, optional_bytes, BadOptional, variant, variant_bytes, variant_at, longest_variant, tagged}
 
 pub IsBytes-rest : (front rest : List ℕ) → IsBytes (front ++ rest) → IsBytes rest
 IsBytes-rest [] rest bytes = bytes
@@ -95,6 +95,15 @@ nothing_laws = record {
 }
 
 -- ## A part behind another
+
+-- The form of values that are spelled as a head and then as what the head leaves due.
+abbrev pub followed : {A W : Type 0} → Form A → (W → A) → (A → Form W) → ℕ → Form W
+followed head first_of tail most = record {
+  spelling = λ w. head.spelling (first_of w) ++ (tail (first_of w)).spelling w;
+  in_range = λ w. head.in_range (first_of w) × (tail (first_of w)).in_range w;
+  bad = BadThen head (λ first. (tail first).bad);
+  longest = head.longest + most;
+}
 
 module _ {A W : Type 0} (head : Form A) (first_of : W → A) (tail : A → Form W) (most : ℕ) (head_laws : IsWire head) (tail_laws : (a : A) → head.in_range a → IsWire (tail a)) (agrees : (a : A) (w : W) → (tail a).in_range w → first_of w ≡ a) (within : (a : A) → head.in_range a → (tail a).longest ≤ most) where
   tail_reading : (a a' : A) → a ≡ a' → head.in_range a → (x y : W) (rest more : List ℕ) → (tail a).in_range x → (tail a').in_range y → (tail a).spelling x ++ rest ≡ (tail a').spelling y ++ more → (x ≡ y) × (rest ≡ more)

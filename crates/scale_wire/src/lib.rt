@@ -11,6 +11,8 @@ mod pen;
 mod up_to;
 mod values;
 mod wire;
+#[cfg(test)]
+mod wire_tests;
 
 pub use cursor::Cursor;
 pub use pen::Pen;

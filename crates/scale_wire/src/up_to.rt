@@ -8,7 +8,8 @@ use npos_base::{List, NoMemory};
 use std::alloc::Global;
 use std::marker::Model;
 
-/// A list that is spelled where it has at most `LIMIT` items. Contracts see it as its items.
+/// A list that is spelled where it has at most `LIMIT` items, so that it can stand in a pair or a triple. Contracts see it
+/// as its items.
 #[derive(Drop)]
 pub struct UpTo<T, const LIMIT: u32> {
     items: List<T>,
@@ -38,6 +39,7 @@ impl<T: Wire, const LIMIT: u32> Wire for UpTo<T, LIMIT> {
     ghost use Rattle.scale_wire.specs.CompactLaws.{length_laws};
     ghost use Rattle.scale_wire.specs.FormLaws.{limit_fits};
 
+    // The remainder is the limit itself: it tells the laws that a u32 is below 2^32.
     ghost form = { list T.form (LIMIT % 2 ^ 32) };
 
     ghost laws = { list_laws T.form (LIMIT % 2 ^ 32) (length_laws (LIMIT % 2 ^ 32) (limit_fits LIMIT)) T.laws };
