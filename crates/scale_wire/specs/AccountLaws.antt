@@ -10,7 +10,7 @@ use Rattle.npos_base.proofs.BigEndian.{length_high_first, from_sixteen, value_of
 use Rattle.scale_wire.specs.Form.{IsBytes, IsWire}
 use Rattle.scale_wire.specs.FormLaws.{IsBytes-front, IsBytes-rest}
 use Rattle.scale_wire.specs.Parts.{account_form}
-use Rattle.scale_wire.specs.PartLaws.{IsWhole, whole_laws}
+use Rattle.scale_wire.specs.PartLaws.{IsFixedSize, whole_laws}
 
 abbrev pub fits_account : AccountId → Type 0
 fits_account account = (account.hi < 2 ^ 128) × (account.lo < 2 ^ 128)
@@ -29,7 +29,7 @@ account_fits bytes are_bytes long =
 account_long : (account : AccountId) → length (account_bytes account) ≡ 32
 account_long account = omega (arith, length-append (to_be_bytes w128 account.hi) (to_be_bytes w128 account.lo), length_high_first 16 account.hi, length_high_first 16 account.lo)
 
-account_whole : IsWhole 32 account_bytes fits_account account_of
+account_whole : IsFixedSize 32 account_bytes fits_account account_of
 account_whole = record {
   long = λ account _. account_long account;
   in_range = account_fits;

@@ -1,6 +1,6 @@
 -- Compact integers. The low two bits of the first byte are the mode, which says how many bytes the spelling
 -- has and how the number stands in them.
-use Rattle.std.specs.Prelude.{ℕ, zero, suc, ◌+◌, ◌-◌, ◌*◌, ◌/◌, ◌%◌, ◌^◌, Bool, false, ◌||◌, List, [], ◌∷◌, take, drop, slice_index, Option, if◌then◌else◌, nat_lt, nat_le, nat_eq}
+use Rattle.std.specs.Prelude.{ℕ, zero, suc, ◌+◌, ◌-◌, ◌*◌, ◌/◌, ◌%◌, ◌^◌, ◌<◌, ◌≤◌, Bool, false, ◌||◌, List, [], ◌∷◌, take, drop, slice_index, Option, if◌then◌else◌, nat_lt, nat_le, nat_eq}
 use Rattle.scale_wire.specs.declared.fault.Why.{Why}
 use Rattle.scale_wire.specs.declared.fault.Why.TheVariants.{Short, NotShortest, TooWide}
 use Rattle.scale_wire.specs.LittleEndian.{little_endian, number_at}
@@ -8,7 +8,13 @@ use Rattle.scale_wire.specs.Refusal.{first_reason, lacks}
 
 -- ## Spelling
 
--- the least number of bytes, from 4 to 8, that hold the number
+-- `count` is the least number from 4 on of bytes that hold the number
+pub record IsLeast (number count : ℕ) : Type 0 where
+  pub from_four : 4 ≤ count
+  pub holds : number < 256 ^ count
+  pub least : (other : ℕ) → 4 ≤ other → number < 256 ^ other → count ≤ other
+
+-- that count, of a number of at most 8 bytes
 unfoldable pub least_bytes : ℕ → ℕ
 least_bytes number =
   if nat_lt number (256 ^ 4) then 4
@@ -17,6 +23,7 @@ least_bytes number =
   else if nat_lt number (256 ^ 7) then 7
   else 8
 
+-- The lowest two bits are the mode. The longest mode says by the upper six how many value bytes follow.
 unfoldable pub compact_bytes : ℕ → List ℕ
 compact_bytes number =
   if nat_lt number 64 then little_endian 1 (4 * number)
@@ -26,6 +33,7 @@ compact_bytes number =
 
 -- ## Reading
 
+-- the modes 00, 01, 10 and 11
 pub data Mode : Type 0 where
   OneByte : Mode
   TwoBytes : Mode
@@ -38,6 +46,7 @@ mode_numbered (suc zero) = TwoBytes
 mode_numbered (suc (suc zero)) = FourBytes
 mode_numbered _ = Big
 
+-- the mode that the first byte gives
 abbrev pub mode_of : List ℕ → Mode
 mode_of bytes = mode_numbered (slice_index bytes 0 % 4)
 
@@ -45,12 +54,14 @@ mode_of bytes = mode_numbered (slice_index bytes 0 % 4)
 abbrev pub announced : List ℕ → ℕ
 announced bytes = slice_index bytes 0 / 4 + 4
 
+-- how many bytes the spelling has
 abbrev pub bytes_in : Mode → List ℕ → ℕ
 bytes_in OneByte bytes = 1
 bytes_in TwoBytes bytes = 2
 bytes_in FourBytes bytes = 4
 bytes_in Big bytes = 1 + announced bytes
 
+-- the number: in the first three modes it stands above the two bits of the mode
 abbrev pub number_in : Mode → List ℕ → ℕ
 number_in OneByte bytes = slice_index bytes 0 / 4
 number_in TwoBytes bytes = number_at (take 2 bytes) / 4
@@ -80,5 +91,6 @@ compact_reasons most limit mode bytes =
   ∷ (nat_le limit (number_in mode bytes), TooWide)
   ∷ []
 
+-- the first of them that applies
 abbrev pub compact_refusal : ℕ → ℕ → List ℕ → Option Why
 compact_refusal most limit bytes = first_reason (compact_reasons most limit (mode_of bytes) bytes)

@@ -11,7 +11,7 @@ use Rattle.scale_wire.specs.FormLaws.{IsBytes-front}
 use Rattle.scale_wire.specs.LittleEndian.{little_endian, number_at}
 use Rattle.scale_wire.specs.LittleEndianLaws.{length-little_endian, number_at-little_endian, little_endian-number_at, number_at-bound, are_bytes-little_endian, last_zero, last_not_zero}
 use Rattle.scale_wire.specs.Refusal.{first_reason, lacks}
-use Rattle.scale_wire.specs.Compact.{Mode, OneByte, TwoBytes, FourBytes, Big, mode_numbered, mode_of, announced, bytes_in, number_in, announces_over, is_longer_in, least_bytes, compact_bytes, compact_reasons, compact_refusal}
+use Rattle.scale_wire.specs.Compact.{Mode, OneByte, TwoBytes, FourBytes, Big, mode_numbered, mode_of, announced, bytes_in, number_in, announces_over, is_longer_in, IsLeast, least_bytes, compact_bytes, compact_reasons, compact_refusal}
 use Rattle.scale_wire.specs.Parts.{IsHead, compact_form, length_form, length_refusal, compact_u16, compact_u32, compact_u64}
 use Rattle.scale_wire.specs.PartLaws.{IsPart, part_laws, none_applies, one_applies, passed, applied, not_lacking}
 
@@ -41,12 +41,6 @@ compact_big number above =
   rw (le-ltb number 64 first, le-ltb number (2 ^ 14) second, le-ltb number (2 ^ 30) above)
 
 -- ## The least number of bytes
-
--- `count` is the least number from 4 on whose bytes hold the number
-pub record IsLeast (number count : ℕ) : Type 0 where
-  pub from_four : 4 ≤ count
-  pub holds : number < 256 ^ count
-  pub least : (other : ℕ) → 4 ≤ other → number < 256 ^ other → count ≤ other
 
 over : (more low number : ℕ) → (more ≡ 0) ⊎ (low ≤ number) → 0 < more → low ≤ number
 over more low number (inl none) some = absurd (omega arith)

@@ -104,13 +104,13 @@ short_from_some count bytes why some =
   ]
 
 -- What reads exactly `count` bytes, and is given back by its spelling, makes a part.
-pub record IsWhole {V : Type 0} (count : ℕ) (spelling : V → List ℕ) (fits : V → Type 0) (value : List ℕ → V) : Type 0 where
+pub record IsFixedSize {V : Type 0} (count : ℕ) (spelling : V → List ℕ) (fits : V → Type 0) (value : List ℕ → V) : Type 0 where
   pub long : (x : V) → fits x → length (spelling x) ≡ count
   pub in_range : (bytes : List ℕ) → IsBytes bytes → length bytes ≡ count → fits (value bytes)
   pub spelled : (bytes : List ℕ) → IsBytes bytes → length bytes ≡ count → spelling (value bytes) ≡ bytes
   pub back : (x : V) → fits x → value (spelling x) ≡ x
 
-module _ {V : Type 0} (count : ℕ) (spelling : V → List ℕ) (fits : V → Type 0) (value : List ℕ → V) (whole : IsWhole count spelling fits value) where
+module _ {V : Type 0} (count : ℕ) (spelling : V → List ℕ) (fits : V → Type 0) (value : List ℕ → V) (whole : IsFixedSize count spelling fits value) where
   whole_head : (bytes : List ℕ) → IsBytes bytes → missing_refusal count bytes ≡ None
     → IsHead (part spelling fits (missing_refusal count) count) bytes (value (take count bytes)) count
   whole_head bytes are_bytes none =
@@ -136,7 +136,7 @@ module _ {V : Type 0} (count : ℕ) (spelling : V → List ℕ) (fits : V → Ty
   pub whole_laws : IsWire (part spelling fits (missing_refusal count) count)
   whole_laws = part_laws spelling fits (missing_refusal count) count (λ bytes. value (take count bytes)) (λ _. count) whole_part
 
-fixed_whole : (count : ℕ) → IsWhole count (little_endian count) (λ number. number < 256 ^ count) number_at
+fixed_whole : (count : ℕ) → IsFixedSize count (little_endian count) (λ number. number < 256 ^ count) number_at
 fixed_whole count = record {
   long = λ x _. length-little_endian count x;
   in_range = λ bytes are_bytes long. subst (λ n. number_at bytes < 256 ^ n) long (number_at-bound bytes are_bytes);
@@ -153,7 +153,7 @@ fixed_head count bytes are_bytes whole =
   (whole_part count (little_endian count) (λ number. number < 256 ^ count) number_at (fixed_whole count)).head bytes are_bytes
     (none_from_whole count bytes whole)
 
-string_whole : (count : ℕ) → IsWhole count (λ bytes. bytes) (λ bytes. (length bytes ≡ count) × IsBytes bytes) (λ bytes. bytes)
+string_whole : (count : ℕ) → IsFixedSize count (λ bytes. bytes) (λ bytes. (length bytes ≡ count) × IsBytes bytes) (λ bytes. bytes)
 string_whole count = record {
   long = λ x x_fits. x_fits.0;
   in_range = λ bytes are_bytes long. (long, are_bytes);

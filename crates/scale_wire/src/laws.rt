@@ -1,4 +1,7 @@
 //! What follows for every type that is spelled in SCALE. Each law is the clause of a function that does nothing.
+ghost use Rattle.scale_wire.specs.Form.{IsWire};
+ghost use Rattle.scale_wire.specs.Compact.{IsLeast, least_bytes};
+ghost use Rattle.scale_wire.specs.Parts.{fixed_u8, fixed_u32, fixed_u128, byte_string, tag_form, length_form};
 ghost use Rattle.scale_wire.specs.Laws.{IsReadBack, IsDecided, IsDecidedWhole, FaultsPersist, IsBounded};
 
 use crate::Wire;
@@ -32,5 +35,37 @@ pub fn faults_persist<T: Wire>()
 /// No spelling is longer than the form's `longest`, and bytes that are refused as `Short` are fewer than that.
 pub fn spellings_are_bounded<T: Wire>()
     ensures { IsBounded T.form }
+{
+}
+
+/// Numbers of one, four and sixteen bytes keep what every form keeps.
+pub fn fixed_numbers_keep_the_laws()
+    ensures one { IsWire fixed_u8 }
+    ensures four { IsWire fixed_u32 }
+    ensures sixteen { IsWire fixed_u128 }
+{
+}
+
+/// Strings of as many bytes keep what every form keeps.
+pub fn byte_strings_keep_the_laws(count: usize)
+    ensures { IsWire (byte_string count) }
+{
+}
+
+/// Tags below a number keep what every form keeps.
+pub fn tags_keep_the_laws(below: u8)
+    ensures { IsWire (tag_form below) }
+{
+}
+
+/// Lengths up to a limit keep what every form keeps.
+pub fn lengths_keep_the_laws(limit: u32)
+    ensures { IsWire (length_form limit) }
+{
+}
+
+/// The value bytes of a compact integer in its longest mode are the fewest, from four on, that hold it.
+pub fn value_bytes_are_the_fewest(number: u64)
+    ensures { IsLeast number (least_bytes number) }
 {
 }
