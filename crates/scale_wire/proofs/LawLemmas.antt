@@ -1,5 +1,5 @@
 -- The laws of a form, as they are told to users.
-use Rattle.std.proofs.Common.{◌≡◌, ◌≢◌, ◌⊎◌, ℕ, ◌+◌, ◌<◌, List, [], ◌∷◌, ◌++◌, length, refl, sym, ◌∙◌, ap, subst, inl, inr, arith, length-append}
+use Rattle.std.proofs.Common.{◌≡◌, ◌⊎◌, ℕ, List, [], ◌∷◌, ◌++◌, length, refl, sym, ◌∙◌, ap, subst, inl, inr}
 use Rattle.std.proofs.lemmas.List.{append-nil}
 use Rattle.scale_wire.specs.declared.fault.Why.{Why}
 use Rattle.scale_wire.specs.declared.fault.Why.TheVariants.{Trailing}
@@ -53,8 +53,8 @@ module _ {V : Type 0} (form : Form V) (laws : IsWire form) where
   either_whole : (bytes : List ℕ) → IsBytes bytes → IsWhole form bytes ⊎ IsRefusedWhole form bytes
   either_whole bytes are_bytes =
       elim (laws.covers bytes are_bytes) [
-        inl begins ↦ whole_or_rest bytes begins.value begins.rest begins.in_range begins.whole
-      | inr refused ↦ inr record { at = refused.at; why = refused.why; bad = inl refused.bad }
+        | inl begins ↦ whole_or_rest bytes begins.value begins.rest begins.in_range begins.whole
+        | inr refused ↦ inr record { at = refused.at; why = refused.why; bad = inl refused.bad }
       ]
 
   no_rest : (xs ys : List ℕ) → xs ≡ [] → xs ≡ ys → (y : ℕ) (more : List ℕ) → ys ≡ y ∷ more → ⊥
@@ -63,25 +63,25 @@ module _ {V : Type 0} (form : Form V) (laws : IsWire form) where
   never_both_whole : (bytes : List ℕ) → IsWhole form bytes → IsRefusedWhole form bytes → ⊥
   never_both_whole bytes is refused =
       elim refused.bad [
-        inl bad ↦ never_both bytes (whole_begins bytes is) record { at = refused.at; why = refused.why; bad = bad }
-      | inr trailing ↦
-          let p = laws.one_reading is.value trailing.1.value [] (trailing.1.next ∷ trailing.1.rest) is.in_range trailing.1.in_range
-                (append-nil (form.spelling is.value) ∙ (sym is.whole ∙ trailing.1.whole)) in
-          no_rest [] (trailing.1.next ∷ trailing.1.rest) refl p.1 trailing.1.next trailing.1.rest refl
+        | inl bad ↦ never_both bytes (whole_begins bytes is) record { at = refused.at; why = refused.why; bad = bad }
+        | inr trailing ↦
+            let p = laws.one_reading is.value trailing.1.value [] (trailing.1.next ∷ trailing.1.rest) is.in_range trailing.1.in_range
+            (append-nil (form.spelling is.value) ∙ (sym is.whole ∙ trailing.1.whole)) in
+            no_rest [] (trailing.1.next ∷ trailing.1.rest) refl p.1 trailing.1.next trailing.1.rest refl
       ]
 
   one_fault_whole : (bytes : List ℕ) (at at' : ℕ) (why why' : Why) → BadWhole form bytes at why → BadWhole form bytes at' why' → (at ≡ at') × (why ≡ why')
   one_fault_whole bytes at at' why why' bad bad' =
       elim bad [
-        inl here ↦ elim bad' [
-          inl here' ↦ laws.one_fault bytes at at' why why' here here'
-        | inr there' ↦ absurd (never_both bytes (rest_begins bytes at' there'.1) record { at = at; why = why; bad = here })
+        | inl here ↦ elim bad' [
+          | inl here' ↦ laws.one_fault bytes at at' why why' here here'
+          | inr there' ↦ absurd (never_both bytes (rest_begins bytes at' there'.1) record { at = at; why = why; bad = here })
         ]
-      | inr there ↦ elim bad' [
-          inl here' ↦ absurd (never_both bytes (rest_begins bytes at there.1) record { at = at'; why = why'; bad = here' })
-        | inr there' ↦
-            let p = laws.one_reading there.1.value there'.1.value (there.1.next ∷ there.1.rest) (there'.1.next ∷ there'.1.rest) there.1.in_range there'.1.in_range (sym there.1.whole ∙ there'.1.whole) in
-            (there.1.at_is ∙ (ap (λ (v : V). length (form.spelling v)) p.0 ∙ sym there'.1.at_is), there.0 ∙ sym there'.0)
+        | inr there ↦ elim bad' [
+          | inl here' ↦ absurd (never_both bytes (rest_begins bytes at there.1) record { at = at'; why = why'; bad = here' })
+          | inr there' ↦
+              let p = laws.one_reading there.1.value there'.1.value (there.1.next ∷ there.1.rest) (there'.1.next ∷ there'.1.rest) there.1.in_range there'.1.in_range (sym there.1.whole ∙ there'.1.whole) in
+              (there.1.at_is ∙ (ap (λ (v : V). length (form.spelling v)) p.0 ∙ sym there'.1.at_is), there.0 ∙ sym there'.0)
         ]
       ]
 

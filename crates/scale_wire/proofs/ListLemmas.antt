@@ -1,5 +1,5 @@
 -- What readers and writers of lists answer.
-use Rattle.std.proofs.Common.{◌≡◌, ℕ, zero, suc, ◌+◌, ◌<◌, List, [], ◌∷◌, ◌++◌, length, take, drop, get_or, refl, sym, ◌∙◌, ap, subst, inl, inr, arith, append_assoc, length-append, zero-add, add-one}
+use Rattle.std.proofs.Common.{◌≡◌, ℕ, zero, suc, ◌+◌, ◌<◌, List, [], ◌∷◌, ◌++◌, length, take, drop, get_or, refl, sym, ◌∙◌, ap, subst, inl, inr, arith, append_assoc, length-append, zero-add}
 use Rattle.std.specs.Prelude.{Err}
 use Rattle.std.specs.List.{AllByRecursion, flat_map}
 use Rattle.std.proofs.lemmas.Grind.{flat_map-append}
@@ -11,8 +11,8 @@ use Rattle.scale_wire.specs.declared.fault.ReadFault.{ReadFault}
 use Rattle.scale_wire.specs.declared.fault.ReadFault.TheVariants.{Wire, NoMemory}
 use Rattle.scale_wire.specs.Form.{Form}
 use Rattle.scale_wire.specs.Parts.{length_form, byte_string}
-use Rattle.scale_wire.specs.Composite.{BadThen, items, BadItems, list, byte_list}
-use Rattle.scale_wire.specs.Reading.{Place, Refuses, IsRead, IsFault, Reads, HasFront}
+use Rattle.scale_wire.specs.Composite.{items, BadItems, list, byte_list}
+use Rattle.scale_wire.specs.Reading.{Place, IsRead, IsFault, Reads, HasFront}
 use Rattle.scale_wire.proofs.ReadLemmas.{behind_fault, front_more, front_behind}
 
 -- an item was refused; `here` is a copy of the cursor as it was
@@ -44,7 +44,7 @@ module _ {A : Type 0} (item : Form A) where
   items_fault count done old mid new xs fault below read refused = record {
     place = length (flat_map item.spelling xs) + refused.place;
     bad = subst (λ (s : List ℕ). BadItems item count s (length (flat_map item.spelling xs) + refused.place) fault.why) (sym read.whole)
-      (bad_items xs count (omega (arith, below, read.in_range.1)) read.in_range.0 mid.rest refused.place fault.why refused.bad);
+        (bad_items xs count (omega (arith, below, read.in_range.1)) read.in_range.0 mid.rest refused.place fault.why refused.bad);
     at_is = omega (arith, refused.at_is, read.at_is);
     unchanged = refl;
   }
@@ -67,8 +67,8 @@ module _ {A : Type 0} (item : Form A) where
   item_read done old mid new xs x read more = record {
     in_range = (all_more xs x read.in_range.0 more.in_range, length-append xs (x ∷ []) ∙ ap (λ (n : ℕ). n + 1) read.in_range.1);
     whole = read.whole ∙ (ap (λ (s : List ℕ). flat_map item.spelling xs ++ s) more.whole
-      ∙ (sym (append_assoc (flat_map item.spelling xs) (item.spelling x) new.rest)
-      ∙ ap (λ (s : List ℕ). s ++ new.rest) (sym (items_more xs x))));
+        ∙ (sym (append_assoc (flat_map item.spelling xs) (item.spelling x) new.rest)
+        ∙ ap (λ (s : List ℕ). s ++ new.rest) (sym (items_more xs x))));
     at_is = omega (arith, read.at_is, more.at_is, ap length (items_more xs x), length-append (flat_map item.spelling xs) (item.spelling x));
   }
 
@@ -77,8 +77,8 @@ pub items_front : {A : Type 0} (f : A → List ℕ) (xs : List A) (i : ℕ) (x :
 items_front f xs i x old mid new below here written has =
     let rest : List ℕ = flat_map f (drop (suc i) xs) in
     let split : flat_map f xs ≡ flat_map f (take i xs) ++ (f x ++ rest) =
-          ap (flat_map f) (sym (take-append-drop i xs))
-          ∙ (flat_map-append f (take i xs) (drop i xs)
-          ∙ ap (λ ys. flat_map f (take i xs) ++ flat_map f ys) (drop-cons xs i x below ∙ ap (λ y. y ∷ drop (suc i) xs) (sym here))) in
+    ap (flat_map f) (sym (take-append-drop i xs))
+    ∙ (flat_map-append f (take i xs) (drop i xs)
+    ∙ ap (λ ys. flat_map f (take i xs) ++ flat_map f ys) (drop-cons xs i x below ∙ ap (λ y. y ∷ drop (suc i) xs) (sym here))) in
     subst (λ (s : List ℕ). HasFront s old new) (sym split)
-      (front_behind (flat_map f (take i xs)) (f x ++ rest) old mid new written (front_more (f x) rest mid new has))
+    (front_behind (flat_map f (take i xs)) (f x ++ rest) old mid new written (front_more (f x) rest mid new has))

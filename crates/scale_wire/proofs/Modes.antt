@@ -20,20 +20,20 @@ IsBytes-from (byte ∷ bytes) below = (below 0, IsBytes-from bytes (λ k. below 
 -- ## What a mode answers
 
 pub mode_long : (most : ℕ) (mode : Mode) (bytes : List ℕ) → announces_over most mode bytes ≡ false
-  → bytes_in mode bytes ≤ length bytes → is_longer_in mode bytes ≡ true
-  → first_reason (mode_reasons most mode bytes) ≡ Some NotShortest
+    → bytes_in mode bytes ≤ length bytes → is_longer_in mode bytes ≡ true
+    → first_reason (mode_reasons most mode bytes) ≡ Some NotShortest
 mode_long most mode bytes announced_fits whole longer =
-  passed (announces_over most mode bytes) TooWide ((lacks (bytes_in mode bytes) bytes, Short) ∷ (is_longer_in mode bytes, NotShortest) ∷ []) (Some NotShortest) announced_fits
+    passed (announces_over most mode bytes) TooWide ((lacks (bytes_in mode bytes) bytes, Short) ∷ (is_longer_in mode bytes, NotShortest) ∷ []) (Some NotShortest) announced_fits
     (passed (lacks (bytes_in mode bytes) bytes) Short ((is_longer_in mode bytes, NotShortest) ∷ []) (Some NotShortest) (not_lacking (bytes_in mode bytes) bytes whole)
-      (applied (is_longer_in mode bytes) NotShortest [] longer))
+    (applied (is_longer_in mode bytes) NotShortest [] longer))
 
 pub mode_none : (most : ℕ) (mode : Mode) (bytes : List ℕ) → announces_over most mode bytes ≡ false
-  → bytes_in mode bytes ≤ length bytes → is_longer_in mode bytes ≡ false
-  → first_reason (mode_reasons most mode bytes) ≡ None
+    → bytes_in mode bytes ≤ length bytes → is_longer_in mode bytes ≡ false
+    → first_reason (mode_reasons most mode bytes) ≡ None
 mode_none most mode bytes announced_fits whole shortest =
-  passed (announces_over most mode bytes) TooWide ((lacks (bytes_in mode bytes) bytes, Short) ∷ (is_longer_in mode bytes, NotShortest) ∷ []) None announced_fits
+    passed (announces_over most mode bytes) TooWide ((lacks (bytes_in mode bytes) bytes, Short) ∷ (is_longer_in mode bytes, NotShortest) ∷ []) None announced_fits
     (passed (lacks (bytes_in mode bytes) bytes) Short ((is_longer_in mode bytes, NotShortest) ∷ []) None (not_lacking (bytes_in mode bytes) bytes whole)
-      (passed (is_longer_in mode bytes) NotShortest [] None shortest refl))
+    (passed (is_longer_in mode bytes) NotShortest [] None shortest refl))
 
 -- ## Two and four bytes
 
@@ -43,7 +43,7 @@ take_two (a ∷ []) whole = absurd (omega arith)
 take_two (a ∷ b ∷ bytes) whole = refl
 
 take_four : (bytes : List ℕ) → 4 ≤ length bytes
-  → slice_index bytes 0 ∷ slice_index bytes 1 ∷ slice_index bytes 2 ∷ slice_index bytes 3 ∷ [] ≡ take 4 bytes
+    → slice_index bytes 0 ∷ slice_index bytes 1 ∷ slice_index bytes 2 ∷ slice_index bytes 3 ∷ [] ≡ take 4 bytes
 take_four [] whole = absurd (omega arith)
 take_four (a ∷ []) whole = absurd (omega arith)
 take_four (a ∷ b ∷ []) whole = absurd (omega arith)
@@ -51,40 +51,40 @@ take_four (a ∷ b ∷ c ∷ []) whole = absurd (omega arith)
 take_four (a ∷ b ∷ c ∷ d ∷ bytes) whole = refl
 
 pub two_number : (bytes : List ℕ) → 2 ≤ length bytes
-  → from_le_bytes w16 (slice_index bytes 0 ∷ slice_index bytes 1 ∷ []) ≡ number_at (take 2 bytes)
+    → from_le_bytes w16 (slice_index bytes 0 ∷ slice_index bytes 1 ∷ []) ≡ number_at (take 2 bytes)
 two_number bytes whole =
-  from_le_bytes-number_at w16 (slice_index bytes 0 ∷ slice_index bytes 1 ∷ []) refl ∙ ap number_at (take_two bytes whole)
+    from_le_bytes-number_at w16 (slice_index bytes 0 ∷ slice_index bytes 1 ∷ []) refl ∙ ap number_at (take_two bytes whole)
 
 pub four_number : (bytes : List ℕ) → 4 ≤ length bytes
-  → from_le_bytes w32 (slice_index bytes 0 ∷ slice_index bytes 1 ∷ slice_index bytes 2 ∷ slice_index bytes 3 ∷ [])
+    → from_le_bytes w32 (slice_index bytes 0 ∷ slice_index bytes 1 ∷ slice_index bytes 2 ∷ slice_index bytes 3 ∷ [])
     ≡ number_at (take 4 bytes)
 four_number bytes whole =
-  from_le_bytes-number_at w32 (slice_index bytes 0 ∷ slice_index bytes 1 ∷ slice_index bytes 2 ∷ slice_index bytes 3 ∷ []) refl
-  ∙ ap number_at (take_four bytes whole)
+    from_le_bytes-number_at w32 (slice_index bytes 0 ∷ slice_index bytes 1 ∷ slice_index bytes 2 ∷ slice_index bytes 3 ∷ []) refl
+    ∙ ap number_at (take_four bytes whole)
 
 -- a long number and a short one
 pub two_long : (number : ℕ) (bytes : List ℕ) → 2 ≤ length bytes → number ≡ number_at (take 2 bytes) → number / 4 < 64
-  → first_reason (mode_reasons 8 TwoBytes bytes) ≡ Some NotShortest
+    → first_reason (mode_reasons 8 TwoBytes bytes) ≡ Some NotShortest
 two_long number bytes whole number_is below =
-  mode_long 8 TwoBytes bytes refl whole
+    mode_long 8 TwoBytes bytes refl whole
     (ap (λ (n : ℕ). nat_lt (n / 4) 64) (sym number_is) ∙ lt-ltb (number / 4) 64 below)
 
 pub two_none : (number : ℕ) (bytes : List ℕ) → 2 ≤ length bytes → number ≡ number_at (take 2 bytes) → 64 ≤ number / 4
-  → first_reason (mode_reasons 8 TwoBytes bytes) ≡ None
+    → first_reason (mode_reasons 8 TwoBytes bytes) ≡ None
 two_none number bytes whole number_is above =
-  mode_none 8 TwoBytes bytes refl whole
+    mode_none 8 TwoBytes bytes refl whole
     (ap (λ (n : ℕ). nat_lt (n / 4) 64) (sym number_is) ∙ le-ltb (number / 4) 64 above)
 
 pub four_long : (number : ℕ) (bytes : List ℕ) → 4 ≤ length bytes → number ≡ number_at (take 4 bytes) → number / 4 < 2 ^ 14
-  → first_reason (mode_reasons 8 FourBytes bytes) ≡ Some NotShortest
+    → first_reason (mode_reasons 8 FourBytes bytes) ≡ Some NotShortest
 four_long number bytes whole number_is below =
-  mode_long 8 FourBytes bytes refl whole
+    mode_long 8 FourBytes bytes refl whole
     (ap (λ (n : ℕ). nat_lt (n / 4) (2 ^ 14)) (sym number_is) ∙ lt-ltb (number / 4) (2 ^ 14) below)
 
 pub four_none : (number : ℕ) (bytes : List ℕ) → 4 ≤ length bytes → number ≡ number_at (take 4 bytes) → 2 ^ 14 ≤ number / 4
-  → first_reason (mode_reasons 8 FourBytes bytes) ≡ None
+    → first_reason (mode_reasons 8 FourBytes bytes) ≡ None
 four_none number bytes whole number_is above =
-  mode_none 8 FourBytes bytes refl whole
+    mode_none 8 FourBytes bytes refl whole
     (ap (λ (n : ℕ). nat_lt (n / 4) (2 ^ 14)) (sym number_is) ∙ le-ltb (number / 4) (2 ^ 14) above)
 
 -- ## Up to eight bytes in a field of eight
@@ -112,12 +112,12 @@ rest_of_zeros (suc (suc (suc (suc (suc (suc (suc zero))))))) = refl
 rest_of_zeros (suc (suc (suc (suc (suc (suc (suc (suc count)))))))) = none_of_none count
 
 pub wide_number : (bytes : List ℕ) → length bytes ≤ 8
-  → from_le_bytes w64 (bytes ++ drop (length bytes) (0 ∷ 0 ∷ 0 ∷ 0 ∷ 0 ∷ 0 ∷ 0 ∷ 0 ∷ [])) ≡ number_at bytes
+    → from_le_bytes w64 (bytes ++ drop (length bytes) (0 ∷ 0 ∷ 0 ∷ 0 ∷ 0 ∷ 0 ∷ 0 ∷ 0 ∷ [])) ≡ number_at bytes
 wide_number bytes few =
-  let long : length (bytes ++ drop (length bytes) (0 ∷ 0 ∷ 0 ∷ 0 ∷ 0 ∷ 0 ∷ 0 ∷ 0 ∷ [])) ≡ 8 =
-      omega (arith, length-append {A = ℕ} bytes (drop (length bytes) (0 ∷ 0 ∷ 0 ∷ 0 ∷ 0 ∷ 0 ∷ 0 ∷ 0 ∷ [])), length-drop {A = ℕ} (length bytes) (0 ∷ 0 ∷ 0 ∷ 0 ∷ 0 ∷ 0 ∷ 0 ∷ 0 ∷ [])) in
-  from_le_bytes-number_at w64 (bytes ++ drop (length bytes) (0 ∷ 0 ∷ 0 ∷ 0 ∷ 0 ∷ 0 ∷ 0 ∷ 0 ∷ [])) long
-  ∙ number_at-zeros bytes (drop (length bytes) (0 ∷ 0 ∷ 0 ∷ 0 ∷ 0 ∷ 0 ∷ 0 ∷ 0 ∷ [])) (rest_of_zeros (length bytes))
+    let long : length (bytes ++ drop (length bytes) (0 ∷ 0 ∷ 0 ∷ 0 ∷ 0 ∷ 0 ∷ 0 ∷ 0 ∷ [])) ≡ 8 =
+    omega (arith, length-append {A = ℕ} bytes (drop (length bytes) (0 ∷ 0 ∷ 0 ∷ 0 ∷ 0 ∷ 0 ∷ 0 ∷ 0 ∷ [])), length-drop {A = ℕ} (length bytes) (0 ∷ 0 ∷ 0 ∷ 0 ∷ 0 ∷ 0 ∷ 0 ∷ 0 ∷ [])) in
+    from_le_bytes-number_at w64 (bytes ++ drop (length bytes) (0 ∷ 0 ∷ 0 ∷ 0 ∷ 0 ∷ 0 ∷ 0 ∷ 0 ∷ [])) long
+    ∙ number_at-zeros bytes (drop (length bytes) (0 ∷ 0 ∷ 0 ∷ 0 ∷ 0 ∷ 0 ∷ 0 ∷ 0 ∷ [])) (rest_of_zeros (length bytes))
 
 -- ## What the range of a type adds
 
@@ -128,8 +128,8 @@ numbered_else (suc (suc zero)) three = absurd (omega arith)
 numbered_else (suc (suc (suc number))) three = refl
 
 pub big_refused : (most limit : ℕ) (bytes : List ℕ) (why : Why) → 0 < length bytes → 3 ≤ slice_index bytes 0 % 4
-  → first_reason (mode_reasons most Big bytes) ≡ Some why → compact_refusal most limit bytes ≡ Some why
+    → first_reason (mode_reasons most Big bytes) ≡ Some why → compact_refusal most limit bytes ≡ Some why
 big_refused most limit bytes why some three refused =
-  subst (λ (mode : Mode). first_reason (compact_reasons most limit mode bytes) ≡ Some why) (sym (numbered_else (slice_index bytes 0 % 4) three)) (
+    subst (λ (mode : Mode). first_reason (compact_reasons most limit mode bytes) ≡ Some why) (sym (numbered_else (slice_index bytes 0 % 4) three)) (
     passed (lacks 1 bytes) Short (mode_reasons most Big bytes ++ (nat_le limit (number_in Big bytes), TooWide) ∷ []) (Some why) (not_lacking 1 bytes some)
-      (more_reasons (mode_reasons most Big bytes) ((nat_le limit (number_in Big bytes), TooWide) ∷ []) why refused))
+    (more_reasons (mode_reasons most Big bytes) ((nat_le limit (number_in Big bytes), TooWide) ∷ []) why refused))

@@ -105,7 +105,7 @@ module _ {W : Type 0} (tag_of : W → ℕ) (variants : List (Form W)) where
   pub tagged_err : (old here mid new : Place) (tag : ℕ) (fault : ReadFault) → here ≡ old → IsRead (tag_form (length variants)) here tag mid → Reads (variant_at variants tag) mid (Err fault) new → Reads (tagged tag_of variants) old (Err fault) old
   tagged_err old here mid new tag (Wire fault) same read refused =
       subst (λ (o : Place). IsFault (tagged tag_of variants) o fault o) same
-        (behind_fault (tag_form (length variants)) (λ t. (variant_at variants t).bad) here mid new tag fault read refused)
+      (behind_fault (tag_form (length variants)) (λ t. (variant_at variants t).bad) here mid new tag fault read refused)
   tagged_err old here mid new tag NoMemory same read refused = tt
 
   -- the tag was read, and the fields behind it
@@ -115,7 +115,7 @@ module _ {W : Type 0} (tag_of : W → ℕ) (variants : List (Form W)) where
       subst (λ (o : Place). IsRead (tagged tag_of variants) o value new) same (tagged_at tag (tag_of value) has_tag here mid new value read more)
     where
       tagged_at : (tag tag' : ℕ) → tag ≡ tag' → (here mid new : Place) (value : W) → IsRead (tag_form (length variants)) here tag mid → IsRead (variant_at variants tag) mid value new
-        → Passes ((tag' < length variants) × (variant_at variants tag').in_range value) (tag' ∷ (variant_at variants tag').spelling value) here new
+          → Passes ((tag' < length variants) × (variant_at variants tag').in_range value) (tag' ∷ (variant_at variants tag').spelling value) here new
       tagged_at tag tag' has_tag here mid new value read more =
           subst (λ (t : ℕ). Passes ((t < length variants) × (variant_at variants t).in_range value) (t ∷ (variant_at variants t).spelling value) here new) has_tag record {
             in_range = (read.in_range, more.in_range);

@@ -17,19 +17,19 @@ pub record IsLeast (number count : ℕ) : Type 0 where
 -- that count, of a number of at most 8 bytes
 unfoldable pub least_bytes : ℕ → ℕ
 least_bytes number =
-  if nat_lt number (256 ^ 4) then 4
-  else if nat_lt number (256 ^ 5) then 5
-  else if nat_lt number (256 ^ 6) then 6
-  else if nat_lt number (256 ^ 7) then 7
-  else 8
+    if nat_lt number (256 ^ 4) then 4
+    else if nat_lt number (256 ^ 5) then 5
+    else if nat_lt number (256 ^ 6) then 6
+    else if nat_lt number (256 ^ 7) then 7
+    else 8
 
 -- The lowest two bits are the mode. The longest mode says by the upper six how many value bytes follow.
 unfoldable pub compact_bytes : ℕ → List ℕ
 compact_bytes number =
-  if nat_lt number 64 then little_endian 1 (4 * number)
-  else if nat_lt number (2 ^ 14) then little_endian 2 (4 * number + 1)
-  else if nat_lt number (2 ^ 30) then little_endian 4 (4 * number + 2)
-  else (4 * (least_bytes number - 4) + 3) ∷ little_endian (least_bytes number) number
+    if nat_lt number 64 then little_endian 1 (4 * number)
+    else if nat_lt number (2 ^ 14) then little_endian 2 (4 * number + 1)
+    else if nat_lt number (2 ^ 30) then little_endian 4 (4 * number + 2)
+    else (4 * (least_bytes number - 4) + 3) ∷ little_endian (least_bytes number) number
 
 -- ## Reading
 
@@ -84,12 +84,12 @@ is_longer_in Big bytes = nat_lt (number_in Big bytes) (2 ^ 30) || nat_eq (slice_
 -- numbers below `limit`
 abbrev pub compact_reasons : ℕ → ℕ → Mode → List ℕ → List (Bool × Why)
 compact_reasons most limit mode bytes =
-  (lacks 1 bytes, Short)
-  ∷ (announces_over most mode bytes, TooWide)
-  ∷ (lacks (bytes_in mode bytes) bytes, Short)
-  ∷ (is_longer_in mode bytes, NotShortest)
-  ∷ (nat_le limit (number_in mode bytes), TooWide)
-  ∷ []
+    (lacks 1 bytes, Short)
+    ∷ (announces_over most mode bytes, TooWide)
+    ∷ (lacks (bytes_in mode bytes) bytes, Short)
+    ∷ (is_longer_in mode bytes, NotShortest)
+    ∷ (nat_le limit (number_in mode bytes), TooWide)
+    ∷ []
 
 -- the first of them that applies
 abbrev pub compact_refusal : ℕ → ℕ → List ℕ → Option Why

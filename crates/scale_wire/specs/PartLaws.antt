@@ -17,7 +17,7 @@ use Rattle.scale_wire.specs.Parts.{IsHead, missing_refusal, fixed, byte_string, 
 -- `value` and `size` read the bytes that are not refused.
 pub record IsPart {V : Type 0} (spelling : V → List ℕ) (fits : V → Type 0) (refusal : List ℕ → Option Why) (most : ℕ) (value : List ℕ → V) (size : List ℕ → ℕ) : Type 0 where
   pub head : (bytes : List ℕ) → IsBytes bytes → refusal bytes ≡ None
-    → IsHead (part spelling fits refusal most) bytes (value bytes) (size bytes)
+      → IsHead (part spelling fits refusal most) bytes (value bytes) (size bytes)
   pub kept : (x : V) (rest : List ℕ) → fits x → refusal (spelling x ++ rest) ≡ None
   pub back : (x : V) (rest : List ℕ) → fits x → value (spelling x ++ rest) ≡ x
   pub persists : (bytes more : List ℕ) (why : Why) → why ≢ Short → refusal bytes ≡ Some why → refusal (bytes ++ more) ≡ Some why
@@ -37,10 +37,10 @@ module _ {V : Type 0} (spelling : V → List ℕ) (fits : V → Type 0) (refusal
   part_covers : (bytes : List ℕ) → IsBytes bytes → Begins (part spelling fits refusal most) bytes ⊎ IsRefused (part spelling fits refusal most) bytes
   part_covers bytes are_bytes =
       elim (is_refused_or_not (refusal bytes)) [
-        inl kept ↦
-          let is_head = laws.head bytes are_bytes kept in
-          inl record { value = value bytes; in_range = is_head.in_range; rest = drop (size bytes) bytes; whole = is_head.whole; }
-      | inr refused ↦ inr record { at = 0; why = refused.0; bad = (refl, refused.1); }
+        | inl kept ↦
+            let is_head = laws.head bytes are_bytes kept in
+            inl record { value = value bytes; in_range = is_head.in_range; rest = drop (size bytes) bytes; whole = is_head.whole }
+        | inr refused ↦ inr record { at = 0; why = refused.0; bad = (refl, refused.1) }
       ]
 
   pub part_laws : IsWire (part spelling fits refusal most)
@@ -58,24 +58,24 @@ module _ {V : Type 0} (spelling : V → List ℕ) (fits : V → Type 0) (refusal
 
 -- no reason applies: neither the first nor one of the others
 pub none_applies : (applies : Bool) (why : Why) (more : List (Bool × Why))
-  → first_reason ((applies, why) ∷ more) ≡ None → (applies ≡ false) × (first_reason more ≡ None)
+    → first_reason ((applies, why) ∷ more) ≡ None → (applies ≡ false) × (first_reason more ≡ None)
 none_applies true why more none = cc
 none_applies false why more none = (refl, none)
 
 -- the first reason applies, or else the first of the others that does
 pub one_applies : (applies : Bool) (why : Why) (more : List (Bool × Why)) (given : Why)
-  → first_reason ((applies, why) ∷ more) ≡ Some given
-  → ((applies ≡ true) × (given ≡ why)) ⊎ ((applies ≡ false) × (first_reason more ≡ Some given))
+    → first_reason ((applies, why) ∷ more) ≡ Some given
+    → ((applies ≡ true) × (given ≡ why)) ⊎ ((applies ≡ false) × (first_reason more ≡ Some given))
 one_applies true why more given some = inl (refl, cc)
 one_applies false why more given some = inr (refl, some)
 
 pub passed : (applies : Bool) (why : Why) (more : List (Bool × Why)) (answer : Option Why)
-  → applies ≡ false → first_reason more ≡ answer → first_reason ((applies, why) ∷ more) ≡ answer
+    → applies ≡ false → first_reason more ≡ answer → first_reason ((applies, why) ∷ more) ≡ answer
 passed true why more answer is_false rest = cc
 passed false why more answer is_false rest = rest
 
 pub applied : (applies : Bool) (why : Why) (more : List (Bool × Why))
-  → applies ≡ true → first_reason ((applies, why) ∷ more) ≡ Some why
+    → applies ≡ true → first_reason ((applies, why) ∷ more) ≡ Some why
 applied true why more is_true = refl
 applied false why more is_true = cc
 
@@ -96,12 +96,12 @@ pub none_from_whole : (count : ℕ) (bytes : List ℕ) → count ≤ length byte
 none_from_whole count bytes whole = passed (lacks count bytes) Short [] None (not_lacking count bytes whole) refl
 
 pub short_from_some : (count : ℕ) (bytes : List ℕ) (why : Why) → missing_refusal count bytes ≡ Some why
-  → (why ≡ Short) × (length bytes < count)
+    → (why ≡ Short) × (length bytes < count)
 short_from_some count bytes why some =
-  elim (one_applies (lacks count bytes) Short [] why some) [
-    inl here ↦ (here.1, ltb-true (length bytes) count here.0)
-  | inr later ↦ let no : None ≡ Some why = later.1 in cc
-  ]
+    elim (one_applies (lacks count bytes) Short [] why some) [
+      | inl here ↦ (here.1, ltb-true (length bytes) count here.0)
+      | inr later ↦ let no : None ≡ Some why = later.1 in cc
+    ]
 
 -- What reads exactly `count` bytes, and is given back by its spelling, makes a part.
 pub record IsFixedSize {V : Type 0} (count : ℕ) (spelling : V → List ℕ) (fits : V → Type 0) (value : List ℕ → V) : Type 0 where
@@ -112,7 +112,7 @@ pub record IsFixedSize {V : Type 0} (count : ℕ) (spelling : V → List ℕ) (f
 
 module _ {V : Type 0} (count : ℕ) (spelling : V → List ℕ) (fits : V → Type 0) (value : List ℕ → V) (whole : IsFixedSize count spelling fits value) where
   whole_head : (bytes : List ℕ) → IsBytes bytes → missing_refusal count bytes ≡ None
-    → IsHead (part spelling fits (missing_refusal count) count) bytes (value (take count bytes)) count
+      → IsHead (part spelling fits (missing_refusal count) count) bytes (value (take count bytes)) count
   whole_head bytes are_bytes none =
       let long : length (take count bytes) ≡ count = length-take-le count bytes (whole_from_none count bytes none) in
       let joined : take count bytes ++ drop count bytes ≡ bytes = take-append-drop count bytes in
@@ -148,9 +148,9 @@ pub fixed_laws : (count : ℕ) → IsWire (fixed count)
 fixed_laws count = whole_laws count (little_endian count) (λ number. number < 256 ^ count) number_at (fixed_whole count)
 
 pub fixed_head : (count : ℕ) (bytes : List ℕ) → IsBytes bytes → count ≤ length bytes
-  → IsHead (fixed count) bytes (number_at (take count bytes)) count
+    → IsHead (fixed count) bytes (number_at (take count bytes)) count
 fixed_head count bytes are_bytes whole =
-  (whole_part count (little_endian count) (λ number. number < 256 ^ count) number_at (fixed_whole count)).head bytes are_bytes
+    (whole_part count (little_endian count) (λ number. number < 256 ^ count) number_at (fixed_whole count)).head bytes are_bytes
     (none_from_whole count bytes whole)
 
 string_whole : (count : ℕ) → IsFixedSize count (λ bytes. bytes) (λ bytes. (length bytes ≡ count) × IsBytes bytes) (λ bytes. bytes)
@@ -163,47 +163,47 @@ string_whole count = record {
 
 pub byte_string_laws : (count : ℕ) → IsWire (byte_string count)
 byte_string_laws count =
-  whole_laws count (λ bytes. bytes) (λ bytes. (length bytes ≡ count) × IsBytes bytes) (λ bytes. bytes) (string_whole count)
+    whole_laws count (λ bytes. bytes) (λ bytes. (length bytes ≡ count) × IsBytes bytes) (λ bytes. bytes) (string_whole count)
 
 -- ## Tags
 
 tag_head : (below : ℕ) (bytes : List ℕ) → IsBytes bytes → tag_refusal below bytes ≡ None
-  → IsHead (tag_form below) bytes (slice_index bytes 0) 1
+    → IsHead (tag_form below) bytes (slice_index bytes 0) 1
 tag_head below [] are_bytes none = cc
 tag_head below (tag ∷ rest) are_bytes none =
-  let fits = none_applies (lacks 1 (tag ∷ rest)) Short ((nat_le below tag, BadTag) ∷ []) none in
-  let fits' = none_applies (nat_le below tag) BadTag [] fits.1 in
-  record { in_range = leb-false below tag fits'.0; whole = refl; size_is = refl; }
+    let fits = none_applies (lacks 1 (tag ∷ rest)) Short ((nat_le below tag, BadTag) ∷ []) none in
+    let fits' = none_applies (nat_le below tag) BadTag [] fits.1 in
+    record { in_range = leb-false below tag fits'.0; whole = refl; size_is = refl }
 
 tag_kept : (below tag : ℕ) (rest : List ℕ) → tag < below → tag_refusal below (tag ∷ rest) ≡ None
 tag_kept below tag rest fits =
-  passed (lacks 1 (tag ∷ rest)) Short ((nat_le below tag, BadTag) ∷ []) None (not_lacking 1 (tag ∷ rest) (omega arith))
+    passed (lacks 1 (tag ∷ rest)) Short ((nat_le below tag, BadTag) ∷ []) None (not_lacking 1 (tag ∷ rest) (omega arith))
     (passed (nat_le below tag) BadTag [] None (lt-leb below tag fits) refl)
 
 tag_persists : (below : ℕ) (bytes more : List ℕ) (why : Why) → why ≢ Short → tag_refusal below bytes ≡ Some why
-  → tag_refusal below (bytes ++ more) ≡ Some why
+    → tag_refusal below (bytes ++ more) ≡ Some why
 tag_persists below [] more why not_short some = absurd (not_short cc)
 tag_persists below (tag ∷ rest) more why not_short some =
-  elim (one_applies (lacks 1 (tag ∷ rest)) Short ((nat_le below tag, BadTag) ∷ []) why some) [
-    inl here ↦ absurd (not_short here.1)
-  | inr later ↦
-      passed (lacks 1 (tag ∷ (rest ++ more))) Short ((nat_le below tag, BadTag) ∷ []) (Some why)
-        (not_lacking 1 (tag ∷ (rest ++ more)) (omega arith)) later.1
-  ]
+    elim (one_applies (lacks 1 (tag ∷ rest)) Short ((nat_le below tag, BadTag) ∷ []) why some) [
+      | inl here ↦ absurd (not_short here.1)
+      | inr later ↦
+          passed (lacks 1 (tag ∷ (rest ++ more))) Short ((nat_le below tag, BadTag) ∷ []) (Some why)
+          (not_lacking 1 (tag ∷ (rest ++ more)) (omega arith)) later.1
+    ]
 
 tag_short : (below : ℕ) (bytes : List ℕ) → tag_refusal below bytes ≡ Some Short → length bytes < 1
 tag_short below bytes some =
-  elim (one_applies (lacks 1 bytes) Short ((nat_le below (slice_index bytes 0), BadTag) ∷ []) Short some) [
-    inl here ↦ ltb-true (length bytes) 1 here.0
-  | inr later ↦
-      elim (one_applies (nat_le below (slice_index bytes 0)) BadTag [] Short later.1) [
-        inl here ↦ let other : Short ≡ BadTag = here.1 in cc
-      | inr end ↦ let other : None ≡ Some Short = end.1 in cc
-      ]
-  ]
+    elim (one_applies (lacks 1 bytes) Short ((nat_le below (slice_index bytes 0), BadTag) ∷ []) Short some) [
+      | inl here ↦ ltb-true (length bytes) 1 here.0
+      | inr later ↦
+          elim (one_applies (nat_le below (slice_index bytes 0)) BadTag [] Short later.1) [
+            | inl here ↦ let other : Short ≡ BadTag = here.1 in cc
+            | inr end ↦ let other : None ≡ Some Short = end.1 in cc
+          ]
+    ]
 
 tag_part : (below : ℕ)
-  → IsPart (λ tag. tag ∷ []) (λ tag. tag < below) (tag_refusal below) 1 (λ bytes. slice_index bytes 0) (λ _. 1)
+    → IsPart (λ tag. tag ∷ []) (λ tag. tag < below) (tag_refusal below) 1 (λ bytes. slice_index bytes 0) (λ _. 1)
 tag_part below = record {
   head = tag_head below;
   kept = tag_kept below;
@@ -215,4 +215,4 @@ tag_part below = record {
 
 pub tag_laws : (below : ℕ) → IsWire (tag_form below)
 tag_laws below =
-  part_laws (λ tag. tag ∷ []) (λ tag. tag < below) (tag_refusal below) 1 (λ bytes. slice_index bytes 0) (λ _. 1) (tag_part below)
+    part_laws (λ tag. tag ∷ []) (λ tag. tag < below) (tag_refusal below) 1 (λ bytes. slice_index bytes 0) (λ _. 1) (tag_part below)

@@ -29,7 +29,7 @@ fixed_u128 = fixed 16
 -- an account, its 32 bytes as they are
 abbrev pub account_form : Form AccountId
 account_form =
-  part account_bytes (λ account. (account.hi < 2 ^ 128) × (account.lo < 2 ^ 128)) (missing_refusal 32) 32
+    part account_bytes (λ account. (account.hi < 2 ^ 128) × (account.lo < 2 ^ 128)) (missing_refusal 32) 32
 
 -- as many bytes as a length before them says
 abbrev pub byte_string : ℕ → Form (List ℕ)
@@ -57,7 +57,7 @@ compact_u64 = compact_form 8 (2 ^ 64) 9
 
 abbrev pub length_refusal : ℕ → List ℕ → Option Why
 length_refusal limit bytes =
-  first_reason (compact_reasons 4 (2 ^ 32) (mode_of bytes) bytes ++ (nat_lt limit (number_in (mode_of bytes) bytes), TooMany) ∷ [])
+    first_reason (compact_reasons 4 (2 ^ 32) (mode_of bytes) bytes ++ (nat_lt limit (number_in (mode_of bytes) bytes), TooMany) ∷ [])
 
 -- the length of a list that has at most `limit` items: a compact u32
 abbrev pub length_form : ℕ → Form ℕ

@@ -18,10 +18,10 @@ edge_form = seen (triple compact_u32 compact_u16 compact_u64) (λ edge. (edge.vo
 
 pub score_laws : IsWire score_form
 score_laws = seen_laws (triple compact_u64 compact_u64 fixed_u128) (λ score. (score.minimal, score.sum, score.squares))
-  (λ fields. record { minimal = fields.0; sum = fields.1; squares = fields.2 }) (λ _. refl) (λ _. refl)
-  (triple_laws compact_u64 compact_u64 fixed_u128 compact_u64_laws compact_u64_laws (fixed_laws 16))
+    (λ fields. record { minimal = fields.0; sum = fields.1; squares = fields.2 }) (λ _. refl) (λ _. refl)
+    (triple_laws compact_u64 compact_u64 fixed_u128 compact_u64_laws compact_u64_laws (fixed_laws 16))
 
 pub edge_laws : IsWire edge_form
 edge_laws = seen_laws (triple compact_u32 compact_u16 compact_u64) (λ edge. (edge.voter, edge.target, edge.amount))
-  (λ fields. record { voter = fields.0; target = fields.1; amount = fields.2 }) (λ _. refl) (λ _. refl)
-  (triple_laws compact_u32 compact_u16 compact_u64 compact_u32_laws compact_u16_laws compact_u64_laws)
+    (λ fields. record { voter = fields.0; target = fields.1; amount = fields.2 }) (λ _. refl) (λ _. refl)
+    (triple_laws compact_u32 compact_u16 compact_u64 compact_u32_laws compact_u16_laws compact_u64_laws)

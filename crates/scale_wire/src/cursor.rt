@@ -197,7 +197,7 @@ impl<'a> Cursor<'a> {
 fn split_front(bytes: &[u8], n: usize) -> Option<(&[u8], &[u8])>
     ensures { MatchOption result (length bytes.now < n)
         (λ parts. (n ≤ length bytes.now) × (parts.0.now ≡ take n bytes.now) × (parts.1.now ≡ drop n bytes.now)
-            × IsBytes parts.0.now) }
+        × IsBytes parts.0.now) }
 {
     if n <= bytes.len() {
         Some(bytes.split_at(n))

@@ -10,62 +10,52 @@ use crate::Wire;
 /// have one spelling.
 pub fn values_are_read_back<T: Wire>()
     ensures { IsReadBack T.form }
-{
-}
+{}
 
 /// All bytes begin with the spelling of exactly one value in range, or are refused at exactly one place and for exactly
 /// one reason.
 pub fn bytes_are_decided<T: Wire>()
     ensures { IsDecided T.form }
-{
-}
+{}
 
 /// The same of a whole input, in which a byte behind the value is refused as `Trailing`.
 pub fn whole_inputs_are_decided<T: Wire>()
     ensures { IsDecidedWhole T.form }
-{
-}
+{}
 
 /// A refusal that is not `Short` stands whatever follows.
 pub fn faults_persist<T: Wire>()
     ensures { FaultsPersist T.form }
-{
-}
+{}
 
 /// No spelling is longer than the form's `longest`, and bytes that are refused as `Short` are fewer than that.
 pub fn spellings_are_bounded<T: Wire>()
     ensures { IsBounded T.form }
-{
-}
+{}
 
 /// Numbers of one, four and sixteen bytes keep what every form keeps.
 pub fn fixed_numbers_keep_the_laws()
     ensures one { IsWire fixed_u8 }
     ensures four { IsWire fixed_u32 }
     ensures sixteen { IsWire fixed_u128 }
-{
-}
+{}
 
 /// Strings of as many bytes keep what every form keeps.
 pub fn byte_strings_keep_the_laws(count: usize)
     ensures { IsWire (byte_string count) }
-{
-}
+{}
 
 /// Tags below a number keep what every form keeps.
 pub fn tags_keep_the_laws(below: u8)
     ensures { IsWire (tag_form below) }
-{
-}
+{}
 
 /// Lengths up to a limit keep what every form keeps.
 pub fn lengths_keep_the_laws(limit: u32)
     ensures { IsWire (length_form limit) }
-{
-}
+{}
 
 /// The value bytes of a compact integer in its longest mode are the fewest, from four on, that hold it.
 pub fn value_bytes_are_the_fewest(number: u64)
     ensures { IsLeast number (least_bytes number) }
-{
-}
+{}

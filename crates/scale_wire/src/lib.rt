@@ -17,4 +17,6 @@ mod wire_tests;
 pub use cursor::Cursor;
 pub use pen::Pen;
 pub use up_to::{BytesUpTo, UpTo};
-pub use wire::{read_bytes, read_list, read_whole, write_both, write_bytes, write_list, write_tag, Wire};
+pub use wire::{
+    Wire, read_bytes, read_list, read_whole, write_both, write_bytes, write_list, write_tag,
+};

@@ -1,5 +1,5 @@
 use crate::fault::{Why, WireFault};
-use crate::{read_whole, Cursor, Pen, Wire};
+use crate::{Cursor, Pen, Wire, read_whole};
 use npos_base::{AccountId, Edge, List, NoMemory, Score};
 use std::alloc::Global;
 use std::test::Fail;
@@ -11,7 +11,10 @@ const WORKED: [(u64, &[u8]); 7] = [
     (16_384, &[0x02, 0x00, 0x01, 0x00]),
     (1_073_741_823, &[0xfe, 0xff, 0xff, 0xff]),
     (1_073_741_824, &[0x03, 0x00, 0x00, 0x00, 0x40]),
-    (u64::MAX, &[0x13, 0xff, 0xff, 0xff, 0xff, 0xff, 0xff, 0xff, 0xff]),
+    (
+        u64::MAX,
+        &[0x13, 0xff, 0xff, 0xff, 0xff, 0xff, 0xff, 0xff, 0xff],
+    ),
 ];
 
 // The bits of the type, bytes that it refuses at their first, and the reason.
@@ -19,7 +22,11 @@ const REFUSED: [(u8, &[u8], Why); 6] = [
     (32, &[0x01, 0x00], Why::NotShortest),
     (64, &[0x07, 0x00, 0x00, 0x00, 0x40, 0x00], Why::NotShortest),
     (32, &[0x01], Why::Short),
-    (64, &[0x17, 0xff, 0xff, 0xff, 0xff, 0xff, 0xff, 0xff, 0xff, 0xff], Why::TooWide),
+    (
+        64,
+        &[0x17, 0xff, 0xff, 0xff, 0xff, 0xff, 0xff, 0xff, 0xff, 0xff],
+        Why::TooWide,
+    ),
     (16, &[0x02, 0x00, 0x04, 0x00], Why::TooWide),
     (32, &[0x07], Why::TooWide),
 ];
@@ -87,8 +94,20 @@ fn parts_are_read_in_order(rt: HostRuntime) -> Result<(), Fail> {
     let mut cursor = Cursor::new(&SPELLED, 0);
     assert_eq!(rt; read_parts(&mut cursor), Ok(VALUES));
     assert_eq!(rt; cursor.at(), 55);
-    assert_eq!(rt; cursor.take_bytes(3), Err(WireFault { at: 55, why: Why::Short }));
-    assert_eq!(rt; cursor.take_tag(0xaa), Err(WireFault { at: 55, why: Why::BadTag }));
+    assert_eq!(rt;
+        cursor.take_bytes(3),
+        Err(WireFault {
+            at: 55,
+            why: Why::Short
+        })
+    );
+    assert_eq!(rt;
+        cursor.take_tag(0xaa),
+        Err(WireFault {
+            at: 55,
+            why: Why::BadTag
+        })
+    );
     assert_eq!(rt; cursor.take_bytes(2), Ok([0xaa, 0xbb].as_slice()));
     assert_eq!(rt; cursor.rest().len(), 0);
     Ok(())
@@ -145,6 +164,9 @@ fn scores_and_edges_are_their_fields_in_order(rt: HostRuntime) -> Result<(), Fai
     let mut pen = Pen::new(rt.alloc());
     (SCORE, EDGE).write(&mut pen)?;
     assert_eq!(rt; pen.finish().as_slice(), FIGURES.as_slice());
-    assert_eq!(rt; read_whole::<(Score, Edge)>(rt.alloc(), &FIGURES), Ok((SCORE, EDGE)));
+    assert_eq!(rt;
+        read_whole::<(Score, Edge)>(rt.alloc(), &FIGURES),
+        Ok((SCORE, EDGE))
+    );
     Ok(())
 }

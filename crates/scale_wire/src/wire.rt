@@ -99,7 +99,11 @@ impl<A: Wire> Wire for Option<A> {
     fn read(alloc: Global, cursor: &mut Cursor<'_>) -> Result<Option<A>, ReadFault> {
         let mut here = cursor.fork();
         let tag = here.take_tag(2)?;
-        let value = if tag == 0 { None } else { Some(A::read(alloc, &mut here)?) };
+        let value = if tag == 0 {
+            None
+        } else {
+            Some(A::read(alloc, &mut here)?)
+        };
         *cursor = here;
         Ok(value)
     }
@@ -139,7 +143,11 @@ pub fn read_whole<T: Wire>(alloc: Global, bytes: &[u8]) -> Result<T, ReadFault>
 }
 
 /// Reads a list of at most `limit` items.
-pub fn read_list<T: Wire>(alloc: Global, cursor: &mut Cursor<'_>, limit: u32) -> Result<List<T>, ReadFault>
+pub fn read_list<T: Wire>(
+    alloc: Global,
+    cursor: &mut Cursor<'_>,
+    limit: u32,
+) -> Result<List<T>, ReadFault>
     ensures { Reads (list T.form limit) cursor.old result cursor.new }
 {
     let mut here = cursor.fork();
@@ -150,7 +158,11 @@ pub fn read_list<T: Wire>(alloc: Global, cursor: &mut Cursor<'_>, limit: u32) ->
 }
 
 // Reads this many items. Room for them is made at once where as many bytes are left.
-fn read_items<T: Wire>(alloc: Global, cursor: &mut Cursor<'_>, count: u32) -> Result<List<T>, ReadFault>
+fn read_items<T: Wire>(
+    alloc: Global,
+    cursor: &mut Cursor<'_>,
+    count: u32,
+) -> Result<List<T>, ReadFault>
     ensures { Reads (items_of T.form count) cursor.old result cursor.new }
 {
     let mut here = cursor.fork();

@@ -1,5 +1,5 @@
 use crate::fault::{ReadFault, Why, WireFault};
-use crate::{read_whole, BytesUpTo, Pen, UpTo, Wire};
+use crate::{BytesUpTo, Pen, UpTo, Wire, read_whole};
 use std::alloc::Global;
 use std::test::Fail;
 

@@ -5,7 +5,7 @@ use Rattle.scale_wire.proofs.compact.number_of.Goals as goal
 
 pub returns : goal.returns
 returns c =
-  let after : c.copy_from_slice.new.self ≡ c.args.bytes.now = c.copy_from_slice.ensures.after in
-  c.from_le_bytes.ensures
-  ∙ (ap (λ (bytes : List ℕ). from_le_bytes w64 (bytes ++ drop (length c.args.bytes.now) (0 ∷ 0 ∷ 0 ∷ 0 ∷ 0 ∷ 0 ∷ 0 ∷ 0 ∷ []))) after
-  ∙ wide_number c.args.bytes.now c.requires)
+    let after : c.copy_from_slice.new.self ≡ c.args.bytes.now = c.copy_from_slice.ensures.after in
+    c.from_le_bytes.ensures
+    ∙ (ap (λ (bytes : List ℕ). from_le_bytes w64 (bytes ++ drop (length c.args.bytes.now) (0 ∷ 0 ∷ 0 ∷ 0 ∷ 0 ∷ 0 ∷ 0 ∷ 0 ∷ []))) after
+    ∙ wide_number c.args.bytes.now c.requires)

@@ -6,5 +6,5 @@ use Rattle.scale_wire.proofs.cursor.Cursor.take_u32.Goals as goal
 
 pub returns : goal.returns
 returns c =
-  fixed_read 4 c.args.self.now c.take_array.new.self c.in_ok-take_array.field-0 c.from_le_bytes.result c.in_ok-take_array.ensures
+    fixed_read 4 c.args.self.now c.take_array.new.self c.in_ok-take_array.field-0 c.from_le_bytes.result c.in_ok-take_array.ensures
     (c.from_le_bytes.ensures ∙ from_le_bytes-number_at w32 c.in_ok-take_array.field-0 c.in_ok-take_array.ensures.in_range.0)
