@@ -6,6 +6,8 @@ mod block;
 mod call;
 mod genesis;
 pub mod laws;
+#[cfg(test)]
+mod tests;
 
 pub use block::Block;
 pub use call::{Call, CallKind};

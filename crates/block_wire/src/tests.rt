@@ -1,0 +1,170 @@
+use crate::{Block, CallKind, Endowment, Genesis, Params};
+use npos_base::{AccountId, List, NoMemory};
+use scale_wire::fault::{ReadFault, Why, WireFault};
+use scale_wire::{Pen, Wire, read_whole};
+use std::alloc::Global;
+use std::test::Fail;
+
+fn account(n: u128) -> AccountId {
+    AccountId { hi: 0, lo: n }
+}
+
+// A block with two transfers of account 1 to account 2, of 40 and of 61 units, as the stream has it.
+const BLOCK: [u8; 135] = [
+    0x01, 0x04, 0x08, // Some, block 1, two calls
+    0, 0, 0, 0, 0, 0, 0, 0, 0, 0, 0, 0, 0, 0, 0, 0, 0, 0, 0, 0, 0, 0, 0, 0, 0, 0, 0, 0, 0, 0, 0, 0x01, // who
+    0, // Transfer
+    0, 0, 0, 0, 0, 0, 0, 0, 0, 0, 0, 0, 0, 0, 0, 0, 0, 0, 0, 0, 0, 0, 0, 0, 0, 0, 0, 0, 0, 0, 0, 0x02, // to
+    0xa0, // 40
+    0, 0, 0, 0, 0, 0, 0, 0, 0, 0, 0, 0, 0, 0, 0, 0, 0, 0, 0, 0, 0, 0, 0, 0, 0, 0, 0, 0, 0, 0, 0, 0x01, // who
+    0, // Transfer
+    0, 0, 0, 0, 0, 0, 0, 0, 0, 0, 0, 0, 0, 0, 0, 0, 0, 0, 0, 0, 0, 0, 0, 0, 0, 0, 0, 0, 0, 0, 0, 0x02, // to
+    0xf4, // 61
+];
+
+// Account 1 has 100 units and account 2 has none.
+const PLAIN: [u8; 69] = [
+    0, 0x08, // Plain, two endowments
+    0, 0, 0, 0, 0, 0, 0, 0, 0, 0, 0, 0, 0, 0, 0, 0, 0, 0, 0, 0, 0, 0, 0, 0, 0, 0, 0, 0, 0, 0, 0, 0x01,
+    0x91, 0x01, // 100
+    0, 0, 0, 0, 0, 0, 0, 0, 0, 0, 0, 0, 0, 0, 0, 0, 0, 0, 0, 0, 0, 0, 0, 0, 0, 0, 0, 0, 0, 0, 0, 0x02,
+    0, // 0
+];
+
+const ENDOWMENTS: [Endowment; 2] = [
+    Endowment {
+        who: AccountId { hi: 0, lo: 1 },
+        value: 100,
+    },
+    Endowment {
+        who: AccountId { hi: 0, lo: 2 },
+        value: 0,
+    },
+];
+
+const FULL: [u8; 82] = [
+    0x01, 0x04, // Full, one endowment
+    0, 0, 0, 0, 0, 0, 0, 0, 0, 0, 0, 0, 0, 0, 0, 0, 0, 0, 0, 0, 0, 0, 0, 0, 0, 0, 0, 0, 0, 0, 0, 0x01,
+    0x04, // 1
+    0, 0, 0, 0, 0, 0, 0, 0, 0, 0, 0, 0, 0, 0, 0, 0, 0, 0, 0, 0, 0, 0, 0, 0, 0, 0, 0, 0, 0, 0, 0, 0x07, // root
+    0x08, 0x50, 0x08, 0x0c, 0x10, 0x04, // seats 2, eras of 20 blocks, offset 2, signed 3, bonding eras 4, least bond 1
+    0x08, 0x28, 0x91, 0x01, // the thresholds 10 and 100
+    0x14, 0x18, 0x1c, 0x20, 0x24, // queue 5, solutions of 6 bytes, deposit 7, reward 8, era reward 9
+];
+
+// Bytes that are refused as a whole genesis, the place and the reason.
+const REFUSED: [(&[u8], u64, Why); 4] = [
+    (&[], 0, Why::Short),
+    (&[0x09], 0, Why::BadTag),
+    (&[0x00, 0x06, 0x00, 0x04, 0x00], 1, Why::TooMany),
+    (&[0x00, 0x00, 0xff], 2, Why::Trailing),
+];
+
+// One call of each kind: its tag and its fields.
+const KINDS: [&[u8]; 15] = [
+    &[0, 0, 0, 0, 0, 0, 0, 0, 0, 0, 0, 0, 0, 0, 0, 0, 0, 0, 0, 0, 0, 0, 0, 0, 0, 0, 0, 0, 0, 0, 0, 0, 0x02, 0xa0],
+    &[0x01, 0xfc],
+    &[0x02, 0x01, 0x01],
+    &[0x03, 0xfd, 0xff],
+    &[0x04, 0x02, 0, 0x01, 0],
+    &[0x05],
+    &[0x06, 0x08, 0, 0, 0, 0, 0, 0, 0, 0, 0, 0, 0, 0, 0, 0, 0, 0, 0, 0, 0, 0, 0, 0, 0, 0, 0, 0, 0, 0, 0, 0, 0, 0x01, 0, 0, 0, 0, 0, 0, 0, 0, 0, 0, 0, 0, 0, 0, 0, 0, 0, 0, 0, 0, 0, 0, 0, 0, 0, 0, 0, 0, 0, 0, 0, 0x02],
+    &[0x07, 0x02, 0x28, 0x6b, 0xee],
+    &[0x08],
+    &[0x09, 0, 0, 0, 0, 0, 0, 0, 0, 0, 0, 0, 0, 0, 0, 0, 0, 0, 0, 0, 0, 0, 0, 0, 0, 0, 0, 0, 0, 0, 0, 0, 0x03],
+    &[0x0a, 0, 0, 0, 0, 0, 0, 0, 0, 0, 0, 0, 0, 0, 0, 0, 0, 0, 0, 0, 0, 0, 0, 0, 0, 0, 0, 0, 0, 0, 0, 0, 0x04],
+    &[0x0b, 0x04, 0xa0, 0x91, 0x01, 0x50, 0x14, 0, 0, 0, 0, 0, 0, 0, 0, 0, 0, 0, 0, 0, 0, 0x08, 0xaa, 0xbb],
+    &[0x0c, 0x08, 0, 0, 0, 0, 0, 0, 0, 0, 0, 0, 0, 0, 0, 0, 0, 0, 0, 0, 0, 0, 0, 0, 0, 0, 0, 0, 0, 0, 0, 0, 0, 0x01, 0x04, 0, 0, 0, 0, 0, 0, 0, 0, 0, 0, 0, 0, 0, 0, 0, 0, 0, 0, 0, 0, 0, 0, 0, 0, 0, 0, 0, 0, 0, 0, 0, 0x02, 0x08],
+    &[0x0d, 0x04, 0, 0, 0, 0, 0, 0, 0, 0, 0, 0, 0, 0, 0, 0, 0, 0, 0, 0, 0, 0, 0, 0, 0, 0, 0, 0, 0, 0, 0, 0, 0, 0x05],
+    &[0x0e, 0x04, 0, 0, 0, 0, 0, 0, 0, 0, 0, 0, 0, 0, 0, 0, 0, 0, 0, 0, 0, 0, 0, 0, 0, 0, 0, 0, 0, 0, 0, 0, 0, 0x06, 0x08],
+];
+
+#[test]
+fn a_block_of_two_transfers(rt: HostRuntime) -> Result<(), Fail> {
+    let block = read_whole::<Option<Block>>(rt.alloc(), &BLOCK)?;
+    assert_eq!(rt; written(rt.alloc(), &block)?.as_slice(), BLOCK.as_slice());
+    let block = block.ok_or("no block")?;
+    assert_eq!(rt; (block.number, block.calls.len()), (1, 2));
+    for (call, value) in block.calls.as_slice().iter().zip([40, 61]) {
+        assert_eq!(rt; call.who, account(1));
+        assert_eq!(rt; transfer_of(&call.kind), Some((account(2), value)));
+    }
+    Ok(())
+}
+
+fn transfer_of(kind: &CallKind) -> Option<(AccountId, u64)> {
+    match kind {
+        CallKind::Transfer { to, value } => Some((*to, *value)),
+        _ => None,
+    }
+}
+
+#[test]
+fn every_kind_of_call(rt: HostRuntime) -> Result<(), Fail> {
+    for bytes in KINDS {
+        let kind = read_whole::<CallKind>(rt.alloc(), bytes)?;
+        assert_eq!(rt; written(rt.alloc(), &kind)?.as_slice(), bytes);
+    }
+    Ok(())
+}
+
+#[test]
+fn a_plain_genesis(rt: HostRuntime) -> Result<(), Fail> {
+    let genesis = read_whole::<Genesis>(rt.alloc(), &PLAIN)?;
+    assert_eq!(rt; written(rt.alloc(), &genesis)?.as_slice(), PLAIN.as_slice());
+    let endowments = endowments_of(genesis).ok_or("not plain")?;
+    assert_eq!(rt; endowments.as_slice(), ENDOWMENTS.as_slice());
+    Ok(())
+}
+
+fn endowments_of(genesis: Genesis) -> Option<List<Endowment>> {
+    match genesis {
+        Genesis::Plain { endowments } => Some(endowments),
+        Genesis::Full { .. } => None,
+    }
+}
+
+fn params_of(genesis: Genesis) -> Option<Params> {
+    match genesis {
+        Genesis::Plain { .. } => None,
+        Genesis::Full { params, .. } => Some(params),
+    }
+}
+
+#[test]
+fn a_full_genesis(rt: HostRuntime) -> Result<(), Fail> {
+    let genesis = read_whole::<Genesis>(rt.alloc(), &FULL)?;
+    assert_eq!(rt; written(rt.alloc(), &genesis)?.as_slice(), FULL.as_slice());
+    let params = params_of(genesis).ok_or("not full")?;
+    assert_eq!(rt; params.root, account(7));
+    assert_eq!(rt; (params.seats, params.era_blocks, params.offset, params.signed), (2, 20, 2, 3));
+    assert_eq!(rt; (params.bonding_eras, params.least_bond), (4, 1));
+    assert_eq!(rt; params.thresholds.as_slice(), [10, 100].as_slice());
+    assert_eq!(rt; (params.queue, params.solution_max), (5, 6));
+    assert_eq!(rt; (params.deposit, params.reward, params.era_reward), (7, 8, 9));
+    Ok(())
+}
+
+#[test]
+fn refused_geneses(rt: HostRuntime) {
+    for (bytes, at, why) in REFUSED {
+        assert_eq!(rt; genesis_fault(rt.alloc(), bytes), Some(WireFault { at, why }));
+    }
+    let cut = &PLAIN[..40];
+    assert_eq!(rt; genesis_fault(rt.alloc(), cut), Some(WireFault { at: 36, why: Why::Short }));
+}
+
+fn genesis_fault(alloc: Global, bytes: &[u8]) -> Option<WireFault> {
+    match read_whole::<Genesis>(alloc, bytes) {
+        Err(ReadFault::Wire(fault)) => Some(fault),
+        _ => None,
+    }
+}
+
+fn written<T: Wire>(alloc: Global, value: &T) -> Result<List<u8>, NoMemory>
+    requires { T.form.in_range value.now }
+{
+    let mut pen = Pen::new(alloc);
+    value.write(&mut pen)?;
+    Ok(pen.finish())
+}
