@@ -6,8 +6,8 @@ use Rattle.std.proofs.lemmas.Bool.{lt-ltb, le-ltb}
 use Rattle.scale_wire.specs.declared.fault.Why.{Why}
 use Rattle.scale_wire.specs.declared.fault.Why.TheVariants.{Short, NotShortest, TooWide}
 use Rattle.scale_wire.specs.Form.{IsBytes}
-use Rattle.scale_wire.specs.LittleEndian.{number_at}
-use Rattle.scale_wire.specs.LittleEndianLaws.{from_le_bytes-number_at}
+use Rattle.scale_wire.specs.LittleEndian.{number_from}
+use Rattle.scale_wire.specs.LittleEndianLaws.{from_le_bytes-number_from}
 use Rattle.scale_wire.specs.Refusal.{first_reason, lacks}
 use Rattle.scale_wire.specs.Compact.{Mode, TwoBytes, FourBytes, Big, mode_numbered, compact_reasons, compact_refusal, bytes_in, number_in, announces_over, is_longer_in}
 use Rattle.scale_wire.specs.CompactSteps.{mode_reasons}
@@ -51,37 +51,37 @@ take_four (a ∷ b ∷ c ∷ []) whole = absurd (omega arith)
 take_four (a ∷ b ∷ c ∷ d ∷ bytes) whole = refl
 
 pub two_number : (bytes : List ℕ) → 2 ≤ length bytes
-    → from_le_bytes w16 (slice_index bytes 0 ∷ slice_index bytes 1 ∷ []) ≡ number_at (take 2 bytes)
+    → from_le_bytes w16 (slice_index bytes 0 ∷ slice_index bytes 1 ∷ []) ≡ number_from (take 2 bytes)
 two_number bytes whole =
-    from_le_bytes-number_at w16 (slice_index bytes 0 ∷ slice_index bytes 1 ∷ []) refl ∙ ap number_at (take_two bytes whole)
+    from_le_bytes-number_from w16 (slice_index bytes 0 ∷ slice_index bytes 1 ∷ []) refl ∙ ap number_from (take_two bytes whole)
 
 pub four_number : (bytes : List ℕ) → 4 ≤ length bytes
     → from_le_bytes w32 (slice_index bytes 0 ∷ slice_index bytes 1 ∷ slice_index bytes 2 ∷ slice_index bytes 3 ∷ [])
-    ≡ number_at (take 4 bytes)
+    ≡ number_from (take 4 bytes)
 four_number bytes whole =
-    from_le_bytes-number_at w32 (slice_index bytes 0 ∷ slice_index bytes 1 ∷ slice_index bytes 2 ∷ slice_index bytes 3 ∷ []) refl
-    ∙ ap number_at (take_four bytes whole)
+    from_le_bytes-number_from w32 (slice_index bytes 0 ∷ slice_index bytes 1 ∷ slice_index bytes 2 ∷ slice_index bytes 3 ∷ []) refl
+    ∙ ap number_from (take_four bytes whole)
 
 -- a long number and a short one
-pub two_long : (number : ℕ) (bytes : List ℕ) → 2 ≤ length bytes → number ≡ number_at (take 2 bytes) → number / 4 < 64
+pub two_long : (number : ℕ) (bytes : List ℕ) → 2 ≤ length bytes → number ≡ number_from (take 2 bytes) → number / 4 < 64
     → first_reason (mode_reasons 8 TwoBytes bytes) ≡ Some NotShortest
 two_long number bytes whole number_is below =
     mode_long 8 TwoBytes bytes refl whole
     (ap (λ (n : ℕ). nat_lt (n / 4) 64) (sym number_is) ∙ lt-ltb (number / 4) 64 below)
 
-pub two_none : (number : ℕ) (bytes : List ℕ) → 2 ≤ length bytes → number ≡ number_at (take 2 bytes) → 64 ≤ number / 4
+pub two_none : (number : ℕ) (bytes : List ℕ) → 2 ≤ length bytes → number ≡ number_from (take 2 bytes) → 64 ≤ number / 4
     → first_reason (mode_reasons 8 TwoBytes bytes) ≡ None
 two_none number bytes whole number_is above =
     mode_none 8 TwoBytes bytes refl whole
     (ap (λ (n : ℕ). nat_lt (n / 4) 64) (sym number_is) ∙ le-ltb (number / 4) 64 above)
 
-pub four_long : (number : ℕ) (bytes : List ℕ) → 4 ≤ length bytes → number ≡ number_at (take 4 bytes) → number / 4 < 2 ^ 14
+pub four_long : (number : ℕ) (bytes : List ℕ) → 4 ≤ length bytes → number ≡ number_from (take 4 bytes) → number / 4 < 2 ^ 14
     → first_reason (mode_reasons 8 FourBytes bytes) ≡ Some NotShortest
 four_long number bytes whole number_is below =
     mode_long 8 FourBytes bytes refl whole
     (ap (λ (n : ℕ). nat_lt (n / 4) (2 ^ 14)) (sym number_is) ∙ lt-ltb (number / 4) (2 ^ 14) below)
 
-pub four_none : (number : ℕ) (bytes : List ℕ) → 4 ≤ length bytes → number ≡ number_at (take 4 bytes) → 2 ^ 14 ≤ number / 4
+pub four_none : (number : ℕ) (bytes : List ℕ) → 4 ≤ length bytes → number ≡ number_from (take 4 bytes) → 2 ^ 14 ≤ number / 4
     → first_reason (mode_reasons 8 FourBytes bytes) ≡ None
 four_none number bytes whole number_is above =
     mode_none 8 FourBytes bytes refl whole
@@ -89,18 +89,18 @@ four_none number bytes whole number_is above =
 
 -- ## Up to eight bytes in a field of eight
 
-number_at-zeros : (bytes zeros : List ℕ) → number_at zeros ≡ 0 → number_at (bytes ++ zeros) ≡ number_at bytes
-unfolding number_at
-number_at-zeros [] zeros none = none
-number_at-zeros (byte ∷ bytes) zeros none = omega (arith, number_at-zeros bytes zeros none)
+number_from-zeros : (bytes zeros : List ℕ) → number_from zeros ≡ 0 → number_from (bytes ++ zeros) ≡ number_from bytes
+unfolding number_from
+number_from-zeros [] zeros none = none
+number_from-zeros (byte ∷ bytes) zeros none = omega (arith, number_from-zeros bytes zeros none)
 
-none_of_none : (count : ℕ) → number_at (drop count []) ≡ 0
-unfolding number_at
+none_of_none : (count : ℕ) → number_from (drop count []) ≡ 0
+unfolding number_from
 none_of_none zero = refl
 none_of_none (suc count) = refl
 
-rest_of_zeros : (count : ℕ) → number_at (drop count (0 ∷ 0 ∷ 0 ∷ 0 ∷ 0 ∷ 0 ∷ 0 ∷ 0 ∷ [])) ≡ 0
-unfolding number_at
+rest_of_zeros : (count : ℕ) → number_from (drop count (0 ∷ 0 ∷ 0 ∷ 0 ∷ 0 ∷ 0 ∷ 0 ∷ 0 ∷ [])) ≡ 0
+unfolding number_from
 rest_of_zeros zero = refl
 rest_of_zeros (suc zero) = refl
 rest_of_zeros (suc (suc zero)) = refl
@@ -112,12 +112,12 @@ rest_of_zeros (suc (suc (suc (suc (suc (suc (suc zero))))))) = refl
 rest_of_zeros (suc (suc (suc (suc (suc (suc (suc (suc count)))))))) = none_of_none count
 
 pub wide_number : (bytes : List ℕ) → length bytes ≤ 8
-    → from_le_bytes w64 (bytes ++ drop (length bytes) (0 ∷ 0 ∷ 0 ∷ 0 ∷ 0 ∷ 0 ∷ 0 ∷ 0 ∷ [])) ≡ number_at bytes
+    → from_le_bytes w64 (bytes ++ drop (length bytes) (0 ∷ 0 ∷ 0 ∷ 0 ∷ 0 ∷ 0 ∷ 0 ∷ 0 ∷ [])) ≡ number_from bytes
 wide_number bytes few =
     let long : length (bytes ++ drop (length bytes) (0 ∷ 0 ∷ 0 ∷ 0 ∷ 0 ∷ 0 ∷ 0 ∷ 0 ∷ [])) ≡ 8 =
     omega (arith, length-append {A = ℕ} bytes (drop (length bytes) (0 ∷ 0 ∷ 0 ∷ 0 ∷ 0 ∷ 0 ∷ 0 ∷ 0 ∷ [])), length-drop {A = ℕ} (length bytes) (0 ∷ 0 ∷ 0 ∷ 0 ∷ 0 ∷ 0 ∷ 0 ∷ 0 ∷ [])) in
-    from_le_bytes-number_at w64 (bytes ++ drop (length bytes) (0 ∷ 0 ∷ 0 ∷ 0 ∷ 0 ∷ 0 ∷ 0 ∷ 0 ∷ [])) long
-    ∙ number_at-zeros bytes (drop (length bytes) (0 ∷ 0 ∷ 0 ∷ 0 ∷ 0 ∷ 0 ∷ 0 ∷ 0 ∷ [])) (rest_of_zeros (length bytes))
+    from_le_bytes-number_from w64 (bytes ++ drop (length bytes) (0 ∷ 0 ∷ 0 ∷ 0 ∷ 0 ∷ 0 ∷ 0 ∷ 0 ∷ [])) long
+    ∙ number_from-zeros bytes (drop (length bytes) (0 ∷ 0 ∷ 0 ∷ 0 ∷ 0 ∷ 0 ∷ 0 ∷ 0 ∷ [])) (rest_of_zeros (length bytes))
 
 -- ## What the range of a type adds
 

@@ -6,8 +6,8 @@ use Rattle.scale_wire.specs.declared.fault.Why.TheVariants.{Short, BadTag, TooMa
 use Rattle.scale_wire.specs.declared.fault.WireFault.{WireFault}
 use Rattle.scale_wire.specs.Form.{IsBytes}
 use Rattle.scale_wire.specs.Reading.{Place, IsRead, IsFault}
-use Rattle.scale_wire.specs.LittleEndian.{little_endian, number_at}
-use Rattle.scale_wire.specs.LittleEndianLaws.{little_endian-number_at, number_at-bound}
+use Rattle.scale_wire.specs.LittleEndian.{little_endian, number_from}
+use Rattle.scale_wire.specs.LittleEndianLaws.{little_endian-number_from, number_from-bound}
 use Rattle.scale_wire.specs.Refusal.{lacks}
 use Rattle.scale_wire.specs.Compact.{mode_of, number_in, bytes_in, compact_bytes, compact_refusal}
 use Rattle.scale_wire.specs.Parts.{account_form, fixed, fixed_u8, byte_string, tag_form, tag_refusal, compact_form, compact_u32, length_form, length_refusal}
@@ -15,17 +15,18 @@ use Rattle.npos_base.specs.Account.{account_bytes, account_of}
 use Rattle.npos_base.specs.declared.account.AccountId.{AccountId}
 use Rattle.scale_wire.specs.AccountLaws.{fits_account, account_is}
 use Rattle.scale_wire.specs.PartLaws.{passed, applied, not_lacking}
-use Rattle.scale_wire.specs.CompactLaws.{Suits, compact_part, too_many}
+use Rattle.scale_wire.specs.CompactWriting.{Suits}
+use Rattle.scale_wire.specs.CompactLaws.{compact_part, too_many}
 
 -- the bytes that were taken are a number
 pub fixed_read : (count : ℕ) (old new : Place) (bytes : List ℕ) (number : ℕ) → IsRead (byte_string count) old bytes new
-    → number ≡ number_at bytes → IsRead (fixed count) old number new
+    → number ≡ number_from bytes → IsRead (fixed count) old number new
 fixed_read count old new bytes number read number_is =
     let long : length bytes ≡ count = read.in_range.0 in
     let spelled : little_endian count number ≡ bytes =
     subst (λ (n : ℕ). little_endian n number ≡ bytes) long
-    (ap (λ (n : ℕ). little_endian (length bytes) n) number_is ∙ little_endian-number_at bytes read.in_range.1) in
-    let below : number_at bytes < 256 ^ count = subst (λ (n : ℕ). number_at bytes < 256 ^ n) long (number_at-bound bytes read.in_range.1) in
+    (ap (λ (n : ℕ). little_endian (length bytes) n) number_is ∙ little_endian-number_from bytes read.in_range.1) in
+    let below : number_from bytes < 256 ^ count = subst (λ (n : ℕ). number_from bytes < 256 ^ n) long (number_from-bound bytes read.in_range.1) in
     record {
       in_range = subst (λ (n : ℕ). n < 256 ^ count) (sym number_is) below;
       whole = read.whole ∙ ap (λ (s : List ℕ). s ++ new.rest) (sym spelled);

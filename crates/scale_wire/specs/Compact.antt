@@ -3,7 +3,7 @@
 use Rattle.std.specs.Prelude.{ℕ, zero, suc, ◌+◌, ◌-◌, ◌*◌, ◌/◌, ◌%◌, ◌^◌, ◌<◌, ◌≤◌, Bool, false, ◌||◌, List, [], ◌∷◌, take, drop, slice_index, Option, if◌then◌else◌, nat_lt, nat_le, nat_eq}
 use Rattle.scale_wire.specs.declared.fault.Why.{Why}
 use Rattle.scale_wire.specs.declared.fault.Why.TheVariants.{Short, NotShortest, TooWide}
-use Rattle.scale_wire.specs.LittleEndian.{little_endian, number_at}
+use Rattle.scale_wire.specs.LittleEndian.{little_endian, number_from}
 use Rattle.scale_wire.specs.Refusal.{first_reason, lacks}
 
 -- ## Spelling
@@ -64,9 +64,9 @@ bytes_in Big bytes = 1 + announced bytes
 -- the number: in the first three modes it stands above the two bits of the mode
 abbrev pub number_in : Mode → List ℕ → ℕ
 number_in OneByte bytes = slice_index bytes 0 / 4
-number_in TwoBytes bytes = number_at (take 2 bytes) / 4
-number_in FourBytes bytes = number_at (take 4 bytes) / 4
-number_in Big bytes = number_at (take (announced bytes) (drop 1 bytes))
+number_in TwoBytes bytes = number_from (take 2 bytes) / 4
+number_in FourBytes bytes = number_from (take 4 bytes) / 4
+number_in Big bytes = number_from (take (announced bytes) (drop 1 bytes))
 
 -- more value bytes are announced than the type has
 abbrev pub announces_over : ℕ → Mode → List ℕ → Bool

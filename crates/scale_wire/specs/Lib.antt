@@ -4,6 +4,9 @@ pub mod Refusal
 pub mod Compact
 pub mod Parts
 pub mod PartLaws
+pub mod CompactSpelling
+pub mod CompactReading
+pub mod CompactWriting
 pub mod CompactLaws
 pub mod CompactSteps
 pub mod AccountLaws

@@ -7,6 +7,6 @@ little_endian zero number = []
 little_endian (suc count) number = number % 256 ∷ little_endian count (number / 256)
 
 -- the number that the bytes are
-unfoldable pub number_at : List ℕ → ℕ
-number_at [] = 0
-number_at (byte ∷ bytes) = byte + 256 * number_at bytes
+unfoldable pub number_from : List ℕ → ℕ
+number_from [] = 0
+number_from (byte ∷ bytes) = byte + 256 * number_from bytes

@@ -7,8 +7,8 @@ use Rattle.scale_wire.specs.declared.fault.Why.{Why}
 use Rattle.scale_wire.specs.declared.fault.Why.TheVariants.{Short, BadTag}
 use Rattle.scale_wire.specs.Form.{Begins, IsRefused, IsWire, IsBytes, part}
 use Rattle.scale_wire.specs.FormLaws.{IsBytes-front}
-use Rattle.scale_wire.specs.LittleEndian.{little_endian, number_at}
-use Rattle.scale_wire.specs.LittleEndianLaws.{length-little_endian, number_at-little_endian, little_endian-number_at, number_at-bound}
+use Rattle.scale_wire.specs.LittleEndian.{little_endian, number_from}
+use Rattle.scale_wire.specs.LittleEndianLaws.{length-little_endian, number_from-little_endian, little_endian-number_from, number_from-bound}
 use Rattle.scale_wire.specs.Refusal.{first_reason, lacks}
 use Rattle.scale_wire.specs.Parts.{IsHead, missing_refusal, fixed, byte_string, tag_refusal, tag_form}
 
@@ -136,21 +136,21 @@ module _ {V : Type 0} (count : ℕ) (spelling : V → List ℕ) (fits : V → Ty
   pub whole_laws : IsWire (part spelling fits (missing_refusal count) count)
   whole_laws = part_laws spelling fits (missing_refusal count) count (λ bytes. value (take count bytes)) (λ _. count) whole_part
 
-fixed_whole : (count : ℕ) → IsFixedSize count (little_endian count) (λ number. number < 256 ^ count) number_at
+fixed_whole : (count : ℕ) → IsFixedSize count (little_endian count) (λ number. number < 256 ^ count) number_from
 fixed_whole count = record {
   long = λ x _. length-little_endian count x;
-  in_range = λ bytes are_bytes long. subst (λ n. number_at bytes < 256 ^ n) long (number_at-bound bytes are_bytes);
-  spelled = λ bytes are_bytes long. subst (λ n. little_endian n (number_at bytes) ≡ bytes) long (little_endian-number_at bytes are_bytes);
-  back = number_at-little_endian count;
+  in_range = λ bytes are_bytes long. subst (λ n. number_from bytes < 256 ^ n) long (number_from-bound bytes are_bytes);
+  spelled = λ bytes are_bytes long. subst (λ n. little_endian n (number_from bytes) ≡ bytes) long (little_endian-number_from bytes are_bytes);
+  back = number_from-little_endian count;
 }
 
 pub fixed_laws : (count : ℕ) → IsWire (fixed count)
-fixed_laws count = whole_laws count (little_endian count) (λ number. number < 256 ^ count) number_at (fixed_whole count)
+fixed_laws count = whole_laws count (little_endian count) (λ number. number < 256 ^ count) number_from (fixed_whole count)
 
 pub fixed_head : (count : ℕ) (bytes : List ℕ) → IsBytes bytes → count ≤ length bytes
-    → IsHead (fixed count) bytes (number_at (take count bytes)) count
+    → IsHead (fixed count) bytes (number_from (take count bytes)) count
 fixed_head count bytes are_bytes whole =
-    (whole_part count (little_endian count) (λ number. number < 256 ^ count) number_at (fixed_whole count)).head bytes are_bytes
+    (whole_part count (little_endian count) (λ number. number < 256 ^ count) number_from (fixed_whole count)).head bytes are_bytes
     (none_from_whole count bytes whole)
 
 string_whole : (count : ℕ) → IsFixedSize count (λ bytes. bytes) (λ bytes. (length bytes ≡ count) × IsBytes bytes) (λ bytes. bytes)

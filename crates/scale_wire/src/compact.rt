@@ -1,7 +1,7 @@
 //! Reading compact integers.
 ghost use Rattle.std.specs.Prelude.{◌≡◌, ◌+◌, ◌≤◌, ◌<◌, length, IfOk};
 ghost use Rattle.scale_wire.specs.Form.{IsBytes};
-ghost use Rattle.scale_wire.specs.LittleEndian.{number_at};
+ghost use Rattle.scale_wire.specs.LittleEndian.{number_from};
 ghost use Rattle.scale_wire.specs.Compact.{mode_of, OneByte, TwoBytes, FourBytes, Big};
 ghost use Rattle.scale_wire.specs.CompactSteps.{ReadsMode, ReadsCompact};
 
@@ -88,7 +88,7 @@ fn many_bytes(bytes: &[u8], most: usize) -> Result<u64, Why>
 // The number that up to eight bytes are, the least significant first.
 fn number_of(bytes: &[u8]) -> u64
     requires { length bytes.now ≤ 8 }
-    ensures { result ≡ number_at bytes.now }
+    ensures { result ≡ number_from bytes.now }
 {
     let mut wide = [0; 8];
     wide[..bytes.len()].copy_from_slice(bytes);
