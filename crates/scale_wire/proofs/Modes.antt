@@ -5,17 +5,12 @@ use Rattle.std.specs.Int.{w16, w32, w64, from_le_bytes}
 use Rattle.std.proofs.lemmas.Bool.{lt-ltb, le-ltb}
 use Rattle.scale_wire.specs.declared.fault.Why.{Why}
 use Rattle.scale_wire.specs.declared.fault.Why.TheVariants.{Short, NotShortest, TooWide}
-use Rattle.scale_wire.specs.Form.{IsBytes}
 use Rattle.scale_wire.specs.LittleEndian.{number_from}
 use Rattle.scale_wire.specs.LittleEndianLaws.{from_le_bytes-number_from}
 use Rattle.scale_wire.specs.Refusal.{first_reason, lacks}
 use Rattle.scale_wire.specs.Compact.{Mode, TwoBytes, FourBytes, Big, mode_numbered, compact_reasons, compact_refusal, bytes_in, number_in, announces_over, is_longer_in}
 use Rattle.scale_wire.specs.CompactSteps.{mode_reasons}
 use Rattle.scale_wire.specs.PartLaws.{passed, applied, more_reasons, not_lacking}
-
-pub IsBytes-from : (bytes : List ℕ) → ((k : ℕ) → slice_index bytes k < 256) → IsBytes bytes
-IsBytes-from [] below = tt
-IsBytes-from (byte ∷ bytes) below = (below 0, IsBytes-from bytes (λ k. below (suc k)))
 
 -- ## What a mode answers
 

@@ -1,6 +1,7 @@
 use Rattle.std.proofs.Common.{rules, ◌+◌, ◌≤◌, ◌<◌, ◌%◌, length, slice_index, arith}
 use Rattle.std.proofs.lemmas.Result.{err_from_is_err_and}
-use Rattle.scale_wire.proofs.Modes.{IsBytes-from, big_refused}
+use Rattle.npos_base.proofs.AccountBytes.{are_bytes}
+use Rattle.scale_wire.proofs.Modes.{big_refused}
 use Rattle.scale_wire.proofs.compact.read_compact.Goals as goal
 
 pub returns-in_err-many_bytes-in_default-clause-read : goal.returns-in_err-many_bytes-in_default-clause-read
@@ -11,10 +12,10 @@ returns-in_err-many_bytes-in_default-clause-read c =
     rw (p.1, p.2) (big_refused c.args.most (c.args.max + 1) c.args.bytes.now c.in_err-many_bytes-in_default.field-0.0 some three c.in_err-many_bytes-in_default.ensures)
 
 pub returns-in_err-many_bytes-in_default-clause-are_bytes : goal.returns-in_err-many_bytes-in_default-clause-are_bytes
-returns-in_err-many_bytes-in_default-clause-are_bytes c = IsBytes-from c.args.bytes.now (λ k. omega (arith, c.type_inv.bytes k))
+returns-in_err-many_bytes-in_default-clause-are_bytes c = are_bytes c.args.bytes.now (λ k. omega (arith, c.type_inv.bytes k))
 
 pub returns-then-number-max-clause-are_bytes : goal.returns-then-number-max-clause-are_bytes
-returns-then-number-max-clause-are_bytes c = IsBytes-from c.args.bytes.now (λ k. omega (arith, c.type_inv.bytes k))
+returns-then-number-max-clause-are_bytes c = are_bytes c.args.bytes.now (λ k. omega (arith, c.type_inv.bytes k))
 
 pub returns-else-number-max-clause-are_bytes : goal.returns-else-number-max-clause-are_bytes
-returns-else-number-max-clause-are_bytes c = IsBytes-from c.args.bytes.now (λ k. omega (arith, c.type_inv.bytes k))
+returns-else-number-max-clause-are_bytes c = are_bytes c.args.bytes.now (λ k. omega (arith, c.type_inv.bytes k))
