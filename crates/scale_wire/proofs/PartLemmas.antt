@@ -1,5 +1,5 @@
 -- What the cursor's calls answer, over plain bytes.
-use Rattle.std.specs.Prelude.{◌≡◌, ℕ, ◌+◌, ◌%◌, ◌^◌, ◌<◌, ◌≤◌, List, [], ◌∷◌, ◌++◌, length, drop, nat_le, Some, None, refl}
+use Rattle.std.specs.Prelude.{◌≡◌, ℕ, ◌+◌, ◌%◌, ◌^◌, ◌<◌, ◌≤◌, List, [], ◌∷◌, ◌++◌, length, slice_index, drop, nat_le, Some, None, refl}
 use Rattle.std.proofs.Common.{sym, ◌∙◌, ap, subst, arith}
 use Rattle.std.proofs.lemmas.Bool.{le-leb}
 use Rattle.scale_wire.specs.declared.fault.Why.TheVariants.{Short, BadTag, TooMany}
@@ -113,3 +113,9 @@ account_read old new bytes account read is =
       whole = read.whole ∙ ap (λ (s : List ℕ). s ++ new.rest) (sym spelled);
       at_is = read.at_is ∙ ap (λ (s : List ℕ). old.at + length s) (sym spelled);
     }
+
+pub only_byte : (bytes : List ℕ) → length bytes ≡ 1 → slice_index bytes 0 ≡ number_from bytes
+unfolding number_from
+only_byte [] long = absurd (omega arith)
+only_byte (byte ∷ []) long = omega arith
+only_byte (byte ∷ next ∷ bytes) long = absurd (omega arith)

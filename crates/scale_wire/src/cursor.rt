@@ -11,7 +11,8 @@ use npos_base::AccountId;
 use std::marker::Model;
 
 /// A place in bytes and what is left of them. Each `take_` call reads one part of a SCALE value at the
-/// place and moves behind it; where it refuses, the cursor stays as it was.
+/// place and moves behind it. Where it refuses, it names that place and the first reason that applies, and
+/// the cursor stays as it was. No call takes memory.
 #[derive(Drop)]
 pub struct Cursor<'a> {
     at: u64,
@@ -65,7 +66,7 @@ impl<'a> Cursor<'a> {
         }
     }
 
-    /// As many bytes as asked for, borrowed from the input.
+    /// The next `n` bytes, borrowed from the input. They are refused as `Short` where fewer are left.
     pub fn take_bytes(&mut self, n: usize) -> Result<&'a [u8], WireFault>
         ensures { MatchResult result
             (λ bytes. IsRead (byte_string n) self.old bytes.now self.new)
@@ -90,28 +91,29 @@ impl<'a> Cursor<'a> {
         Ok(array)
     }
 
-    /// One byte.
+    /// One byte, refused as `Short` where none is left.
     pub fn take_u8(&mut self) -> Result<u8, WireFault>
         ensures { Takes fixed_u8 self.old result self.new }
     {
-        Ok(u8::from_le_bytes(self.take_array()?))
+        let [byte] = self.take_array::<1>()?;
+        Ok(byte)
     }
 
-    /// Four bytes, the least significant first.
+    /// A number in four bytes, the least significant first, refused as `Short` where fewer are left.
     pub fn take_u32(&mut self) -> Result<u32, WireFault>
         ensures { Takes fixed_u32 self.old result self.new }
     {
         Ok(u32::from_le_bytes(self.take_array()?))
     }
 
-    /// Sixteen bytes, the least significant first.
+    /// A number in sixteen bytes, the least significant first, refused as `Short` where fewer are left.
     pub fn take_u128(&mut self) -> Result<u128, WireFault>
         ensures { Takes fixed_u128 self.old result self.new }
     {
         Ok(u128::from_le_bytes(self.take_array()?))
     }
 
-    /// One byte below `below`.
+    /// A tag, one byte below `below`, refused as `Short` or `BadTag`.
     pub fn take_tag(&mut self, below: u8) -> Result<u8, WireFault>
         ensures { Takes (tag_form below) self.old result self.new }
     {
@@ -125,7 +127,7 @@ impl<'a> Cursor<'a> {
         }
     }
 
-    /// A compact integer of two bytes' range.
+    /// A compact integer below 2^16, refused as `Short`, `TooWide` or `NotShortest`.
     pub fn take_compact_u16(&mut self) -> Result<u16, WireFault>
         ensures { Takes compact_u16 self.old result self.new }
     {
@@ -133,7 +135,7 @@ impl<'a> Cursor<'a> {
         Ok(number as u16)
     }
 
-    /// A compact integer of four bytes' range.
+    /// A compact integer below 2^32, refused as `Short`, `TooWide` or `NotShortest`.
     pub fn take_compact_u32(&mut self) -> Result<u32, WireFault>
         ensures { Takes compact_u32 self.old result self.new }
     {
@@ -141,14 +143,15 @@ impl<'a> Cursor<'a> {
         Ok(number as u32)
     }
 
-    /// A compact integer of eight bytes' range.
+    /// A compact integer below 2^64, refused as `Short`, `TooWide` or `NotShortest`.
     pub fn take_compact_u64(&mut self) -> Result<u64, WireFault>
         ensures { Takes compact_u64 self.old result self.new }
     {
         self.take_compact(8, u64::MAX)
     }
 
-    /// The length of a list that has at most `limit` items: a compact integer of four bytes' range.
+    /// The length of a list of at most `limit` items: a compact integer below 2^32, which is refused as `TooMany`
+    /// over the limit.
     pub fn take_length(&mut self, limit: u32) -> Result<u32, WireFault>
         ensures { Takes (length_form limit) self.old result self.new }
     {
@@ -162,7 +165,7 @@ impl<'a> Cursor<'a> {
         }
     }
 
-    /// An account, its 32 bytes as they are.
+    /// An account, its 32 bytes as they are, refused as `Short` where fewer are left.
     pub fn take_account(&mut self) -> Result<AccountId, WireFault>
         ensures { Takes account_form self.old result self.new }
     {

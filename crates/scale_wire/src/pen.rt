@@ -42,21 +42,21 @@ impl Pen {
         Ok(())
     }
 
-    /// One byte.
+    /// A number in one byte.
     pub fn put_u8(&mut self, value: u8) -> Result<(), NoMemory>
         ensures { Appends (little_endian 1 value) result self.old self.new }
     {
         self.put_bytes(&[value])
     }
 
-    /// Four bytes, the least significant first.
+    /// A number in four bytes, the least significant first.
     pub fn put_u32(&mut self, value: u32) -> Result<(), NoMemory>
         ensures { Appends (little_endian 4 value) result self.old self.new }
     {
         self.put_bytes(&value.to_le_bytes())
     }
 
-    /// Sixteen bytes, the least significant first.
+    /// A number in sixteen bytes, the least significant first.
     pub fn put_u128(&mut self, value: u128) -> Result<(), NoMemory>
         ensures { Appends (little_endian 16 value) result self.old self.new }
     {

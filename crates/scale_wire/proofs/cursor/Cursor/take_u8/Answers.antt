@@ -1,10 +1,8 @@
-use Rattle.std.proofs.Common.{◌∙◌}
-use Rattle.std.specs.Int.{w8}
-use Rattle.scale_wire.specs.LittleEndianLaws.{from_le_bytes-number_from}
-use Rattle.scale_wire.proofs.PartLemmas.{fixed_read}
+use Rattle.std.proofs.Common.{slice_index_or}
+use Rattle.scale_wire.proofs.PartLemmas.{fixed_read, only_byte}
 use Rattle.scale_wire.proofs.cursor.Cursor.take_u8.Goals as goal
 
 pub returns : goal.returns
 returns c =
-    fixed_read 1 c.args.self.now c.take_array.new.self c.in_ok-take_array.field-0 c.from_le_bytes.result c.in_ok-take_array.ensures
-    (c.from_le_bytes.ensures ∙ from_le_bytes-number_from w8 c.in_ok-take_array.field-0 c.in_ok-take_array.ensures.in_range.0)
+    fixed_read 1 c.args.self.now c.take_array.new.self c.in_ok-byte.field-0 (slice_index_or c.in_ok-byte.field-0 0 0) c.in_ok-byte.ensures
+    (only_byte c.in_ok-byte.field-0 c.in_ok-byte.ensures.in_range.0)
