@@ -1,5 +1,5 @@
 -- The forms of calls and blocks keep the laws of a form.
-use Rattle.std.specs.Prelude.{◌≡◌, ℕ, List, [], ◌∷◌, Option, Some, None, IsSomeAnd, refl}
+use Rattle.std.specs.Prelude.{◌≡◌, ℕ, List, Some, IsSomeAnd, refl}
 use Rattle.std.proofs.Common.{lit<}
 use Rattle.npos_base.specs.declared.account.AccountId.{AccountId}
 use Rattle.npos_base.specs.declared.figures.Score.{Score}
@@ -225,17 +225,17 @@ offence_laws = variant_laws (triple compact_u32 account_form compact_u32) offenc
 
 pub kinds_are_variants : AreVariants kind_tag 0 kinds
 kinds_are_variants =
-  (transfer_laws, transfer_tag, (bond_laws, bond_tag, (bond_extra_laws, bond_extra_tag, (unbond_laws, unbond_tag, (rebond_laws, rebond_tag, (withdraw_laws, withdraw_tag, (nominate_laws, nominate_tag, (validate_laws, validate_tag, (chill_laws, chill_tag, (rebag_laws, rebag_tag, (put_in_front_laws, put_in_front_tag, (submit_laws, submit_tag, (points_laws, points_tag, (payout_laws, payout_tag, (offence_laws, offence_tag, tt)))))))))))))))
+    (transfer_laws, transfer_tag, (bond_laws, bond_tag, (bond_extra_laws, bond_extra_tag, (unbond_laws, unbond_tag, (rebond_laws, rebond_tag, (withdraw_laws, withdraw_tag, (nominate_laws, nominate_tag, (validate_laws, validate_tag, (chill_laws, chill_tag, (rebag_laws, rebag_tag, (put_in_front_laws, put_in_front_tag, (submit_laws, submit_tag, (points_laws, points_tag, (payout_laws, payout_tag, (offence_laws, offence_tag, tt)))))))))))))))
 
 pub kind_laws : IsWire kind_form
 kind_laws = tagged_laws kind_tag kinds (tag_laws 15) kinds_are_variants
 
 pub call_laws : IsWire call_form
 call_laws = seen_laws (pair account_form kind_form) (λ call. (call.who, call.kind))
-  (λ fields. record { who = fields.0; kind = fields.1 }) (λ call. refl) (λ fields. refl)
-  (pair_laws account_form kind_form account_laws kind_laws)
+    (λ fields. record { who = fields.0; kind = fields.1 }) (λ call. refl) (λ fields. refl)
+    (pair_laws account_form kind_form account_laws kind_laws)
 
 pub block_laws : IsWire block_form
 block_laws = seen_laws (pair compact_u32 (list call_form 64)) (λ block. (block.number, block.calls))
-  (λ fields. record { number = fields.0; calls = fields.1 }) (λ block. refl) (λ fields. refl)
-  (pair_laws compact_u32 (list call_form 64) compact_u32_laws (list_laws call_form 64 (length_laws 64 (lit< tt)) call_laws))
+    (λ fields. record { number = fields.0; calls = fields.1 }) (λ block. refl) (λ fields. refl)
+    (pair_laws compact_u32 (list call_form 64) compact_u32_laws (list_laws call_form 64 (length_laws 64 (lit< tt)) call_laws))

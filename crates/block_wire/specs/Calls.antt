@@ -96,22 +96,22 @@ offence_fields _ = None
 -- The kinds in the order of their tags, each with how its fields are spelled.
 abbrev pub kinds : List (Form CallKind)
 kinds =
-  variant (pair account_form compact_u64) transfer_fields
-  ∷ variant compact_u64 bond_fields
-  ∷ variant compact_u64 bond_extra_fields
-  ∷ variant compact_u64 unbond_fields
-  ∷ variant compact_u64 rebond_fields
-  ∷ variant nothing withdraw_fields
-  ∷ variant (list account_form 64) nominate_fields
-  ∷ variant compact_u32 validate_fields
-  ∷ variant nothing chill_fields
-  ∷ variant account_form rebag_fields
-  ∷ variant account_form put_in_front_fields
-  ∷ variant (triple compact_u32 score_form (byte_list 2097152)) submit_fields
-  ∷ variant (list (pair account_form compact_u32) 512) points_fields
-  ∷ variant (pair compact_u32 account_form) payout_fields
-  ∷ variant (triple compact_u32 account_form compact_u32) offence_fields
-  ∷ []
+    variant (pair account_form compact_u64) transfer_fields
+    ∷ variant compact_u64 bond_fields
+    ∷ variant compact_u64 bond_extra_fields
+    ∷ variant compact_u64 unbond_fields
+    ∷ variant compact_u64 rebond_fields
+    ∷ variant nothing withdraw_fields
+    ∷ variant (list account_form 64) nominate_fields
+    ∷ variant compact_u32 validate_fields
+    ∷ variant nothing chill_fields
+    ∷ variant account_form rebag_fields
+    ∷ variant account_form put_in_front_fields
+    ∷ variant (triple compact_u32 score_form (byte_list 2097152)) submit_fields
+    ∷ variant (list (pair account_form compact_u32) 512) points_fields
+    ∷ variant (pair compact_u32 account_form) payout_fields
+    ∷ variant (triple compact_u32 account_form compact_u32) offence_fields
+    ∷ []
 
 abbrev pub kind_form : Form CallKind
 kind_form = tagged kind_tag kinds

@@ -13,20 +13,25 @@ use Rattle.block_wire.specs.declared.genesis.Genesis.TheVariants.{Plain, Full}
 abbrev pub endowment_form : Form Endowment
 endowment_form = seen (pair account_form compact_u64) (λ endowment. (endowment.who, endowment.value))
 
--- The fields of the parameters, in order.
-abbrev pub params_fields : Params → (AccountId × (ℕ × ℕ × ℕ) × (ℕ × ℕ × ℕ)) × List ℕ × ((ℕ × ℕ) × (ℕ × ℕ × ℕ))
-params_fields params =
-  ((params.root, (params.seats, params.era_blocks, params.offset), (params.signed, params.bonding_eras, params.least_bond)),
+-- ## The parameters
+
+-- The fields in order. Up to the thresholds: the root and the seats, the phases of an era, and bonding.
+abbrev pub head_form : Form ((AccountId × ℕ) × (ℕ × ℕ × ℕ) × (ℕ × ℕ))
+head_form = triple (pair account_form compact_u32) (triple compact_u32 compact_u32 compact_u32) (pair compact_u32 compact_u64)
+
+-- behind the thresholds: submissions, and what is paid
+abbrev pub tail_form : Form ((ℕ × ℕ × ℕ) × (ℕ × ℕ))
+tail_form = pair (triple compact_u32 compact_u32 compact_u64) (pair compact_u64 compact_u64)
+
+abbrev pub params_fields : Params → ((AccountId × ℕ) × (ℕ × ℕ × ℕ) × (ℕ × ℕ)) × List ℕ × ((ℕ × ℕ × ℕ) × (ℕ × ℕ))
+params_fields params = (
+  ((params.root, params.seats), (params.era_blocks, params.offset, params.signed), (params.bonding_eras, params.least_bond)),
   params.thresholds,
-  ((params.queue, params.solution_max), (params.deposit, params.reward, params.era_reward)))
+  ((params.queue, params.solution_max, params.deposit), (params.reward, params.era_reward)),
+)
 
 abbrev pub params_form : Form Params
-params_form = seen
-  (triple
-    (triple account_form (triple compact_u32 compact_u32 compact_u32) (triple compact_u32 compact_u32 compact_u64))
-    (list compact_u64 200)
-    (pair (pair compact_u32 compact_u32) (triple compact_u64 compact_u64 compact_u64)))
-  params_fields
+params_form = seen (triple head_form (list compact_u64 200) tail_form) params_fields
 
 -- ## The genesis
 

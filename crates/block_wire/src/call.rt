@@ -8,7 +8,9 @@ ghost use Rattle.block_wire.specs.Calls.{kind_tag, kinds};
 
 use npos_base::{AccountId, List, NoMemory, Score};
 use scale_wire::fault::ReadFault;
-use scale_wire::{BytesUpTo, Cursor, Pen, UpTo, Wire, write_both, write_bytes, write_list, write_tag};
+use scale_wire::{
+    BytesUpTo, Cursor, Pen, UpTo, Wire, write_both, write_bytes, write_list, write_tag,
+};
 use std::alloc::Global;
 
 /// One call of a block, and the account that makes it.
@@ -40,38 +42,62 @@ impl Wire for Call {
 #[derive(Debug, Drop)]
 pub enum CallKind {
     /// Moves free units to another account.
-    Transfer { to: AccountId, value: u64 },
+    Transfer {
+        to: AccountId,
+        value: u64,
+    },
     /// Makes free units active, for an account that has none bonded.
-    Bond { value: u64 },
+    Bond {
+        value: u64,
+    },
     /// Makes more free units active.
-    BondExtra { value: u64 },
+    BondExtra {
+        value: u64,
+    },
     /// Lets active units go; they are free some eras later.
-    Unbond { value: u64 },
+    Unbond {
+        value: u64,
+    },
     /// Makes units active again that were let go.
-    Rebond { value: u64 },
+    Rebond {
+        value: u64,
+    },
     /// Frees the units that were let go and are due.
     Withdraw,
     /// Names the validators that the account votes for.
-    Nominate { targets: List<AccountId> },
+    Nominate {
+        targets: List<AccountId>,
+    },
     /// Offers the account as a validator, for a commission in parts of a billion.
-    Validate { commission: u32 },
+    Validate {
+        commission: u32,
+    },
     /// Ends the account's role.
     Chill,
-    /// Puts an account into the bag that it belongs to.
-    Rebag { whom: AccountId },
-    /// Goes before a lighter account of the same bag.
-    PutInFront { lighter: AccountId },
+    /// Puts an account into the bag that its active stake belongs to.
+    Rebag {
+        whom: AccountId,
+    },
+    /// Stands directly before an account of the same bag with less active stake.
+    PutInFront {
+        lighter: AccountId,
+    },
     /// Submits a solution of a round, with the score that it claims.
     Submit {
         round: u32,
         claim: Score,
         bytes: List<u8>,
     },
-    /// Gives points to validators of the current era.
-    Points { items: List<(AccountId, u32)> },
+    /// Gives points to members of the current era; for the root alone.
+    Points {
+        items: List<(AccountId, u32)>,
+    },
     /// Pays a validator and its backers for an era.
-    Payout { era: u32, validator: AccountId },
-    /// Reports a validator of an era, for a part of its stake in parts of a billion.
+    Payout {
+        era: u32,
+        validator: AccountId,
+    },
+    /// Reports a member of an era, for a part of its exposure in parts of a billion; for the root alone.
     Offence {
         era: u32,
         validator: AccountId,
@@ -187,7 +213,9 @@ fn read_nominate(alloc: Global, cursor: &mut Cursor<'_>) -> Result<CallKind, Rea
     ensures { Reads (variant_at kinds 6) cursor.old result cursor.new }
 {
     let targets = <UpTo<AccountId, 64>>::read(alloc, cursor)?;
-    Ok(CallKind::Nominate { targets: targets.into_list() })
+    Ok(CallKind::Nominate {
+        targets: targets.into_list(),
+    })
 }
 
 fn read_validate(alloc: Global, cursor: &mut Cursor<'_>) -> Result<CallKind, ReadFault>
@@ -215,14 +243,20 @@ fn read_submit(alloc: Global, cursor: &mut Cursor<'_>) -> Result<CallKind, ReadF
     ensures { Reads (variant_at kinds 11) cursor.old result cursor.new }
 {
     let (round, claim, bytes) = <(u32, Score, BytesUpTo<2_097_152>)>::read(alloc, cursor)?;
-    Ok(CallKind::Submit { round, claim, bytes: bytes.into_list() })
+    Ok(CallKind::Submit {
+        round,
+        claim,
+        bytes: bytes.into_list(),
+    })
 }
 
 fn read_points(alloc: Global, cursor: &mut Cursor<'_>) -> Result<CallKind, ReadFault>
     ensures { Reads (variant_at kinds 12) cursor.old result cursor.new }
 {
     let items = <UpTo<(AccountId, u32), 512>>::read(alloc, cursor)?;
-    Ok(CallKind::Points { items: items.into_list() })
+    Ok(CallKind::Points {
+        items: items.into_list(),
+    })
 }
 
 fn read_payout(alloc: Global, cursor: &mut Cursor<'_>) -> Result<CallKind, ReadFault>
@@ -236,7 +270,11 @@ fn read_offence(alloc: Global, cursor: &mut Cursor<'_>) -> Result<CallKind, Read
     ensures { Reads (variant_at kinds 14) cursor.old result cursor.new }
 {
     let (era, validator, fraction) = <(u32, AccountId, u32)>::read(alloc, cursor)?;
-    Ok(CallKind::Offence { era, validator, fraction })
+    Ok(CallKind::Offence {
+        era,
+        validator,
+        fraction,
+    })
 }
 
 // The fields, without the number of the kind.
@@ -256,10 +294,18 @@ fn write_fields(kind: &CallKind, pen: &mut Pen) -> Result<(), NoMemory>
         CallKind::Chill => Ok(()),
         CallKind::Rebag { whom } => whom.write(pen),
         CallKind::PutInFront { lighter } => lighter.write(pen),
-        CallKind::Submit { round, claim, bytes } => write_submit(*round, *claim, bytes, pen),
+        CallKind::Submit {
+            round,
+            claim,
+            bytes,
+        } => write_submit(*round, *claim, bytes, pen),
         CallKind::Points { items } => write_list(items, pen),
         CallKind::Payout { era, validator } => (*era, *validator).write(pen),
-        CallKind::Offence { era, validator, fraction } => (*era, *validator, *fraction).write(pen),
+        CallKind::Offence {
+            era,
+            validator,
+            fraction,
+        } => (*era, *validator, *fraction).write(pen),
     }
 }
 

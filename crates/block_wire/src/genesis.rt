@@ -37,7 +37,7 @@ impl Wire for Endowment {
 /// The parameters of the elections, as the staking and election pallets of Substrate take them at genesis.
 #[derive(Debug, Drop)]
 pub struct Params {
-    /// The account that may end other accounts' roles and set points.
+    /// The account that gives points and reports offences.
     pub root: AccountId,
     /// How many validators a committee has.
     pub seats: u32,
@@ -45,29 +45,31 @@ pub struct Params {
     pub era_blocks: u32,
     /// The block of an era, counted from 0, at which the snapshot is taken.
     pub offset: u32,
-    /// How many blocks submissions are taken for.
+    /// For how many blocks from the snapshot on submissions are taken.
     pub signed: u32,
-    /// How many eras pass before unbonded units are free.
+    /// How many eras pass before units that were let go are free.
     pub bonding_eras: u32,
     /// The least units that can be bonded.
     pub least_bond: u64,
     /// The upper ends of the bags of voters, in units, strictly rising.
     pub thresholds: List<u64>,
-    /// How many submissions wait at most.
+    /// How many submissions of a round are kept at most.
     pub queue: u32,
     /// How many bytes a submitted solution has at most.
     pub solution_max: u32,
     /// The units that a submission holds.
     pub deposit: u64,
-    /// The units that the submission which is seated is paid.
+    /// The units that the account whose submission is seated is paid.
     pub reward: u64,
     /// The units that the validators of an era are paid together.
     pub era_reward: u64,
 }
 
-type Head = (AccountId, (u32, u32, u32), (u32, u32, u64));
+// The root and the seats, the phases of an era, and bonding.
+type Head = ((AccountId, u32), (u32, u32, u32), (u32, u64));
 
-type Tail = ((u32, u32), (u64, u64, u64));
+// Submissions, and what is paid.
+type Tail = ((u32, u32, u64), (u64, u64));
 
 impl Wire for Params {
     ghost use Rattle.block_wire.specs.Genesis.{params_form};
@@ -78,18 +80,18 @@ impl Wire for Params {
     ghost laws = { params_laws };
 
     fn write(&self, pen: &mut Pen) -> Result<(), NoMemory> {
-        let phases = (self.seats, self.era_blocks, self.offset);
-        let bonding = (self.signed, self.bonding_eras, self.least_bond);
-        (self.root, phases, bonding).write(pen)?;
+        let phases = (self.era_blocks, self.offset, self.signed);
+        let bonding = (self.bonding_eras, self.least_bond);
+        ((self.root, self.seats), phases, bonding).write(pen)?;
         write_list(&self.thresholds, pen)?;
-        let amounts = (self.deposit, self.reward, self.era_reward);
-        ((self.queue, self.solution_max), amounts).write(pen)
+        let submissions = (self.queue, self.solution_max, self.deposit);
+        (submissions, (self.reward, self.era_reward)).write(pen)
     }
 
     fn read(alloc: Global, cursor: &mut Cursor<'_>) -> Result<Params, ReadFault> {
         let (head, thresholds, tail) = <(Head, UpTo<u64, 200>, Tail)>::read(alloc, cursor)?;
-        let (root, (seats, era_blocks, offset), (signed, bonding_eras, least_bond)) = head;
-        let ((queue, solution_max), (deposit, reward, era_reward)) = tail;
+        let ((root, seats), (era_blocks, offset, signed), (bonding_eras, least_bond)) = head;
+        let ((queue, solution_max, deposit), (reward, era_reward)) = tail;
         Ok(Params {
             root,
             seats,
@@ -112,7 +114,9 @@ impl Wire for Params {
 #[derive(Debug, Drop)]
 pub enum Genesis {
     /// Endowments alone: the chain has no elections.
-    Plain { endowments: List<Endowment> },
+    Plain {
+        endowments: List<Endowment>,
+    },
     /// Endowments, and the parameters of the elections.
     Full {
         endowments: List<Endowment>,
@@ -153,7 +157,11 @@ fn genesis_tag(genesis: &Genesis) -> u8
     }
 }
 
-fn read_genesis_fields(alloc: Global, tag: u8, cursor: &mut Cursor<'_>) -> Result<Genesis, ReadFault>
+fn read_genesis_fields(
+    alloc: Global,
+    tag: u8,
+    cursor: &mut Cursor<'_>,
+) -> Result<Genesis, ReadFault>
     requires { tag < 2 }
     ensures { Reads (variant_at genesis_variants tag) cursor.old result cursor.new }
 {

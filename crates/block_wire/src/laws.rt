@@ -11,12 +11,10 @@ ghost use Rattle.block_wire.specs.Calls.{block_form};
 pub fn a_genesis_is_bounded()
     ensures keeps { IsWire genesis_form }
     ensures longest { genesis_form.longest < 2 ^ 23 }
-{
-}
+{}
 
 /// The same of an Option of a block, and 2^28.
 pub fn an_option_of_a_block_is_bounded()
     ensures keeps { IsWire (optional block_form) }
     ensures longest { (optional block_form).longest < 2 ^ 28 }
-{
-}
+{}
