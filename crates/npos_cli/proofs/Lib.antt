@@ -1,0 +1,7 @@
+pub mod ReplayLaws
+pub mod EdgeLaws
+pub mod WordLaws
+pub mod ChainLaws
+pub mod TurnLaws
+pub mod StartLaws
+pub mod RunLaws

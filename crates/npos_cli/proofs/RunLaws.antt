@@ -1,0 +1,96 @@
+-- From what a run owed and what was delivered to the clauses of `run`.
+use Rattle.std.proofs.Common.{◌≡◌, ◌⊎◌, inl, inr, ℕ, Bool, true, false, List, [], ◌++◌, length, take, Option, Some, None, Result, Ok, IfSome, cond, if◌then◌else◌, refl, sym, ◌∙◌, ap, subst, arith}
+use Rattle.std.proofs.lemmas.List.{take_all}
+use Rattle.npos_base.specs.Outside.{Told}
+use Rattle.npos_cli.specs.declared.status.Status.{Status}
+use Rattle.npos_cli.specs.declared.status.Status.TheVariants as statuses
+use Rattle.npos_cli.specs.declared.top.Due.{Due}
+use Rattle.npos_cli.specs.declared.top.Due.TheVariants.{Usage, Replay}
+use Rattle.npos_cli.specs.Words.{HasForm, usage_line}
+use Rattle.npos_cli.specs.Replay.{Outcome, IsReplay}
+use Rattle.npos_runtime.specs.declared.chain.Chain.{Chain}
+use Rattle.npos_cli.specs.Chain.{npos_machine}
+use Rattle.npos_cli.specs.Owed.{Delivers, DeliversFront, DeliversReplay, DeliversReplayFront, Comes, ComesWith, Empties, Replays}
+use Rattle.npos_cli.specs.Due.{due_text, due_status, IsDue}
+use Rattle.npos_cli.proofs.ReplayLaws.{one_replay}
+use Rattle.npos_cli.proofs.ChainLaws.{genesis_laws, turn_laws}
+
+is_done : (faulty : Bool) → (if faulty then statuses.BadInput else statuses.Done) ≡ statuses.Done → faulty ≡ false
+is_done true e = cc
+is_done false e = refl
+
+is_bad : (faulty : Bool) → (if faulty then statuses.BadInput else statuses.Done) ≡ statuses.BadInput → faulty ≡ true
+is_bad true e = refl
+is_bad false e = cc
+
+pub delivered_front : (old new : Option Told) (text : List ℕ) → Delivers old new text → DeliversFront old new text
+delivered_front old None text delivers = tt
+delivered_front old (Some now) text delivers =
+    (delivers.0, length text, delivers.1, delivers.2 ∙ ap (λ all. delivers.0.written ++ all) (sym (take_all (length text) text (omega arith))))
+
+module _ (words : List (List ℕ)) (old new : Option (List ℕ)) (told told' : Option Told) where
+  -- the replay that was found is that of the bytes left at entry
+  of_left : (left bytes text : List ℕ) (faulty : Bool) → Empties (Some left) new bytes → Replays npos_machine bytes text faulty
+      → Replays npos_machine left text faulty
+  of_left left bytes text faulty empties replays = subst (λ (bs : List ℕ). Replays npos_machine bs text faulty) empties.0 replays
+
+  ends : (left bytes text : List ℕ) (faulty due : Bool) → Empties (Some left) new bytes → Replays npos_machine bytes text faulty
+      → Delivers told told' text → faulty ≡ due → DeliversReplay npos_machine due told told' left
+  ends left bytes text faulty due empties replays delivers is_due =
+      let r = of_left left bytes text faulty empties replays in
+      (record { text = text; faulty = faulty; last = r.0 }, r.1, is_due, delivers)
+
+  pub done_of : (due : Due) → IsDue words old new due → Delivers told told' (due_text due) → due_status due ≡ statuses.Done
+      → HasForm words × IfSome old (λ bytes. DeliversReplay npos_machine false told told' bytes × (new ≡ Some []))
+  done_of Usage is_due delivers done = cc
+  done_of (Replay found) is_due delivers done = (is_due.0, on old is_due.1.1)
+    where
+      on : (old : Option (List ℕ)) → Empties old new is_due.1.0 → IfSome old (λ bytes. DeliversReplay npos_machine false told told' bytes × (new ≡ Some []))
+      on None empties = tt
+      on (Some left) empties =
+          (ends left is_due.1.0 found.text.items found.faulty false empties is_due.1.2 delivers (is_done found.faulty done), empties.1)
+
+  pub bad_of : (due : Due) → IsDue words old new due → Delivers told told' (due_text due) → due_status due ≡ statuses.BadInput
+      → HasForm words × IfSome old (DeliversReplay npos_machine true told told')
+  bad_of Usage is_due delivers bad = cc
+  bad_of (Replay found) is_due delivers bad = (is_due.0, on old is_due.1.1)
+    where
+      on : (old : Option (List ℕ)) → Empties old new is_due.1.0 → IfSome old (DeliversReplay npos_machine true told told')
+      on None empties = tt
+      on (Some left) empties = ends left is_due.1.0 found.text.items found.faulty true empties is_due.1.2 delivers (is_bad found.faulty bad)
+
+  -- the bytes have one replay, so its status and text are those that were found
+  found_once : (left bytes text : List ℕ) (faulty : Bool) → Empties (Some left) new bytes → Replays npos_machine bytes text faulty
+      → (out : Outcome Chain) → IsReplay npos_machine left out → (text ≡ out.text) × (faulty ≡ out.faulty)
+  found_once left bytes text faulty empties replays out is_replay =
+      let r = of_left left bytes text faulty empties replays in
+      let same = one_replay npos_machine genesis_laws turn_laws left (record { text = text; faulty = faulty; last = r.0 }) out r.1 is_replay in
+      (ap (λ (o : Outcome Chain). o.text) same, ap (λ (o : Outcome Chain). o.faulty) same)
+
+  pub comes_with : (faulty : Bool) (rose : Type 0) (due : Due) (status : Status) → status ≡ due_status due → IsDue words old new due → HasForm words
+      → IfSome old (λ bytes. ComesWith npos_machine bytes faulty (if faulty then statuses.BadInput else statuses.Done) status rose)
+  comes_with faulty rose Usage status status_is is_due form = absurd (is_due form)
+  comes_with faulty rose (Replay found) status status_is is_due form = on old is_due.1.1
+    where
+      on : (old : Option (List ℕ)) → Empties old new is_due.1.0
+          → IfSome old (λ bytes. ComesWith npos_machine bytes faulty (if faulty then statuses.BadInput else statuses.Done) status rose)
+      on None empties = tt
+      on (Some left) empties = λ out is_replay ends_so.
+          let once = found_once left is_due.1.0 found.text.items found.faulty empties is_due.1.2 out is_replay in
+          inl (status_is ∙ ap (λ (b : Bool). if b then statuses.BadInput else statuses.Done) (once.1 ∙ ends_so))
+
+  pub front_of : (due : Due) → IsDue words old new due → DeliversFront told told' (due_text due) → HasForm words
+      → IfSome old (DeliversReplayFront npos_machine told told')
+  front_of Usage is_due front form = absurd (is_due form)
+  front_of (Replay found) is_due front form = on old is_due.1.1
+    where
+      on : (old : Option (List ℕ)) → Empties old new is_due.1.0 → IfSome old (DeliversReplayFront npos_machine told told')
+      on None empties = tt
+      on (Some left) empties = λ out is_replay.
+          let once = found_once left is_due.1.0 found.text.items found.faulty empties is_due.1.2 out is_replay in
+          subst (λ (text : List ℕ). DeliversFront told told' text) once.0 front
+
+pub usage_front_of : (told told' : Option Told) (due : Due) (found : Result Due Status) → found ≡ Ok due → found ≡ Ok Usage
+    → DeliversFront told told' (due_text due) → DeliversFront told told' usage_line
+usage_front_of told told' due found is_found is_usage front =
+    let same : due ≡ Usage = cc in subst (λ (d : Due). DeliversFront told told' (due_text d)) same front

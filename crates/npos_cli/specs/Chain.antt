@@ -1,0 +1,46 @@
+-- The chain of npos as a machine that replays are made with.
+use Rattle.std.specs.Prelude.{ℕ, List, ◌++◌, flat_map, Option, Some, None, Result, Ok, Err, codes, decimal}
+use Rattle.block_wire.specs.declared.block.Block.{Block}
+use Rattle.block_wire.specs.declared.genesis.Genesis.{Genesis}
+use Rattle.block_wire.specs.Genesis.{genesis_form}
+use Rattle.block_wire.specs.Calls.{block_form}
+use Rattle.stake_ledger.specs.declared.totals.Totals.{Totals}
+use Rattle.stake_ledger.specs.Ledger.{totals_of}
+use Rattle.npos_runtime.specs.declared.chain.Chain.{Chain}
+use Rattle.npos_runtime.specs.declared.begin.GenesisFault.{GenesisFault}
+use Rattle.npos_runtime.specs.declared.line.Line.{Line}
+use Rattle.npos_runtime.specs.declared.line.Line.TheVariants as lines
+use Rattle.npos_runtime.specs.Genesis.{genesis_fault, genesis_chain, fault_numbers}
+use Rattle.npos_runtime.specs.Step.{step}
+use Rattle.npos_cli.specs.Texts.{newline}
+use Rattle.npos_cli.specs.Replay.{Machine}
+
+abbrev pub line_text : Line → List ℕ
+line_text (lines.Block number) = codes "block " ++ (decimal number ++ newline)
+line_text (lines.Era era) = codes "era " ++ (decimal era ++ newline)
+line_text (lines.CallOk index) = codes "call " ++ (decimal index ++ codes " ok\n")
+line_text (lines.CallRefused index code) = codes "call " ++ (decimal index ++ (codes " refused " ++ (decimal code ++ newline)))
+
+-- the last line of a replay that read its input to the end
+abbrev pub end_line : Totals → List ℕ
+end_line totals =
+    codes "end free " ++ (decimal totals.free ++ (codes " active " ++ (decimal totals.active ++ (codes " unlocking " ++ (decimal totals.unlocking
+    ++ (codes " deposits " ++ (decimal totals.deposits ++ (codes " minted " ++ (decimal totals.minted ++ (codes " burned " ++ (decimal totals.burned
+    ++ (codes " issuance " ++ (decimal totals.issuance ++ newline)))))))))))))
+
+-- the chain of a genesis, or the number and the detail of its first fault
+abbrev pub started : Option GenesisFault → Genesis → Result Chain (ℕ × ℕ)
+started None genesis = Ok (genesis_chain genesis)
+started (Some fault) genesis = Err (fault_numbers fault)
+
+abbrev pub npos_machine : Machine Genesis Block Chain
+npos_machine = record {
+  genesis = genesis_form;
+  block = block_form;
+  start = λ genesis. started (genesis_fault genesis) genesis;
+  number = λ block. block.number;
+  due = λ chain. chain.due;
+  after = λ chain block. (step chain block).state;
+  lines = λ chain block. flat_map line_text (step chain block).lines;
+  ending = λ chain. end_line (totals_of chain.book);
+}

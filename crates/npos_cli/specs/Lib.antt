@@ -1,0 +1,9 @@
+pub mod Texts
+pub mod Pieces
+pub mod Replay
+pub mod Status
+pub mod Words
+pub mod Owed
+pub mod Chain
+pub mod Turning
+pub mod Due

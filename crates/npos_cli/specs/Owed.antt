@@ -1,0 +1,63 @@
+-- What a run owes: which text reaches the sink, and what is left in the source.
+use Rattle.std.specs.Prelude.{◌≡◌, ◌⊎◌, ⊤, ℕ, ◌≤◌, Bool, true, List, [], ◌++◌, length, take, Option, Some, None, Result, Ok, Err}
+use Rattle.npos_base.specs.Outside.{Told, Rose, IsAtEnd}
+use Rattle.npos_cli.specs.declared.status.Status.{Status}
+use Rattle.npos_cli.specs.declared.status.Status.TheVariants as statuses
+use Rattle.npos_cli.specs.Replay.{Machine, Outcome, IsReplay}
+
+-- The text was appended whole, and all that was ever written is flushed.
+-- Nothing is said of a sink that does not tell its bytes.
+abbrev pub Delivers : Option Told → Option Told → List ℕ → Type 0
+Delivers old None text = ⊤
+Delivers old (Some now) text = (before : Told) × (old ≡ Some before)
+    × (now.written ≡ before.written ++ text) × (now.flushed ≡ length now.written)
+
+-- a front of the text was appended
+abbrev pub DeliversFront : Option Told → Option Told → List ℕ → Type 0
+DeliversFront old None text = ⊤
+DeliversFront old (Some now) text = (before : Told) × (n : ℕ) × (old ≡ Some before) × (now.written ≡ before.written ++ take n text)
+
+-- the bytes are all that was left, and nothing is left now
+abbrev pub Empties : Option (List ℕ) → Option (List ℕ) → List ℕ → Type 0
+Empties None now bytes = ⊤
+Empties (Some left) now bytes = (bytes ≡ left) × (now ≡ Some [])
+
+-- The replay of these bytes was delivered, which ends with a fault line or not.
+abbrev pub DeliversReplay : {G B S : Type 0} → Machine G B S → Bool → Option Told → Option Told → List ℕ → Type 0
+DeliversReplay {G} {B} {S} m faulty old new bytes =
+    (out : Outcome S) × IsReplay m bytes out × (out.faulty ≡ faulty) × Delivers old new out.text
+
+-- The status comes, unless memory was refused or a count of faults rose.
+abbrev pub Comes : Status → Status → Type 0 → Type 0
+Comes status answer rose = (answer ≡ status) ⊎ (answer ≡ statuses.NoMemory) ⊎ rose
+
+-- a front of the replay of these bytes was delivered
+abbrev pub DeliversReplayFront : {G B S : Type 0} → Machine G B S → Option Told → Option Told → List ℕ → Type 0
+DeliversReplayFront {G} {B} {S} m old new bytes = (out : Outcome S) → IsReplay m bytes out → DeliversFront old new out.text
+
+-- the status comes wherever the replay of these bytes ends with a fault line, or wherever it does not
+abbrev pub ComesWith : {G B S : Type 0} → Machine G B S → List ℕ → Bool → Status → Status → Type 0 → Type 0
+ComesWith {G} {B} {S} m bytes faulty status answer rose =
+    (out : Outcome S) → IsReplay m bytes out → out.faulty ≡ faulty → Comes status answer rose
+
+-- A part of a run that may end it over a source: an Ok and want of memory leave the count of faults, and a
+-- failed read has a fault as its cause. No other status ends a run there.
+abbrev pub HaltsWell : {T : Type 0} → ℕ → ℕ → Result T Status → Type 0
+HaltsWell before now (Ok done) = now ≡ before
+HaltsWell before now (Err statuses.NoMemory) = now ≡ before
+HaltsWell before now (Err statuses.ReadFault) = Rose before now × (before ≤ now)
+HaltsWell before now (Err other) = ⊥
+
+-- these bytes were taken from the front of what was left
+abbrev pub LeftAfter : Option (List ℕ) → Option (List ℕ) → List ℕ → Type 0
+LeftAfter None now bytes = ⊤
+LeftAfter (Some left) now bytes = (rest : List ℕ) × (now ≡ Some rest) × (left ≡ bytes ++ rest)
+
+-- More bytes stand behind those before, taken from what was left. Where the input has ended there are none.
+abbrev pub TakesMore : Option (List ℕ) → Option (List ℕ) → List ℕ → List ℕ → Bool → Type 0
+TakesMore old new before after ended =
+    (taken : List ℕ) × (after ≡ before ++ taken) × LeftAfter old new taken × (ended ≡ true → (taken ≡ []) × IsAtEnd old)
+
+-- this text is the replay's, which ends with a fault line or not
+abbrev pub Replays : {G B S : Type 0} → Machine G B S → List ℕ → List ℕ → Bool → Type 0
+Replays {G} {B} {S} m bytes text faulty = (last : Option S) × IsReplay m bytes (record { text = text; faulty = faulty; last = last })

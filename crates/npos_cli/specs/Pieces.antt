@@ -1,0 +1,8 @@
+-- What a piece of a line stands for.
+use Rattle.std.specs.Prelude.{ℕ, List, decimal}
+use Rattle.npos_cli.specs.declared.telling.Piece.{Piece}
+use Rattle.npos_cli.specs.declared.telling.Piece.TheVariants.{Words, Number}
+
+abbrev pub piece_text : Piece → List ℕ
+piece_text (Words words) = words.now
+piece_text (Number number) = decimal number

@@ -1,0 +1,28 @@
+-- The lines that a replay writes. Numbers are decimal, and every line ends with a newline.
+use Rattle.std.specs.Prelude.{ℕ, List, [], ◌∷◌, ◌++◌, codes, decimal}
+use Rattle.scale_wire.specs.declared.fault.Why.{Why}
+use Rattle.scale_wire.specs.declared.fault.Why.TheVariants.{Short, NotShortest, TooWide, BadTag, TooMany, Trailing}
+
+abbrev pub newline : List ℕ
+newline = 10 ∷ []
+
+abbrev pub word_of : Why → List ℕ
+word_of Short = codes "short"
+word_of NotShortest = codes "notshortest"
+word_of TooWide = codes "toowide"
+word_of BadTag = codes "badtag"
+word_of TooMany = codes "toomany"
+word_of Trailing = codes "trailing"
+
+-- the bytes from this place on are refused
+abbrev pub fault_line : ℕ → Why → List ℕ
+fault_line at why = codes "fault " ++ (decimal at ++ (codes " " ++ (word_of why ++ newline)))
+
+-- at this place stands the number of a block that is not the due one
+abbrev pub number_line : ℕ → ℕ → ℕ → List ℕ
+number_line at due found =
+    codes "fault " ++ (decimal at ++ (codes " number due " ++ (decimal due ++ (codes " found " ++ (decimal found ++ newline)))))
+
+-- the genesis has the fault of this number, with this detail
+abbrev pub genesis_line : ℕ × ℕ → List ℕ
+genesis_line fault = codes "fault 0 genesis " ++ (decimal fault.0 ++ (codes " " ++ (decimal fault.1 ++ newline)))

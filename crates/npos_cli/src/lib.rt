@@ -1,0 +1,11 @@
+//! The top call of npos: words and bytes in, receipts and a status out.
+#![tactic(auto)]
+
+mod edges;
+mod replaying;
+mod status;
+mod telling;
+mod top;
+
+pub use status::Status;
+pub use top::run;

@@ -1,0 +1,187 @@
+//! The lines that the program writes, made piece by piece.
+ghost use Rattle.std.specs.Prelude.{◌≡◌, ◌≢◌, ◌++◌, flat_map, OnOk};
+ghost use Rattle.npos_cli.specs.Texts.{fault_line, number_line, genesis_line, word_of};
+ghost use Rattle.npos_runtime.specs.Genesis.{fault_numbers};
+ghost use Rattle.npos_runtime.specs.declared.begin.GenesisFault.TheVariants as faults;
+ghost use Rattle.npos_cli.specs.Pieces.{piece_text};
+ghost use Rattle.npos_cli.specs.Chain.{end_line, line_text};
+
+use itoa::Buffer;
+use npos_base::NoMemory;
+use npos_runtime::{GenesisFault, Line};
+use scale_wire::fault::Why;
+use stake_ledger::Totals;
+
+/// A piece of a line.
+#[derive(Clone, Copy)]
+pub enum Piece<'a> {
+    Words(&'a str),
+    Number(u64),
+}
+
+/// Appends one piece; a number in decimal.
+fn tell_piece(text: &mut Vec<u8>, piece: &Piece<'_>) -> Result<(), NoMemory>
+    ensures { OnOk result (text.new.items ≡ text.old.items ++ piece_text piece.now) }
+{
+    match piece {
+        Piece::Words(words) => text.extend_from_slice(words.as_bytes())?,
+        Piece::Number(number) => text.extend_from_slice(Buffer::new().format(*number).as_bytes())?,
+    }
+    Ok(())
+}
+
+/// Appends the pieces in order.
+pub fn tell(text: &mut Vec<u8>, pieces: &[Piece<'_>]) -> Result<(), NoMemory>
+    ensures { OnOk result (text.new.items ≡ text.old.items ++ flat_map piece_text pieces.now) }
+{
+    for piece in pieces {
+        tell_piece(text, piece)?;
+    }
+    Ok(())
+}
+
+fn word(why: Why) -> &'static str
+    ensures { result.now ≡ word_of why }
+{
+    match why {
+        Why::Short => "short",
+        Why::NotShortest => "notshortest",
+        Why::TooWide => "toowide",
+        Why::BadTag => "badtag",
+        Why::TooMany => "toomany",
+        Why::Trailing => "trailing",
+    }
+}
+
+/// Appends the line of bytes that are refused.
+pub fn tell_fault(text: &mut Vec<u8>, at: u64, why: Why) -> Result<(), NoMemory>
+    ensures { OnOk result (text.new.items ≡ text.old.items ++ fault_line at why) }
+{
+    tell(
+        text,
+        &[
+            Piece::Words("fault "),
+            Piece::Number(at),
+            Piece::Words(" "),
+            Piece::Words(word(why)),
+            Piece::Words("\n"),
+        ],
+    )
+}
+
+/// Appends the line of a block whose number is not the due one.
+pub fn tell_other_number(text: &mut Vec<u8>, at: u64, due: u64, found: u32) -> Result<(), NoMemory>
+    ensures { OnOk result (text.new.items ≡ text.old.items ++ number_line at due found) }
+{
+    tell(
+        text,
+        &[
+            Piece::Words("fault "),
+            Piece::Number(at),
+            Piece::Words(" number due "),
+            Piece::Number(due),
+            Piece::Words(" found "),
+            Piece::Number(u64::from(found)),
+            Piece::Words("\n"),
+        ],
+    )
+}
+
+/// Appends the line of a genesis that has a fault. Want of memory is no fault of a genesis, and has no line.
+pub fn tell_genesis_fault(text: &mut Vec<u8>, fault: GenesisFault) -> Result<(), NoMemory>
+    ensures line { OnOk result (text.new.items ≡ text.old.items ++ genesis_line (fault_numbers fault)) }
+    ensures memory { OnOk result (fault ≢ faults.NoMemory) }
+{
+    let (number, detail) = match fault {
+        GenesisFault::NoMemory => return Err(NoMemory),
+        fault => (fault.number(), fault.detail()),
+    };
+    tell(
+        text,
+        &[
+            Piece::Words("fault 0 genesis "),
+            Piece::Number(u64::from(number)),
+            Piece::Words(" "),
+            Piece::Number(u64::from(detail)),
+            Piece::Words("\n"),
+        ],
+    )
+}
+
+/// Appends one line of a receipt.
+fn tell_line(text: &mut Vec<u8>, line: &Line) -> Result<(), NoMemory>
+    ensures { OnOk result (text.new.items ≡ text.old.items ++ line_text line.now) }
+{
+    match *line {
+        Line::Block { number } => tell(
+            text,
+            &[
+                Piece::Words("block "),
+                Piece::Number(u64::from(number)),
+                Piece::Words("\n"),
+            ],
+        ),
+        Line::Era { era } => tell(
+            text,
+            &[
+                Piece::Words("era "),
+                Piece::Number(u64::from(era)),
+                Piece::Words("\n"),
+            ],
+        ),
+        Line::CallOk { index } => tell(
+            text,
+            &[
+                Piece::Words("call "),
+                Piece::Number(u64::from(index)),
+                Piece::Words(" ok\n"),
+            ],
+        ),
+        Line::CallRefused { index, code } => tell(
+            text,
+            &[
+                Piece::Words("call "),
+                Piece::Number(u64::from(index)),
+                Piece::Words(" refused "),
+                Piece::Number(u64::from(code)),
+                Piece::Words("\n"),
+            ],
+        ),
+    }
+}
+
+/// Appends the lines of a receipt in order.
+pub fn tell_lines(text: &mut Vec<u8>, lines: &[Line]) -> Result<(), NoMemory>
+    ensures { OnOk result (text.new.items ≡ text.old.items ++ flat_map line_text lines.now) }
+{
+    for line in lines {
+        tell_line(text, line)?;
+    }
+    Ok(())
+}
+
+/// Appends the end line.
+pub fn tell_end(text: &mut Vec<u8>, totals: &Totals) -> Result<(), NoMemory>
+    ensures { OnOk result (text.new.items ≡ text.old.items ++ end_line totals.now) }
+{
+    tell(
+        text,
+        &[
+            Piece::Words("end free "),
+            Piece::Number(totals.free),
+            Piece::Words(" active "),
+            Piece::Number(totals.active),
+            Piece::Words(" unlocking "),
+            Piece::Number(totals.unlocking),
+            Piece::Words(" deposits "),
+            Piece::Number(totals.deposits),
+            Piece::Words(" minted "),
+            Piece::Number(totals.minted),
+            Piece::Words(" burned "),
+            Piece::Number(totals.burned),
+            Piece::Words(" issuance "),
+            Piece::Number(totals.issuance),
+            Piece::Words("\n"),
+        ],
+    )
+}
