@@ -5,14 +5,20 @@ use Rattle.std.proofs.lemmas.Bool.{ltb-true, ltb-false, le-ltb, leb-false, lt-le
 use Rattle.std.proofs.lemmas.List.{append_cancel_left, take-append-drop, length-take-le, take_at}
 use Rattle.scale_wire.specs.declared.fault.Why.{Why}
 use Rattle.scale_wire.specs.declared.fault.Why.TheVariants.{Short, BadTag}
-use Rattle.scale_wire.specs.Form.{Begins, IsRefused, IsWire, IsBytes, part}
+use Rattle.scale_wire.specs.Form.{Form, Begins, IsRefused, IsWire, IsBytes, part}
 use Rattle.scale_wire.specs.FormLaws.{IsBytes-front}
 use Rattle.scale_wire.specs.LittleEndian.{little_endian, number_from}
 use Rattle.scale_wire.specs.LittleEndianLaws.{length-little_endian, number_from-little_endian, little_endian-number_from, number_from-bound}
 use Rattle.scale_wire.specs.Refusal.{first_reason, lacks}
-use Rattle.scale_wire.specs.Parts.{IsHead, missing_refusal, fixed, byte_string, tag_refusal, tag_form}
+use Rattle.scale_wire.specs.Parts.{missing_refusal, fixed, byte_string, tag_refusal, tag_form}
 
 -- ## A part with a way to read it
+
+-- The bytes begin with the spelling of the value, which has this many bytes.
+pub record IsHead {V : Type 0} (form : Form V) (bytes : List ℕ) (value : V) (size : ℕ) : Type 0 where
+  pub in_range : form.in_range value
+  pub whole : bytes ≡ form.spelling value ++ drop size bytes
+  pub size_is : length (form.spelling value) ≡ size
 
 -- `value` and `size` read the bytes that are not refused.
 pub record IsPart {V : Type 0} (spelling : V → List ℕ) (fits : V → Type 0) (refusal : List ℕ → Option Why) (most : ℕ) (value : List ℕ → V) (size : List ℕ → ℕ) : Type 0 where

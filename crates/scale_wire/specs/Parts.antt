@@ -1,5 +1,5 @@
 -- The parts that values are made of. A part is refused at its first byte, for the first reason that applies.
-use Rattle.std.specs.Prelude.{◌≡◌, ℕ, ◌^◌, ◌<◌, ◌≤◌, List, [], ◌∷◌, ◌++◌, length, drop, Option, slice_index, nat_lt, nat_le}
+use Rattle.std.specs.Prelude.{◌≡◌, ℕ, ◌^◌, ◌<◌, ◌≤◌, List, [], ◌∷◌, ◌++◌, length, Option, slice_index, nat_lt, nat_le}
 use Rattle.scale_wire.specs.declared.fault.Why.{Why}
 use Rattle.scale_wire.specs.declared.fault.Why.TheVariants.{Short, BadTag, TooMany}
 use Rattle.npos_base.specs.Account.{account_bytes}
@@ -62,9 +62,3 @@ length_refusal limit bytes =
 -- the length of a list that has at most `limit` items: a compact u32
 abbrev pub length_form : ℕ → Form ℕ
 length_form limit = part compact_bytes (λ number. number ≤ limit) (length_refusal limit) 5
-
--- The bytes begin with the spelling of the value, which has this many bytes.
-pub record IsHead {V : Type 0} (form : Form V) (bytes : List ℕ) (value : V) (size : ℕ) : Type 0 where
-  pub in_range : form.in_range value
-  pub whole : bytes ≡ form.spelling value ++ drop size bytes
-  pub size_is : length (form.spelling value) ≡ size
