@@ -1,5 +1,6 @@
 -- Accounts stand in a total order, which tells any two of them apart.
-use Rattle.std.proofs.Common.{◌≡◌, ◌≢◌, ℕ, Bool, true, false, ◌&&◌, nat_eq, refl, ap, sym, ◌∙◌, true≢false}
+use Rattle.std.proofs.Common.{◌≡◌, ◌≢◌, ℕ, Bool, true, false, ◌&&◌, nat_eq, refl, ap, ap₂, sym, ◌∙◌, true≢false, arith}
+use Rattle.std.proofs.lemmas.Bool.Decides.{nat_tests}
 use Rattle.std.specs.Cmp.{IsTotalOrder}
 use Rattle.std.specs.Ordering.{nat_cmp, is_eq, ordering_then}
 use Rattle.std.specs.declared.cmp.Ordering.{Ordering}
@@ -24,3 +25,20 @@ account_apart x y differ = by_order (account_cmp x y) refl where
   by_order Less e = refl
   by_order Equal e = absurd (differ (account_exact x y e))
   by_order Greater e = refl
+
+number_tie : (a b : ℕ) → nat_eq a b ≡ true → a ≡ b
+number_tie a b e = grind (arith, nat_tests)
+
+-- the test tells accounts apart exactly
+pub same_exact : (x y : AccountId) → same_account x y ≡ true → x ≡ y
+same_exact x y e = ap₂ (λ hi lo. record { hi = hi; lo = lo }) (number_tie x.hi y.hi (both (nat_eq x.hi y.hi) (nat_eq x.lo y.lo) e).0) (number_tie x.lo y.lo (both (nat_eq x.hi y.hi) (nat_eq x.lo y.lo) e).1) where
+  both : (b c : Bool) → (b && c) ≡ true → (b ≡ true) × (c ≡ true)
+  both true c e = (refl, e)
+  both false c e = absurd (true≢false (sym e))
+
+pub same_itself : (x : AccountId) → same_account x x ≡ true
+same_itself x = let p : nat_eq x.hi x.hi ≡ true = grind (arith, nat_tests) in let q : nat_eq x.lo x.lo ≡ true = grind (arith, nat_tests) in rw (p, q) refl
+
+-- the order answers Equal exactly where the test says so
+pub same_ordered : (x y : AccountId) → same_account x y ≡ false → is_eq (account_cmp y x) ≡ false
+same_ordered x y e = account_apart y x (λ is. true≢false (sym (same_itself x) ∙ ap (λ z. same_account x z) (sym is) ∙ e))

@@ -1,12 +1,12 @@
 -- The validators by rising account, after one standing is set or taken away.
-use Rattle.std.proofs.Common.{◌≡◌, ◌≢◌, ℕ, suc, ◌+◌, ◌<◌, ◌≤◌, Bool, true, false, cond, List, [], ◌∷◌, length, refl, ap, sym, ◌∙◌, subst, arith, Option, Some, None, true≢false, if◌then◌else◌}
+use Rattle.std.proofs.Common.{◌≡◌, ℕ, suc, ◌+◌, ◌<◌, ◌≤◌, Bool, true, false, cond, List, [], ◌∷◌, length, refl, ap, sym, ◌∙◌, subst, arith, Some, None, true≢false, if◌then◌else◌}
 use Rattle.std.specs.BTreeMap.{insert_entry, is_at}
 use Rattle.std.specs.BTreeSet.{insert_key}
 use Rattle.std.specs.Set.{remove_key}
 use Rattle.std.specs.Map.{lookup, keys_of, remove_entry}
 use Rattle.std.specs.List.{AllByRecursion}
 use Rattle.std.specs.List.Sorted.{IsStrictlySortedBy}
-use Rattle.std.specs.Ordering.{match_ordering, is_eq, ordering_reverse}
+use Rattle.std.specs.Ordering.{match_ordering, is_eq}
 use Rattle.std.specs.declared.cmp.Ordering.{Ordering}
 use Rattle.std.specs.declared.cmp.Ordering.TheVariants.{Less, Equal, Greater}
 use Rattle.npos_base.specs.declared.account.AccountId.{AccountId}
@@ -15,7 +15,7 @@ use Rattle.npos_base.proofs.AccountOrder.{account_total, account_exact, account_
 use Rattle.voter_lists.specs.declared.standing.Standing.{Standing}
 use Rattle.voter_lists.specs.declared.standing.Standing.TheVariants.{Nominator, Validator}
 use Rattle.voter_lists.specs.Ranked.{AreRanked}
-use Rattle.voter_lists.specs.Roles.{KeepsOthers, RoleList, validators_of, is_validator_standing, is_validator_in, is_validator, with_standing, without_role}
+use Rattle.voter_lists.specs.Roles.{KeepsOthers, RoleList, validators_of, is_validator_standing, is_validator_in, is_validator}
 
 module _ (who : AccountId) where
   all_below : (e : AccountId) (ks : List AccountId) → account_cmp who e ≡ Less → AllByRecursion (λ y. account_cmp e y ≡ Less) ks → AllByRecursion (λ y. account_cmp who y ≡ Less) ks

@@ -1,3 +1,6 @@
+pub mod Bag
+pub mod BagRows
+pub mod Bags
 pub mod Ranked
 pub mod Refusal
 pub mod Roles

@@ -2,11 +2,16 @@
 //! are listed, after Substrate's staking and bags-list pallets.
 #![tactic(auto)]
 
+mod bag;
+mod bags;
 mod ranks;
 mod refusal;
 mod roles;
+mod rows;
 mod standing;
+mod walk;
 
+pub use bags::Bags;
 pub use refusal::ListRefusal;
 pub use roles::Roles;
 pub use standing::{Role, Standing};

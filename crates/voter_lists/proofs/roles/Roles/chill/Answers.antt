@@ -1,5 +1,4 @@
 -- The account leaves the validators kept beside the standings.
-use Rattle.npos_base.specs.Account.{account_cmp}
 use Rattle.voter_lists.proofs.ValidatorLemmas.{ranked_rise, ranked_left, others_keep}
 use Rattle.voter_lists.proofs.roles.Roles.chill.Goals as goal
 

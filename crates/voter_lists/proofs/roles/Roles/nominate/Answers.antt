@@ -1,9 +1,8 @@
 -- The account leaves the validators kept beside the standings.
-use Rattle.std.proofs.Common.{◌≡◌, sym, ◌∙◌, ap, subst}
+use Rattle.std.proofs.Common.{sym, ◌∙◌, ap}
 use Rattle.std.proofs.lemmas.Result.{err_from_is_err_and}
 use Rattle.voter_lists.specs.Refusal.{answer_of}
 use Rattle.voter_lists.specs.Roles.{nominate_refusal}
-use Rattle.npos_base.specs.Account.{account_cmp}
 use Rattle.voter_lists.proofs.RefusalLemmas.{meets_answer}
 use Rattle.voter_lists.proofs.ValidatorLemmas.{ranked_rise, ranked_nominating, others_keep}
 use Rattle.voter_lists.proofs.roles.Roles.nominate.Goals as goal

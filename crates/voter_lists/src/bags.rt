@@ -1,0 +1,182 @@
+//! The bags, after Substrate's bags-list pallet: accounts by coarse score, so that no list is ever sorted.
+ghost use Rattle.std.specs.Prelude.{◌≡◌, ◌≢◌, ◌≤◌, [], ◌∷◌, length, IsTrue, Some, None, Ok, IfOk, OnOk, OnErr, not, true, false, slice_get};
+ghost use Rattle.voter_lists.specs.Refusal.{Meets};
+ghost use Rattle.voter_lists.specs.Bags.{Listing, IsRisingFrom, bag_of, is_listed, walk, account_after, inserted, removed, moved, updated, is_at_home, rebag_refusal, put_in_front, put_in_front_refusal};
+
+use crate::ListRefusal;
+use crate::bag::Bag;
+use crate::rows::{empty_bags, home_of, join_bag, leave_bag, put_in_bag};
+use crate::walk::top_of;
+use npos_base::{AccountId, List, NoMemory};
+use std::alloc::Global;
+use std::collections::BTreeMap;
+use std::marker::Model;
+
+/// The bags between thresholds of score. Contracts see the thresholds and the one list of accounts with the numbers
+/// of their bags, in the order of the walk.
+#[derive(Drop)]
+pub struct Bags {
+    thresholds: List<u64>,
+    bags: Vec<Bag>,
+    homes: BTreeMap<AccountId, usize>,
+}
+
+impl Model for Bags {
+    ghost use Rattle.voter_lists.specs.Bags.{Listing};
+
+    ghost Value = { Listing };
+
+    ghost use Rattle.voter_lists.specs.BagRows.{walk_from, home_in, AreHomes};
+
+    ghost view = { λ b. record { thresholds = b.thresholds; order = walk_from 0 b.bags.items } };
+
+    ghost invariant = { λ b. AreHomes b.thresholds b.bags.items (home_in b.homes.entries) };
+}
+
+impl Bags {
+    /// Empty bags, one more than there are thresholds.
+    pub fn new(alloc: Global, thresholds: List<u64>) -> Result<Bags, NoMemory>
+        requires few { length thresholds ≤ 200 }
+        requires rising { IsRisingFrom 0 thresholds }
+        ensures { IfOk result (λ bags. bags ≡ record { thresholds = thresholds; order = [] }) }
+    {
+        let bags = empty_bags(alloc, thresholds.len() + 1)?;
+        Ok(Bags {
+            thresholds,
+            bags,
+            homes: BTreeMap::new(alloc),
+        })
+    }
+
+    /// The account joins the tail of the bag of its score.
+    pub fn insert(&mut self, who: AccountId, score: u64) -> Result<(), NoMemory>
+        requires { is_listed self.old.order who ≡ false }
+        ensures ok { OnOk result (self.new ≡ inserted self.old who score) }
+        ensures err { OnErr result (self.new ≡ self.old) }
+    {
+        let number = number_of_score(self.thresholds.as_slice(), score);
+        self.homes.insert(who, number)?;
+        match join_bag(&mut self.bags, number, who) {
+            Ok(()) => Ok(()),
+            Err(NoMemory) => {
+                let _ = self.homes.remove(&who);
+                Err(NoMemory)
+            }
+        }
+    }
+
+    /// The account leaves its bag. It takes no memory.
+    pub fn remove(&mut self, who: AccountId)
+        requires { is_listed self.old.order who ≡ true }
+        ensures { self.new ≡ removed self.old who }
+    {
+        match self.homes.remove(&who) {
+            Some(number) => leave_bag(&mut self.bags, number, who),
+            None => unreachable!(),
+        }
+    }
+
+    /// Whether the account stands in a bag.
+    pub fn contains(&self, who: AccountId) -> bool
+        ensures { result ≡ is_listed self.now.order who }
+    {
+        home_of(&self.homes, who).is_some()
+    }
+
+    /// Moves the account to the tail of the bag of this score, where that is another one, and tells whether it was.
+    pub fn update(&mut self, who: AccountId, score: u64) -> Result<bool, NoMemory>
+        requires { is_listed self.old.order who ≡ true }
+        ensures answer { IfOk result (λ changed. changed ≡ not (is_at_home self.old who score)) }
+        ensures ok { OnOk result (self.new ≡ updated self.old who score) }
+        ensures err { OnErr result (self.new ≡ self.old) }
+    {
+        let number = number_of_score(self.thresholds.as_slice(), score);
+        let Some(home) = home_of(&self.homes, who) else {
+            unreachable!()
+        };
+        if home == number {
+            return Ok(false);
+        }
+        join_bag(&mut self.bags, number, who)?;
+        leave_bag(&mut self.bags, home, who);
+        match self.homes.insert(who, number) {
+            Ok(_) => Ok(true),
+            Err(_) => unreachable!(),
+        }
+    }
+
+    /// Moves the account to the tail of the bag of this score.
+    pub fn rebag(&mut self, who: AccountId, score: u64) -> Result<(), ListRefusal>
+        ensures { Meets (rebag_refusal self.old who score) (moved self.old who score) self.old self.new result }
+    {
+        if !self.contains(who) {
+            return Err(ListRefusal::NotListed);
+        }
+        if !self.update(who, score)? {
+            return Err(ListRefusal::SameBag);
+        }
+        Ok(())
+    }
+
+    /// Moves the account directly before a lighter one of its bag. In front of itself it stays where it is.
+    pub fn put_in_front(
+        &mut self,
+        who: AccountId,
+        score: u64,
+        lighter: AccountId,
+        lighter_score: u64,
+    ) -> Result<(), ListRefusal>
+        ensures { Meets (put_in_front_refusal self.old who score lighter lighter_score) (put_in_front self.old who lighter) self.old self.new result }
+    {
+        let Some(home) = home_of(&self.homes, who) else {
+            return Err(ListRefusal::NotListed);
+        };
+        let Some(other) = home_of(&self.homes, lighter) else {
+            return Err(ListRefusal::NotListed);
+        };
+        if home != other {
+            return Err(ListRefusal::OtherBag);
+        }
+        if score <= lighter_score {
+            return Err(ListRefusal::NotHeavier);
+        }
+        if who == lighter {
+            return Ok(());
+        }
+        put_in_bag(&mut self.bags, home, who, lighter)?;
+        Ok(())
+    }
+
+    /// The first account of the walk.
+    pub fn first(&self) -> Option<AccountId>
+        ensures { result ≡ slice_get (walk self.now.order) 0 }
+    {
+        top_of(self.bags.as_slice())
+    }
+
+    /// The account after this one in the walk, from the highest bag down and within a bag from head to tail.
+    pub fn next(&self, who: AccountId) -> Option<AccountId>
+        requires { is_listed self.now.order who ≡ true }
+        ensures { result ≡ account_after (walk self.now.order) who }
+    {
+        let Some(home) = home_of(&self.homes, who) else {
+            unreachable!()
+        };
+        let after = self.bags[home].after(who);
+        if after.is_some() {
+            return after;
+        }
+        top_of(&self.bags.as_slice()[..home])
+    }
+}
+
+/// How many thresholds are below the score. There are at most 200.
+fn number_of_score(thresholds: &[u64], score: u64) -> usize
+    ensures number { result ≡ bag_of thresholds.now score }
+    ensures within { result ≤ length thresholds.now }
+{
+    thresholds
+        .iter()
+        .filter(|threshold| **threshold < score)
+        .count()
+}
