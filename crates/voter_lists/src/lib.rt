@@ -15,3 +15,6 @@ pub use bags::Bags;
 pub use refusal::ListRefusal;
 pub use roles::Roles;
 pub use standing::{Role, Standing};
+
+#[cfg(test)]
+mod tests;

@@ -1,0 +1,117 @@
+//! The walk of five accounts over three bags, and each refusal of the lists.
+use crate::{Bags, ListRefusal, Role, Roles};
+use npos_base::{AccountId, List, NoMemory};
+use std::alloc::Global;
+use std::test::Fail;
+
+/// The account of 31 bytes 0 and this one.
+const fn at(n: u8) -> AccountId {
+    AccountId {
+        hi: 0,
+        lo: n as u128,
+    }
+}
+
+fn list_of<T: Copy>(alloc: Global, items: &[T]) -> Result<List<T>, NoMemory> {
+    Ok(List::from_vec(Vec::from_slice(alloc, items)?))
+}
+
+/// Bags between 100 and 1000 that five accounts joined in turn.
+fn five_in_bags(alloc: Global) -> Result<Bags, NoMemory> {
+    let mut bags = Bags::new(alloc, list_of(alloc, &[100, 1000])?)?;
+    for (n, score) in [(1, 50), (2, 100), (3, 101), (4, 2000), (5, 70)] {
+        if !bags.contains(at(n)) {
+            bags.insert(at(n), score)?;
+        }
+    }
+    Ok(bags)
+}
+
+/// Whether these accounts are the walk.
+fn walks(bags: &Bags, accounts: &[AccountId]) -> bool {
+    let mut next = bags.first();
+    for account in accounts {
+        if next != Some(*account) || !bags.contains(*account) {
+            return false;
+        }
+        next = bags.next(*account);
+    }
+    next.is_none()
+}
+
+#[test]
+fn the_walk_goes_from_the_highest_bag_down(rt: HostRuntime) -> Result<(), Fail> {
+    let mut bags = five_in_bags(rt.alloc())?;
+    assert!(rt; walks(&bags, &[at(4), at(3), at(1), at(2), at(5)]));
+    assert_eq!(rt; bags.put_in_front(at(2), 100, at(1), 50), Ok(()));
+    assert!(rt; walks(&bags, &[at(4), at(3), at(2), at(1), at(5)]));
+    assert_eq!(rt;
+        bags.put_in_front(at(5), 70, at(2), 100),
+        Err(ListRefusal::NotHeavier)
+    );
+    assert_eq!(rt;
+        bags.put_in_front(at(1), 50, at(3), 101),
+        Err(ListRefusal::OtherBag)
+    );
+    assert_eq!(rt; bags.rebag(at(1), 50), Err(ListRefusal::SameBag));
+    assert_eq!(rt; bags.rebag(at(6), 50), Err(ListRefusal::NotListed));
+    Ok(())
+}
+
+#[test]
+fn accounts_move_and_leave(rt: HostRuntime) -> Result<(), Fail> {
+    let mut bags = five_in_bags(rt.alloc())?;
+    assert_eq!(rt; bags.rebag(at(1), 1000), Ok(()));
+    assert!(rt; bags.contains(at(2)));
+    bags.remove(at(2));
+    assert!(rt; bags.contains(at(5)));
+    assert_eq!(rt; bags.update(at(5), 5000), Ok(true));
+    assert!(rt; walks(&bags, &[at(4), at(5), at(3), at(1)]));
+    Ok(())
+}
+
+#[test]
+fn roles_come_and_go(rt: HostRuntime) -> Result<(), Fail> {
+    let alloc = rt.alloc();
+    let mut roles = Roles::new(alloc);
+    assert_eq!(rt; roles.validate(at(2), 7), Ok(()));
+    assert_eq!(rt; roles.validate(at(1), 9), Ok(()));
+    assert_eq!(rt; roles.validator_count(), 2);
+    assert_eq!(rt; roles.validator_at(0), at(1));
+    assert_eq!(rt;
+        roles.nominate(at(3), list_of(alloc, &[at(2), at(1)])?),
+        Ok(())
+    );
+    assert_eq!(rt; roles.targets_of(at(3)), [at(2), at(1)].as_slice());
+    assert_eq!(rt; roles.role(at(2)), Role::Validator { commission: 7 });
+    assert_eq!(rt; roles.chill(at(2)), Ok(()));
+    assert_eq!(rt; roles.role(at(2)), Role::Nobody);
+    assert_eq!(rt; roles.chill(at(2)), Err(ListRefusal::NotListed));
+    assert_eq!(rt;
+        roles.validate(at(2), 1_000_000_001),
+        Err(ListRefusal::BadFraction)
+    );
+    Ok(())
+}
+
+#[test]
+fn a_nomination_is_refused_for_its_first_fault(rt: HostRuntime) -> Result<(), Fail> {
+    let alloc = rt.alloc();
+    let mut roles = Roles::new(alloc);
+    roles.validate(at(1), 0)?;
+    let many = [at(1); 17];
+    let table: [(&[AccountId], ListRefusal); 5] = [
+        (&[], ListRefusal::NoTargets),
+        (&many, ListRefusal::TooManyTargets),
+        (&[at(9), at(1), at(9)], ListRefusal::RepeatedTarget),
+        (&[at(1), at(9)], ListRefusal::NotValidator),
+        (&[at(5)], ListRefusal::NotValidator),
+    ];
+    for (targets, refusal) in table {
+        assert_eq!(rt;
+            roles.nominate(at(5), list_of(alloc, targets)?),
+            Err(refusal)
+        );
+    }
+    Ok(())
+}
