@@ -2,3 +2,5 @@ pub mod Genesis
 pub mod GenesisLaws
 pub mod Calls
 pub mod CallLaws
+pub mod Bundles
+pub mod BundleLaws

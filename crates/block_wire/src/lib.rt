@@ -3,6 +3,7 @@
 #![tactic(auto)]
 
 mod block;
+mod bundle;
 mod call;
 mod genesis;
 pub mod laws;
@@ -10,5 +11,6 @@ pub mod laws;
 mod tests;
 
 pub use block::Block;
+pub use bundle::{Bundle, BundleVoter, Work};
 pub use call::{Call, CallKind};
 pub use genesis::{Endowment, Genesis, Params};

@@ -1,4 +1,4 @@
-use crate::{Block, CallKind, Endowment, Genesis, Params};
+use crate::{Block, Bundle, CallKind, Endowment, Genesis, Params};
 use npos_base::{AccountId, List, NoMemory};
 use scale_wire::fault::{ReadFault, Why, WireFault};
 use scale_wire::{Pen, Wire, read_whole};
@@ -218,4 +218,44 @@ fn written<T: Wire>(alloc: Global, value: &T) -> Result<List<u8>, NoMemory>
     let mut pen = Pen::new(alloc);
     value.write(&mut pen)?;
     Ok(pen.finish())
+}
+
+// Three targets, two voters and a packed solution.
+const PACKED: [u8; 210] = [
+    0x08, // two seats
+    0x0c, // three targets
+    0, 0, 0, 0, 0, 0, 0, 0, 0, 0, 0, 0, 0, 0, 0, 0, 0, 0, 0, 0, 0, 0, 0, 0, 0, 0, 0, 0, 0, 0, 0,
+    0x01, 0, 0, 0, 0, 0, 0, 0, 0, 0, 0, 0, 0, 0, 0, 0, 0, 0, 0, 0, 0, 0, 0, 0, 0, 0, 0, 0, 0, 0, 0,
+    0, 0x02, 0, 0, 0, 0, 0, 0, 0, 0, 0, 0, 0, 0, 0, 0, 0, 0, 0, 0, 0, 0, 0, 0, 0, 0, 0, 0, 0, 0, 0,
+    0, 0, 0x03, 0x08, // two voters
+    0, 0, 0, 0, 0, 0, 0, 0, 0, 0, 0, 0, 0, 0, 0, 0, 0, 0, 0, 0, 0, 0, 0, 0, 0, 0, 0, 0, 0, 0, 0,
+    0x04, 0xf0, 0x04, 0, // 60 for [0]
+    0, 0, 0, 0, 0, 0, 0, 0, 0, 0, 0, 0, 0, 0, 0, 0, 0, 0, 0, 0, 0, 0, 0, 0, 0, 0, 0, 0, 0, 0, 0,
+    0x05, 0xa0, 0x04, 0x04, // 40 for [1]
+    0x01, 0xa0, 0x91, 0x01, 0x50, 0x14, 0, 0, 0, 0, 0, 0, 0, 0, 0, 0, 0, 0, 0, 0, // packed, the claim (40, 100, 5200)
+    0x50, // 20 bytes
+    0x08, 0, 0, 0x04, 0x04, 0, 0, 0, 0, 0, 0, 0, 0, 0, 0, 0, 0, 0, 0, 0, // the solution
+];
+
+// No target, no voter, and the committee [1] with one edge of 100 units from voter 2 to target 1.
+const PLAIN_WORK: [u8; 11] = [
+    0x04, 0, 0, 0x02, // one seat, plain
+    0x04, 0x04, // the committee
+    0x04, 0x08, 0x04, 0x91, 0x01, // the edge
+];
+
+#[test]
+fn bundles(rt: HostRuntime) -> Result<(), Fail> {
+    let bundle = read_whole::<Bundle>(rt.alloc(), &PACKED)?;
+    assert_eq!(rt; written(rt.alloc(), &bundle)?.as_slice(), PACKED.as_slice());
+    assert_eq!(rt;
+        (bundle.seats, bundle.targets.len(), bundle.voters.len()),
+        (2, 3, 2)
+    );
+    let bundle = read_whole::<Bundle>(rt.alloc(), &PLAIN_WORK)?;
+    assert_eq!(rt;
+        written(rt.alloc(), &bundle)?.as_slice(),
+        PLAIN_WORK.as_slice()
+    );
+    Ok(())
 }
