@@ -1,4 +1,4 @@
-use crate::{Block, Bundle, CallKind, Endowment, Genesis, Params};
+use crate::{Block, Bundle, CallKind, Endowment, Genesis, Params, laws};
 use npos_base::{AccountId, List, NoMemory};
 use scale_wire::fault::{ReadFault, Why, WireFault};
 use scale_wire::{Pen, Wire, read_whole};
@@ -258,4 +258,10 @@ fn bundles(rt: HostRuntime) -> Result<(), Fail> {
         PLAIN_WORK.as_slice()
     );
     Ok(())
+}
+
+#[test]
+fn the_laws_can_be_called() {
+    laws::a_genesis_is_bounded();
+    laws::an_option_of_a_block_is_bounded();
 }
