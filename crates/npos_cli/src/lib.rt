@@ -5,6 +5,8 @@ mod edges;
 mod replaying;
 mod status;
 mod telling;
+#[cfg(test)]
+mod tests;
 mod top;
 
 pub use status::Status;
