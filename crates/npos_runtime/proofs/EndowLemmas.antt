@@ -15,7 +15,8 @@ use Rattle.stake_ledger.specs.Accounts.{is_same}
 use Rattle.stake_ledger.specs.Rows.{gained}
 use Rattle.stake_ledger.specs.Ledger.{Ledger, row_of, empty_ledger, issuance_cap}
 use Rattle.stake_ledger.specs.Calls.{endowed}
-use Rattle.stake_ledger.proofs.LedgerLemmas.{account_total, account_exact, row_of-changed, others_stay}
+use Rattle.npos_base.proofs.AccountOrder.{account_total, account_exact}
+use Rattle.stake_ledger.proofs.LedgerLemmas.{row_of-changed, others_stay}
 use Rattle.npos_runtime.specs.declared.begin.GenesisFault.{GenesisFault}
 use Rattle.npos_runtime.specs.declared.begin.GenesisFault.TheVariants.{RepeatedAccount, TooMuch}
 use Rattle.npos_runtime.specs.Genesis.{is_endowed, endowment_sum, endowed_all, endowment_fault, opening_fault, IsFault}

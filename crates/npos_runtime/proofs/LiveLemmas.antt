@@ -2,8 +2,6 @@
 use Rattle.std.proofs.Common.{◌≡◌, ◌≢◌, ⊎_elim, ◌⊎◌, inl, inr, ℕ, zero, suc, ◌/◌, ◌+◌, ◌≤◌, Bool, true, false, All, List, [], ◌∷◌, Option, Some, None, option_map, refl, sym, ◌∙◌, ap, subst, arith, nat_lt, ◌-◌, ◌<◌, ◌^◌, ◌==◌, ◌&&◌}
 use Rattle.std.specs.Option.{unwrap_or}
 use Rattle.std.specs.Ordering.{is_eq}
-use Rattle.std.specs.Cmp.{Equal-is}
-use Rattle.std.proofs.lemmas.Cmp.{tied_itself}
 use Rattle.std.proofs.lemmas.Bool.{cond_both}
 use Rattle.std.proofs.lemmas.Bool.Decides.{eqb_tells}
 use Rattle.std.proofs.lemmas.List.Elements.{All-filter, All-cons, All-head, All-tail}
@@ -21,7 +19,7 @@ use Rattle.stake_ledger.specs.Chunks.{chunk_sum, with_chunk, without_latest, les
 use Rattle.stake_ledger.specs.Rows.{empty_row, bonded, unbonded, rebonded, withdrawn, gained, paid}
 use Rattle.stake_ledger.specs.Ledger.{Ledger, row_at, row_of, changed, IsBalanced, OthersStay}
 use Rattle.stake_ledger.specs.Calls.{transfer_refusal, transferred, bond_refusal, bond_extra_refusal, unbond_refusal, unbond_amount, rebond_amount}
-use Rattle.stake_ledger.proofs.LedgerLemmas.{account_total, row_of-changed, others_stay, schedule_at}
+use Rattle.stake_ledger.proofs.LedgerLemmas.{row_of-changed, others_stay, schedule_at}
 use Rattle.stake_ledger.proofs.RowLemmas.{bond_funds, bond_extra_funds}
 use Rattle.stake_ledger.proofs.KeepLemmas.{balanced-changed, balanced_bonded, balanced_transferred, keeps_unbonded, keeps_rebonded, keeps_withdrawn}
 use Rattle.npos_runtime.specs.declared.chain.Chain.{Chain}
@@ -87,14 +85,6 @@ none_inside f (Some a) e = cc
 transfer_funds : (who to : AccountId) (value : ℕ) (ledger : Ledger) → transfer_refusal ledger who to value ≡ None → value ≤ (row_at ledger who).free
 transfer_funds who to value ledger allowed = grind (arith, common_steps, allowed)
 
-not_same : (who to : AccountId) (value : ℕ) (ledger : Ledger) → transfer_refusal ledger who to value ≡ None → is_same who to ≡ false
-not_same who to value ledger allowed = grind (arith, common_steps, allowed)
-
-transfer_apart : (who to : AccountId) (value : ℕ) (ledger : Ledger) → transfer_refusal ledger who to value ≡ None → who ≢ to
-transfer_apart who to value ledger allowed e =
-  let other : is_same who who ≡ false = ap (λ (w : AccountId). is_same who w) e ∙ not_same who to value ledger allowed in
-  let self : is_same who who ≡ true = (Equal-is (account_cmp who who)).1 (tied_itself account_total who) in cc
-
 -- the chain with other books that keep what it needs
 with_book : (chain : Chain) (book : Ledger) → IsLive chain → IsBalanced book
   → ((who : AccountId) → All (λ chunk. chunk.release ≤ release_now chain) (row_at book who).chunks) → IsLive (record chain { book = book })
@@ -108,10 +98,10 @@ unfolding stop_of done_of
 live_done chain who (kinds.Transfer to value) live free =
   let allowed = none_inside ByLedger (transfer_refusal chain.book who to value) free in
   with_book chain (transferred who to value chain.book) live
-    (balanced_transferred who to value chain.book live.balanced (transfer_apart who to value chain.book allowed) (transfer_funds who to value chain.book allowed))
-    (chunks_changed (All (λ chunk. chunk.release ≤ release_now chain)) who (paid value) (changed to (gained value) chain.book)
-      (chunks_changed (All (λ chunk. chunk.release ≤ release_now chain)) to (gained value) chain.book live.releases (live.releases to))
-      (chunks_changed (All (λ chunk. chunk.release ≤ release_now chain)) to (gained value) chain.book live.releases (live.releases to) who))
+    (balanced_transferred who to value chain.book live.balanced (transfer_funds who to value chain.book allowed))
+    (chunks_changed (All (λ chunk. chunk.release ≤ release_now chain)) to (gained value) (changed who (paid value) chain.book)
+      (chunks_changed (All (λ chunk. chunk.release ≤ release_now chain)) who (paid value) chain.book live.releases (live.releases who))
+      (chunks_changed (All (λ chunk. chunk.release ≤ release_now chain)) who (paid value) chain.book live.releases (live.releases who) to))
 live_done chain who (kinds.Bond value) live free =
   let allowed = none_inside ByLedger (bond_refusal (row_at chain.book who) value (least_bond_of chain.params)) free in
   with_book chain (changed who (bonded value) chain.book) live

@@ -206,53 +206,47 @@ kept_endowed who value ledger totals kept unminted within =
           (omega (arith, kept.balanced.equation, ap (λ (t : Totals). t.issuance) kept.running));
     }
 
--- the payer's row is not changed by what the other one gains
-payer_stays : (from to : AccountId) (value : ℕ) (ledger : Ledger) → from ≢ to → row_at (changed to (gained value) ledger) from ≡ row_at ledger from
-payer_stays from to value ledger differ = ap (λ (o : Option Row). unwrap_or o empty_row) (others_stay to (gained value) ledger from differ)
-
 total_transferred : (part : Row → ℕ) → part empty_row ≡ 0 → ((row : Row) (value : ℕ) → part (gained value row) ≡ part row) → ((row : Row) (value : ℕ) → part (paid value row) ≡ part row)
     → (from to : AccountId) (value : ℕ) (ledger : Ledger) → IsBalanced ledger → total part (transferred from to value ledger) ≡ total part ledger
 total_transferred part none gains pays from to value ledger balanced =
     omega (
       arith,
-      total-changed part none to (gained value) ledger balanced.distinct,
-      gains (row_at ledger to) value,
-      total-changed part none from (paid value) (changed to (gained value) ledger) (ordered-changed to (gained value) ledger balanced.distinct),
-      pays (row_at (changed to (gained value) ledger) from) value,
+      total-changed part none from (paid value) ledger balanced.distinct,
+      pays (row_at ledger from) value,
+      total-changed part none to (gained value) (changed from (paid value) ledger) (ordered-changed from (paid value) ledger balanced.distinct),
+      gains (row_at (changed from (paid value) ledger) to) value,
     )
 
 free_transferred : (part : Row → ℕ) → part empty_row ≡ 0 → ((row : Row) (value : ℕ) → part (gained value row) ≡ part row + value)
     → ((row : Row) (value : ℕ) → value ≤ row.free → part (paid value row) + value ≡ part row)
-    → (from to : AccountId) (value : ℕ) (ledger : Ledger) → IsBalanced ledger → from ≢ to → value ≤ (row_at ledger from).free
+    → (from to : AccountId) (value : ℕ) (ledger : Ledger) → IsBalanced ledger → value ≤ (row_at ledger from).free
     → total part (transferred from to value ledger) ≡ total part ledger
-free_transferred part none gains pays from to value ledger balanced differ within =
-    let same = payer_stays from to value ledger differ in
-    let enough : value ≤ (row_at (changed to (gained value) ledger) from).free = rw same within in
+free_transferred part none gains pays from to value ledger balanced within =
     omega (
       arith,
-      total-changed part none to (gained value) ledger balanced.distinct,
-      gains (row_at ledger to) value,
-      total-changed part none from (paid value) (changed to (gained value) ledger) (ordered-changed to (gained value) ledger balanced.distinct),
-      pays (row_at (changed to (gained value) ledger) from) value enough,
+      total-changed part none from (paid value) ledger balanced.distinct,
+      pays (row_at ledger from) value within,
+      total-changed part none to (gained value) (changed from (paid value) ledger) (ordered-changed from (paid value) ledger balanced.distinct),
+      gains (row_at (changed from (paid value) ledger) to) value,
     )
 
-pub balanced_transferred : (from to : AccountId) (value : ℕ) (ledger : Ledger) → IsBalanced ledger → from ≢ to → value ≤ (row_at ledger from).free
+pub balanced_transferred : (from to : AccountId) (value : ℕ) (ledger : Ledger) → IsBalanced ledger → value ≤ (row_at ledger from).free
     → IsBalanced (transferred from to value ledger)
-balanced_transferred from to value ledger balanced differ within =
-    let first = schedules-changed to (gained value) ledger balanced.schedules (schedule_at to ledger balanced.schedules) in
+balanced_transferred from to value ledger balanced within =
+    let first = schedules-changed from (paid value) ledger balanced.schedules (schedule_at from ledger balanced.schedules) in
     record {
-      distinct = ordered-changed from (paid value) (changed to (gained value) ledger) (ordered-changed to (gained value) ledger balanced.distinct);
-      schedules = schedules-changed from (paid value) (changed to (gained value) ledger) first (schedule_at from (changed to (gained value) ledger) first);
-      equation = omega (arith, free_transferred worth refl (λ row n. omega arith) (λ row n w. omega arith) from to value ledger balanced differ within, balanced.equation);
+      distinct = ordered-changed to (gained value) (changed from (paid value) ledger) (ordered-changed from (paid value) ledger balanced.distinct);
+      schedules = schedules-changed to (gained value) (changed from (paid value) ledger) first (schedule_at to (changed from (paid value) ledger) first);
+      equation = omega (arith, free_transferred worth refl (λ row n. omega arith) (λ row n w. omega arith) from to value ledger balanced within, balanced.equation);
       capped = balanced.capped;
     }
 
-pub kept_transferred : (from to : AccountId) (value : ℕ) (ledger : Ledger) (totals : Totals) → IsKept ledger totals → from ≢ to → value ≤ (row_at ledger from).free
+pub kept_transferred : (from to : AccountId) (value : ℕ) (ledger : Ledger) (totals : Totals) → IsKept ledger totals → value ≤ (row_at ledger from).free
     → IsKept (transferred from to value ledger) totals
-kept_transferred from to value ledger totals kept differ within = record {
-  balanced = balanced_transferred from to value ledger kept.balanced differ within;
+kept_transferred from to value ledger totals kept within = record {
+  balanced = balanced_transferred from to value ledger kept.balanced within;
   running = totals_same totals (totals_of (transferred from to value ledger))
-      (ap (λ (t : Totals). t.free) kept.running ∙ sym (free_transferred (λ row. row.free) refl (λ row n. refl) (λ row n w. omega arith) from to value ledger kept.balanced differ within))
+      (ap (λ (t : Totals). t.free) kept.running ∙ sym (free_transferred (λ row. row.free) refl (λ row n. refl) (λ row n w. omega arith) from to value ledger kept.balanced within))
       (ap (λ (t : Totals). t.active) kept.running ∙ sym (total_transferred (λ row. row.active) refl (λ row n. refl) (λ row n. refl) from to value ledger kept.balanced))
       (ap (λ (t : Totals). t.unlocking) kept.running ∙ sym (total_transferred (λ row. chunk_sum row.chunks) refl (λ row n. refl) (λ row n. refl) from to value ledger kept.balanced))
       (ap (λ (t : Totals). t.deposits) kept.running ∙ sym (total_transferred (λ row. row.held) refl (λ row n. refl) (λ row n. refl) from to value ledger kept.balanced))

@@ -1,5 +1,5 @@
 -- The books' equation and the running totals, after one row is changed.
-use Rattle.std.proofs.Common.{◌≡◌, ◌≢◌, ℕ, ◌+◌, ◌≤◌, false, List, [], ◌∷◌, refl, ap, sym, subst, arith, Option, Some, None, unwrap_or, option_map, sum_by, All, IfSome, nat_eq, ◌&&◌, true≢false}
+use Rattle.std.proofs.Common.{◌≡◌, ◌≢◌, ◌∙◌, ℕ, ◌+◌, ◌-◌, ◌≤◌, false, List, [], ◌∷◌, refl, ap, sym, subst, arith, Option, Some, None, unwrap_or, option_map, sum_by, All, IfSome, nat_eq, ◌&&◌, true≢false}
 use Rattle.std.specs.BTreeMap.{insert_entry, is_at}
 use Rattle.std.specs.Cmp.{IsTotalOrder}
 use Rattle.std.specs.Map.{keys_of, values_of, lookup, set_value}
@@ -15,27 +15,12 @@ use Rattle.std.proofs.lemmas.Map.Views.{All-values-insert_entry, IfSome-lookup_f
 use Rattle.std.proofs.lemmas.Grind.{common_steps}
 use Rattle.npos_base.specs.declared.account.AccountId.{AccountId}
 use Rattle.npos_base.specs.Account.{account_cmp}
+use Rattle.npos_base.proofs.AccountOrder.{account_total, account_apart}
 use Rattle.stake_ledger.specs.declared.row.Row.{Row}
 use Rattle.stake_ledger.specs.Chunks.{chunk_sum, IsSchedule}
-use Rattle.stake_ledger.specs.Rows.{empty_row, worth}
-use Rattle.stake_ledger.specs.Ledger.{Ledger, row_in, row_of, row_at, with_row, changed, total, OthersStay}
-use Rattle.stake_ledger.proofs.MapLemmas.{sorted_put, lookup_put, lookup_other, put_in_place}
-
-pub account_total : IsTotalOrder account_cmp
-account_total = then_total (on_total (λ (a : AccountId). a.hi) nat_cmp_total) (on_total (λ (a : AccountId). a.lo) nat_cmp_total)
-
--- accounts that compare equal are the same
-pub account_exact : (x y : AccountId) → account_cmp x y ≡ Equal → x ≡ y
-account_exact x y e =
-    ap (λ (p : ℕ × ℕ). record { hi = p.0; lo = p.1 }) (exact_pairs nat_cmp nat_cmp exact_unsigned exact_unsigned (x.hi, x.lo) (y.hi, y.lo) e)
-
-apart_at : (x y : AccountId) (r : Ordering) → account_cmp x y ≡ r → x ≢ y → is_eq r ≡ false
-apart_at x y Less e differ = refl
-apart_at x y Equal e differ = absurd (differ (account_exact x y e))
-apart_at x y Greater e differ = refl
-
-pub apart : (x y : AccountId) → x ≢ y → is_eq (account_cmp x y) ≡ false
-apart x y differ = apart_at x y (account_cmp x y) refl differ
+use Rattle.stake_ledger.specs.Rows.{empty_row, worth, gained, paid}
+use Rattle.stake_ledger.specs.Ledger.{Ledger, row_in, row_of_entries, row_of, row_at, with_row, changed, total, OthersStay}
+use Rattle.stake_ledger.proofs.MapLemmas.{sorted_put, lookup_put, lookup_other, put_in_place, put_back}
 
 -- a row that is there is changed in its place
 pub changed_in_place : (who : AccountId) (rows : List (AccountId × Row)) (row new : Row) → IsStrictlySortedBy account_cmp (keys_of rows)
@@ -44,17 +29,17 @@ changed_in_place who rows row new ordered found = put_in_place account_total who
 
 -- no other row changes
 pub others_stay : (who : AccountId) (change : Row → Row) (ledger : Ledger) → OthersStay who ledger (changed who change ledger)
-others_stay who change ledger = λ other differ. lookup_other account_total who (change (row_at ledger who)) other ledger.rows (apart other who differ)
+others_stay who change ledger = λ other differ. lookup_other account_total who (change (row_at ledger who)) other ledger.rows (account_apart other who differ)
 
 pub others_by : (who : AccountId) (change : Row → Row) (old new : List (AccountId × Row)) → new ≡ with_row who change old
     → (other : AccountId) → other ≢ who → lookup (is_at (account_cmp other)) new ≡ lookup (is_at (account_cmp other)) old
 others_by who change old new e other differ =
-    rw e (lookup_other account_total who (change (row_in old who)) other old (apart other who differ))
+    rw e (lookup_other account_total who (change (row_in old who)) other old (account_apart other who differ))
 
 pub row_in_other : (who : AccountId) (change : Row → Row) (rows : List (AccountId × Row)) (other : AccountId) → other ≢ who
     → row_in (with_row who change rows) other ≡ row_in rows other
 row_in_other who change rows other differ =
-    ap (λ (o : Option Row). unwrap_or o empty_row) (lookup_other account_total who (change (row_in rows who)) other rows (apart other who differ))
+    ap (λ (o : Option Row). unwrap_or o empty_row) (lookup_other account_total who (change (row_in rows who)) other rows (account_apart other who differ))
 
 -- accounts of which a comparison says so are different
 pub different : (x y : AccountId) → (nat_eq x.hi y.hi && nat_eq x.lo y.lo) ≡ false → x ≢ y
@@ -109,3 +94,21 @@ pub total_worth : (rows : List Row) → sum_by worth rows
     ≡ sum_by (λ row. row.free) rows + sum_by (λ row. row.active) rows + sum_by (λ row. chunk_sum row.chunks) rows + sum_by (λ row. row.held) rows
 total_worth [] = refl
 total_worth (row ∷ rows) = rw (sum_by-cons, sum_by-cons, sum_by-cons, sum_by-cons, sum_by-cons, total_worth rows) (omega arith)
+
+pub row_in_put : (who : AccountId) (change : Row → Row) (rows : List (AccountId × Row)) → row_in (with_row who change rows) who ≡ change (row_in rows who)
+row_in_put who change rows = ap (λ (o : Option Row). unwrap_or o empty_row) (lookup_put account_total who (change (row_in rows who)) rows)
+
+same_free : (row : Row) (value : ℕ) → value ≤ row.free → gained value (paid value row) ≡ row
+same_free row value within = let same : row.free - value + value ≡ row.free = omega (arith, within) in ap (λ free. record row { free = free }) same
+
+-- what was paid, given back, leaves the rows as they were
+pub given_back : (who : AccountId) (value : ℕ) (rows : List (AccountId × Row)) → IsStrictlySortedBy account_cmp (keys_of rows)
+    → row_of_entries who rows ≡ Some (row_in rows who) → value ≤ (row_in rows who).free → with_row who (gained value) (with_row who (paid value) rows) ≡ rows
+given_back who value rows ordered there within =
+    ap (λ (row : Row). insert_entry account_cmp (with_row who (paid value) rows) who row)
+      (ap (gained value) (row_in_put who (paid value) rows) ∙ same_free (row_in rows who) value within)
+    ∙ put_back account_total who (paid value (row_in rows who)) rows (row_in rows who) ordered there
+
+pub row_of-put : (who : AccountId) (change : Row → Row) (rows : List (AccountId × Row))
+    → row_of_entries who (with_row who change rows) ≡ Some (row_in (with_row who change rows) who)
+row_of-put who change rows = lookup_put account_total who (change (row_in rows who)) rows ∙ ap Some (sym (row_in_put who change rows))

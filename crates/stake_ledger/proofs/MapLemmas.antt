@@ -77,3 +77,21 @@ module _ {K X : Type 0} {R : K → K → Ordering} (o : IsTotalOrder R) (k : K) 
   put_in_place [] row s found = cc
   put_in_place (e ∷ es) row s found =
       in_place_at e es row (R k e.0) refl s found (λ there. put_in_place es row (sorted_tail R e.0 (keys_of es) s) there)
+
+  undone_at : (e : K × X) (es : List (K × X)) (row : X) (r : Ordering) → R k e.0 ≡ r → IsStrictlySortedBy R (keys_of (e ∷ es)) → lookup (is_at (R k)) (e ∷ es) ≡ Some row
+      → (lookup (is_at (R k)) es ≡ Some row → insert_entry R (insert_entry R es k v) k row ≡ es)
+      → insert_entry R (match_ordering r ((k, v) ∷ e ∷ es) ((e.0, v) ∷ es) (e ∷ insert_entry R es k v)) k row ≡ e ∷ es
+  undone_at e es row Less is s found rest =
+      let none : lookup (is_at (R k)) (e ∷ es) ≡ None = lookup-none (is_at (R k)) (e ∷ es) (none_below_head o k e es s is) in cc
+  undone_at e es row Equal is s found rest =
+      let here : Some e.1 ≡ Some row = rw is at found in
+      let same : e.1 ≡ row = cc in
+      rw is (ap (λ (x : X). (e.0, x) ∷ es) (sym same))
+  undone_at e es row Greater is s found rest = rw is (ap (λ l. e ∷ l) (rest (rw is at found)))
+
+  -- what was there, put back, undoes the change
+  pub put_back : (es : List (K × X)) (row : X) → IsStrictlySortedBy R (keys_of es) → lookup (is_at (R k)) es ≡ Some row
+      → insert_entry R (insert_entry R es k v) k row ≡ es
+  put_back [] row s found = cc
+  put_back (e ∷ es) row s found =
+      undone_at e es row (R k e.0) refl s found (λ there. put_back es row (sorted_tail R e.0 (keys_of es) s) there)

@@ -24,7 +24,7 @@ transfer_refusal ledger from to value =
     else None
 
 abbrev pub transferred : AccountId → AccountId → ℕ → Ledger → Ledger
-transferred from to value ledger = changed from (paid value) (changed to (gained value) ledger)
+transferred from to value ledger = changed to (gained value) (changed from (paid value) ledger)
 
 abbrev pub bond_refusal : Row → ℕ → ℕ → Option LedgerRefusal
 bond_refusal row value minimum =

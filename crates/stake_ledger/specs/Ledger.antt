@@ -21,6 +21,9 @@ abbrev pub empty_ledger : Ledger
 empty_ledger = record { rows = []; genesis = 0; minted = 0; burned = 0 }
 
 -- the row of an account, which has nothing where it has none
+abbrev pub row_of_entries : AccountId → List (AccountId × Row) → Option Row
+row_of_entries who rows = lookup (is_at (account_cmp who)) rows
+
 abbrev pub row_in : List (AccountId × Row) → AccountId → Row
 row_in rows who = unwrap_or (lookup (is_at (account_cmp who)) rows) empty_row
 

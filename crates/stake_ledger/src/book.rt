@@ -101,11 +101,7 @@ impl Book {
         if from == to {
             return Err(LedgerRefusal::SameAccount);
         }
-        if self.free(from) < value {
-            return Err(LedgerRefusal::LowFunds);
-        }
-        rows::gain(&mut self.rows, self.alloc, to, value)?;
-        rows::pay(&mut self.rows, from, value);
+        rows::transfer(&mut self.rows, self.alloc, from, to, value)?;
         Ok(())
     }
 

@@ -1,7 +1,8 @@
 //! What one account has.
 ghost use Rattle.std.specs.Prelude.{◌≡◌, ◌+◌, ◌^◌, ◌<◌, ◌≤◌, IsTrue, OnErr, OnOk, IfErr, IfOk, None, Some, length};
+ghost use Rattle.stake_ledger.specs.declared.refusal.LedgerRefusal.TheVariants as refusals;
 ghost use Rattle.stake_ledger.specs.Refusals.{IsDue};
-ghost use Rattle.stake_ledger.specs.Rows.{empty_row, worth, is_bonded, bonded, unbonded, rebonded, withdrawn};
+ghost use Rattle.stake_ledger.specs.Rows.{empty_row, worth, is_bonded, paid, bonded, unbonded, rebonded, withdrawn};
 ghost use Rattle.stake_ledger.specs.Calls.{bond_refusal, bond_extra_refusal, unbond_refusal, unbond_amount, rebond_refusal, rebond_amount, withdraw_refusal, withdraw_amount};
 
 use crate::chunks::Chunks;
@@ -36,6 +37,19 @@ impl Row {
         ensures { result ≡ is_bonded self.now }
     {
         self.active + self.chunks.sum() > 0
+    }
+
+    /// Takes the value from what is free.
+    pub fn pay(&mut self, value: u64) -> Result<(), LedgerRefusal>
+        ensures ok { OnOk result ((value ≤ self.old.free) × (self.new ≡ paid value self.old)) }
+        ensures err { OnErr result (self.new ≡ self.old) }
+        ensures refused { IfErr result (λ refusal. (self.old.free < value) × (refusal ≡ refusals.LowFunds)) }
+    {
+        if self.free < value {
+            return Err(LedgerRefusal::LowFunds);
+        }
+        self.free -= value;
+        Ok(())
     }
 
     /// Moves the value from free to active.

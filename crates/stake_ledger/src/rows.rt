@@ -1,8 +1,12 @@
 //! The rows of all accounts, and the change of one of them.
-ghost use Rattle.std.specs.Prelude.{◌≡◌, ◌+◌, ◌^◌, ◌<◌, ◌≤◌, None, Some, OnErr, OnOk, IfErr, IfOk, length};
-ghost use Rattle.stake_ledger.specs.Refusals.{IsDue};
+ghost use Rattle.std.specs.Prelude.{◌≡◌, ◌≢◌, ◌+◌, ◌^◌, ◌<◌, ◌≤◌, None, Some, OnErr, OnOk, IfErr, IfOk, length};
+ghost use Rattle.stake_ledger.specs.declared.refusal.LedgerRefusal.TheVariants as refusals;
+ghost use Rattle.stake_ledger.specs.Refusals.{IsDue, MayRefuse};
 ghost use Rattle.stake_ledger.specs.Rows.{worth, gained, paid, bonded, unbonded, rebonded, withdrawn};
-ghost use Rattle.stake_ledger.specs.Ledger.{row_in, with_row};
+ghost use Rattle.stake_ledger.specs.Ledger.{row_in, row_of_entries, with_row};
+ghost use Rattle.std.specs.List.Sorted.{IsStrictlySortedBy};
+ghost use Rattle.std.specs.Map.{keys_of};
+ghost use Rattle.npos_base.specs.Account.{account_cmp};
 ghost use Rattle.stake_ledger.specs.Calls.{bond_refusal, bond_extra_refusal, unbond_refusal, unbond_amount, rebond_refusal, rebond_amount, withdraw_refusal, withdraw_amount};
 
 use crate::refusal::LedgerRefusal;
@@ -32,16 +36,55 @@ pub fn gain(rows: &mut Rows, alloc: Global, who: AccountId, value: u64) -> Resul
     Ok(())
 }
 
-/// Takes the value from what the account has free.
+/// `Row::pay` at the account's row. An account without a row has nothing, and the value is above 0.
 #[tactic(auto, using(crate::proofs::LedgerLemmas::changed_in_place, std::proofs::lemmas::Map::Steps::set_value_same))]
-pub fn pay(rows: &mut Rows, who: AccountId, value: u64)
-    requires some { 0 < value }
-    requires funds { value ≤ (row_in rows.old.entries who).free }
-    ensures { rows.new.entries ≡ with_row who (paid value) rows.old.entries }
+fn pay(rows: &mut Rows, who: AccountId, value: u64) -> Result<(), LedgerRefusal>
+    requires { 0 < value }
+    ensures accepted { OnOk result (value ≤ (row_in rows.old.entries who).free) }
+    ensures ok { OnOk result (rows.new.entries ≡ with_row who (paid value) rows.old.entries) }
+    ensures there { OnOk result (row_of_entries who rows.old.entries ≡ Some (row_in rows.old.entries who)) }
+    ensures err { OnErr result (rows.new.entries ≡ rows.old.entries) }
+    ensures refused { IfErr result (λ refusal. ((row_in rows.old.entries who).free < value) × (refusal ≡ refusals.LowFunds)) }
 {
     match rows.get_mut(&who) {
-        Some(row) => row.free -= value,
+        Some(row) => row.pay(value),
+        None => Err(LedgerRefusal::LowFunds),
+    }
+}
+
+/// Gives back what the account paid.
+#[tactic(auto, using(crate::proofs::LedgerLemmas::changed_in_place, std::proofs::lemmas::Map::Steps::set_value_same))]
+fn give_back(rows: &mut Rows, who: AccountId, value: u64)
+    requires fits { (row_in rows.old.entries who).free + value < 2 ^ 64 }
+    requires there { row_of_entries who rows.old.entries ≡ Some (row_in rows.old.entries who) }
+    ensures { rows.new.entries ≡ with_row who (gained value) rows.old.entries }
+{
+    match rows.get_mut(&who) {
+        Some(row) => row.free += value,
         None => unreachable!(),
+    }
+}
+
+/// Moves the value from what one account has free to another, whose row is made where it has none. The rows are as they
+/// were where the payer has too little, or where there is no memory for a new row.
+#[tactic(auto, using(crate::proofs::LedgerLemmas::given_back, crate::proofs::LedgerLemmas::row_in_other, crate::proofs::LedgerLemmas::row_in_put))]
+pub fn transfer(rows: &mut Rows, alloc: Global, from: AccountId, to: AccountId, value: u64) -> Result<(), LedgerRefusal>
+    requires some { 0 < value }
+    requires apart { to ≢ from }
+    requires ordered { IsStrictlySortedBy account_cmp (keys_of rows.old.entries) }
+    requires fits { (row_in rows.old.entries from).free + (row_in rows.old.entries to).free < 2 ^ 64 }
+    ensures accepted { OnOk result (value ≤ (row_in rows.old.entries from).free) }
+    ensures ok { OnOk result (rows.new.entries ≡ with_row to (gained value) (with_row from (paid value) rows.old.entries)) }
+    ensures err { OnErr result (rows.new.entries ≡ rows.old.entries) }
+    ensures refused { IfErr result (MayRefuse ((row_in rows.old.entries from).free < value)) }
+{
+    pay(rows, from, value)?;
+    match gain(rows, alloc, to, value) {
+        Ok(()) => Ok(()),
+        Err(NoMemory) => {
+            give_back(rows, from, value);
+            Err(LedgerRefusal::NoMemory)
+        }
     }
 }
 

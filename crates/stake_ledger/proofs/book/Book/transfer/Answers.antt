@@ -1,29 +1,20 @@
-use Rattle.std.proofs.Common.{◌≤◌, arith, ◌∙◌, sym}
+use Rattle.std.proofs.Common.{◌≡◌, ◌≢◌, ◌≤◌, ◌+◌, ◌<◌, ◌^◌, arith, ◌∙◌, refl}
 use Rattle.stake_ledger.specs.Rows.{gained, paid}
-use Rattle.stake_ledger.specs.Ledger.{row_in, row_at}
-use Rattle.stake_ledger.proofs.KeepLemmas.{kept_transferred}
-use Rattle.stake_ledger.proofs.LedgerLemmas.{others_by, row_in_other, different}
+use Rattle.stake_ledger.specs.Ledger.{row_in, with_row}
+use Rattle.stake_ledger.proofs.KeepLemmas.{kept_transferred, free_within, totals_within}
+use Rattle.stake_ledger.proofs.LedgerLemmas.{others_by, different}
 use Rattle.stake_ledger.proofs.book.Book.transfer.Goals as goal
 
-pub pay-requires-clause-funds : goal.pay-requires-clause-funds
-pay-requires-clause-funds c =
-    let enough : c.args.value ≤ (row_in c.self.inside.rows.entries c.args.from).free =
-    rw (← c.self.view_is) at (let fits : c.args.value ≤ (row_at c.args.self.now c.args.from).free = omega arith in fits) in
-    rw (
-      c.in_ok-gain.ensures.ok,
-      row_in_other c.args.to (gained c.args.value) c.self.inside.rows.entries c.args.from
-          (different c.args.from c.args.to (sym c.eq.ensures ∙ c.if-eq.false)),
-    ) enough
+pub transfer-requires-clause-fits : goal.transfer-requires-clause-fits
+transfer-requires-clause-fits c = omega (arith, free_within c.args.from _ _ c.self.invariant, free_within c.args.to _ _ c.self.invariant, totals_within _ _ c.self.invariant)
 
 pub invariant_of-self-2 : goal.invariant_of-self-2
 invariant_of-self-2 c =
-    let enough : c.args.value ≤ (row_in c.self.inside.rows.entries c.args.from).free =
-    rw (← c.self.view_is) at (let fits : c.args.value ≤ (row_at c.args.self.now c.args.from).free = omega arith in fits) in
-    rw (c.pay.ensures, c.in_ok-gain.ensures.ok)
-    (kept_transferred c.args.from c.args.to c.args.value _ _ c.self.invariant (different c.args.from c.args.to (sym c.eq.ensures ∙ c.if-eq.false)) enough)
+    let enough : c.args.value ≤ (row_in c.self.inside.rows.entries c.args.from).free = c.in_ok-transfer.ensures.accepted in
+    rw (c.in_ok-transfer.ensures.ok) (kept_transferred c.args.from c.args.to c.args.value _ _ c.self.invariant enough)
 
 pub returns-clause-others : goal.returns-clause-others
 returns-clause-others c = λ other not_from not_to.
     rw (← c.self.view_is)
-    (others_by c.args.from (paid c.args.value) _ _ c.pay.ensures other not_from
-    ∙ others_by c.args.to (gained c.args.value) _ _ c.in_ok-gain.ensures.ok other not_to)
+    (others_by c.args.to (gained c.args.value) _ _ c.in_ok-transfer.ensures.ok other not_to
+    ∙ others_by c.args.from (paid c.args.value) c.self.inside.rows.entries (with_row c.args.from (paid c.args.value) c.self.inside.rows.entries) refl other not_from)
