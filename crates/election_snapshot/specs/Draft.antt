@@ -1,0 +1,86 @@
+-- A snapshot while it is built: what each addition gives, and the first fault that stands.
+use Rattle.std.specs.Prelude.{◌≡◌, ⊤, ℕ, ◌+◌, ◌*◌, ◌^◌, Bool, false, ◌||◌, nat_eq, nat_lt, nat_le, if◌then◌else◌, List, [], ◌∷◌, ◌++◌, length, map, position, Option, Some, None, Result, Ok, Err, OnOk, OnErr, IfErr}
+use Rattle.std.specs.List.{list_any}
+use Rattle.npos_base.specs.declared.account.AccountId.{AccountId}
+use Rattle.npos_base.specs.Account.{same_account}
+use Rattle.election_snapshot.specs.Snapshot.{Voter, Snapshot, has, total_of}
+use Rattle.election_snapshot.specs.declared.fault.SnapshotFault.{SnapshotFault}
+use Rattle.election_snapshot.specs.declared.fault.SnapshotFault.TheVariants.{Few, Poor, RepeatedTarget, RepeatedVoter, UnknownTarget, RepeatedVote, NoVotes, ZeroStake, TooManyTargets, TooManyVoters, TooManyVotes, TotalTooLarge, BadSeats, NoMemory}
+
+pub record Draft : Type 0 where
+  pub targets : List AccountId
+  pub voters : List Voter
+
+abbrev pub accounts_of : List Voter → List AccountId
+accounts_of voters = map (λ voter. voter.account) voters
+
+-- the account stands in the list
+abbrev pub stands_in : List AccountId → AccountId → Bool
+stands_in accounts who = list_any (same_account who) accounts
+
+-- the position of an account, if it stands in the list
+abbrev pub place_of : List AccountId → AccountId → Option ℕ
+place_of accounts who = position (same_account who) accounts
+
+-- some number stands twice
+abbrev pub has_repeat : List ℕ → Bool
+has_repeat [] = false
+has_repeat (number ∷ numbers) = has numbers number || has_repeat numbers
+
+abbrev pub target_fault : Draft → AccountId → Option SnapshotFault
+target_fault draft who =
+    if nat_le 2048 (length draft.targets) then Some TooManyTargets
+    else if stands_in draft.targets who then Some (RepeatedTarget (length draft.targets))
+    else None
+
+abbrev pub with_target : Draft → AccountId → Draft
+with_target draft who = record draft { targets = draft.targets ++ who ∷ [] }
+
+-- the first fault of a voter behind these accounts, where so many targets stand and the stakes sum to this total
+abbrev pub first_voter_fault : ℕ → List AccountId → ℕ → AccountId → ℕ → List ℕ → Option SnapshotFault
+first_voter_fault targets accounts total who stake votes =
+    if nat_le 16384 (length accounts) then Some TooManyVoters
+    else if stands_in accounts who then Some (RepeatedVoter (length accounts))
+    else if nat_eq stake 0 then Some (ZeroStake (length accounts))
+    else if nat_eq (length votes) 0 then Some (NoVotes (length accounts))
+    else if nat_lt 16 (length votes) then Some (TooManyVotes (length accounts))
+    else if list_any (λ target. nat_le targets target) votes then Some (UnknownTarget (length accounts))
+    else if has_repeat votes then Some (RepeatedVote (length accounts))
+    else if nat_le (2 ^ 64) (total + stake) then Some (TotalTooLarge (length accounts))
+    else None
+
+abbrev pub voter_fault : Draft → AccountId → ℕ → List ℕ → Option SnapshotFault
+voter_fault draft who stake votes = first_voter_fault (length draft.targets) (accounts_of draft.voters) (total_of draft.voters) who stake votes
+
+abbrev pub with_voter : Draft → AccountId → ℕ → List ℕ → Draft
+with_voter draft who stake votes = record draft { voters = draft.voters ++ record { account = who; stake = stake; votes = votes } ∷ [] }
+
+-- the first fault of a number of seats, where so many targets stand and the stakes sum to this total
+abbrev pub first_seats_fault : ℕ → ℕ → ℕ → Option SnapshotFault
+first_seats_fault targets total seats =
+    if nat_eq seats 0 || nat_lt 512 seats then Some (BadSeats seats)
+    else if nat_lt targets seats then Some (Few targets seats)
+    else if nat_lt total (seats * seats) then Some (Poor total seats)
+    else None
+
+abbrev pub finish_fault : Draft → ℕ → Option SnapshotFault
+finish_fault draft seats = first_seats_fault (length draft.targets) (total_of draft.voters) seats
+
+abbrev pub seated : Draft → ℕ → Snapshot
+seated draft seats = record { targets = draft.targets; voters = draft.voters; seats = seats }
+
+-- the answer that a fault alone determines
+abbrev pub answer_of : Option SnapshotFault → Result (Unit {0}) SnapshotFault
+answer_of None = Ok tt
+answer_of (Some fault) = Err fault
+
+-- want of memory is free, any other answer is the fault that stands
+abbrev pub IsDue : Option SnapshotFault → SnapshotFault → Type 0
+IsDue due NoMemory = ⊤
+IsDue due answer = due ≡ Some answer
+
+-- no fault stands and the addition is done, or nothing changes and the answer is the fault
+pub record Meets {S T : Type 0} (due : Option SnapshotFault) (done old new : S) (result : Result T SnapshotFault) : Type 0 where
+  pub ok : OnOk result ((due ≡ None) × (new ≡ done))
+  pub refused : IfErr result (IsDue due)
+  pub unchanged : OnErr result (new ≡ old)

@@ -1,0 +1,11 @@
+//! The instance of one election: targets, voters and seats, built once and well formed from then on.
+#![tactic(auto)]
+
+mod ballot;
+mod builder;
+mod fault;
+mod snapshot;
+
+pub use builder::SnapshotBuilder;
+pub use fault::SnapshotFault;
+pub use snapshot::Snapshot;
