@@ -1,5 +1,5 @@
 -- The two spellings of a stream keep the laws of SCALE forms, and what is in range meets what the chain asks for.
-use Rattle.std.proofs.Common.{ℕ, ◌≤◌, ◌<◌, ◌^◌, length, arith}
+use Rattle.std.proofs.Common.{◌≤◌, ◌<◌, ◌^◌, length, arith}
 use Rattle.scale_wire.specs.Form.{IsWire}
 use Rattle.scale_wire.specs.FormLaws.{optional_laws}
 use Rattle.scale_wire.specs.PartLaws.{tag_laws}

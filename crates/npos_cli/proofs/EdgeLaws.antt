@@ -1,5 +1,5 @@
 -- How single reads add up to all that was left, and a write and a flush to a delivery.
-use Rattle.std.proofs.Common.{◌≡◌, Bool, true, ℕ, ◌≤◌, List, [], ◌++◌, length, take, drop, Option, Some, None, refl, sym, ◌∙◌, ap, subst, append_assoc, arith}
+use Rattle.std.proofs.Common.{◌≡◌, Bool, true, ℕ, List, [], ◌++◌, length, take, drop, Option, Some, None, refl, sym, ◌∙◌, ap, subst, append_assoc, arith}
 use Rattle.std.proofs.lemmas.List.{append-nil, take_all, take-append-drop}
 use Rattle.npos_base.specs.Outside.{Told, Takes, IsAtEnd, Appends, Flushes}
 use Rattle.npos_cli.specs.Owed.{LeftAfter, Empties, TakesMore, Delivers, DeliversFront}

@@ -5,3 +5,4 @@ pub mod ChainLaws
 pub mod TurnLaws
 pub mod StartLaws
 pub mod RunLaws
+pub mod WholeLaws

@@ -1,12 +1,12 @@
 -- Each byte list has exactly one replay. The laws of the two spellings are all that this rests on.
-use Rattle.std.proofs.Common.{◌≡◌, ◌≢◌, ◌⊎◌, inl, inr, ◌<◌, ◌≤◌, ℕ, zero, suc, ◌+◌, Bool, true, false, List, [], ◌∷◌, ◌++◌, length, Option, Some, None, Result, Ok, Err, refl, sym, ◌∙◌, ap, subst, append_assoc, arith, length-append}
+use Rattle.std.proofs.Common.{◌≡◌, inl, inr, ◌<◌, ◌≤◌, ℕ, zero, suc, ◌+◌, Bool, true, false, List, [], ◌∷◌, ◌++◌, length, Option, Some, None, Result, Ok, Err, refl, sym, ◌∙◌, ap, subst, append_assoc, arith, length-append}
 use Rattle.std.proofs.lemmas.List.{append-nil}
 use Rattle.std.proofs.lemmas.Bool.Decides.{eqb_tells}
 use Rattle.scale_wire.specs.declared.fault.Why.{Why}
 use Rattle.scale_wire.specs.declared.fault.Why.TheVariants.{Trailing}
-use Rattle.scale_wire.specs.Form.{Form, IsWire, Begins, IsRefused, IsBytes}
+use Rattle.scale_wire.specs.Form.{IsWire, IsBytes}
 use Rattle.npos_cli.specs.Texts.{fault_line, number_line, genesis_line}
-use Rattle.npos_cli.specs.Replay.{Machine, Spot, turn, behind, IsTurn, Passes, Reaches, Starts, Stops, Refused, OtherNumber, Followed, Ended, Outcome, IsReplay, BadGenesis, FaultyGenesis, Replayed}
+use Rattle.npos_cli.specs.Replay.{Machine, Spot, turn, behind, IsTurn, Passes, Reaches, Starts, IsEnd, Stops, Refused, OtherNumber, Followed, Ended, Outcome, IsReplay, BadGenesis, FaultyGenesis, Replayed}
 
 pub same_spot : {S : Type 0} (p q : Spot S) → p.at ≡ q.at → p.state ≡ q.state → p.rest ≡ q.rest → p ≡ q
 same_spot p q at state rest = λ i. record { at = at i; state = state i; rest = rest i }
@@ -16,17 +16,13 @@ bytes_behind [] back bytes = bytes
 bytes_behind (b ∷ front) back bytes = bytes_behind front back bytes.1
 
 module _ {G B S : Type 0} (m : Machine G B S) (genesis_laws : IsWire m.genesis) (turn_laws : IsWire (turn m)) where
-  -- no block whose number is due stands there
-  abbrev pub IsEnd : Spot S → Type 0
-  IsEnd q = (b : B) (rest : List ℕ) → IsTurn m q b rest → ⊥
-
   pub one_turn : (p : Spot S) (b c : B) (r s : List ℕ) → IsTurn m p b r → IsTurn m p c s → (b ≡ c) × (r ≡ s)
   one_turn p b c r s t u =
       let e = turn_laws.one_reading (Some b) (Some c) r s t.in_range u.in_range (sym t.whole ∙ u.whole) in
       let o : Some b ≡ Some c = e.0 in
       (cc, e.1)
 
-  pub stop_ends : (q : Spot S) (line : List ℕ) (faulty : Bool) → Stops m q line faulty → IsEnd q
+  pub stop_ends : (q : Spot S) (line : List ℕ) (faulty : Bool) → Stops m q line faulty → IsEnd m q
   stop_ends q line faulty (Refused at why bad line_is faulty_is) b rest t =
       turn_laws.exclusive (Some b) rest at why t.in_range (subst (λ (bytes : List ℕ). (turn m).bad bytes at why) t.whole bad)
   stop_ends q line faulty (OtherNumber c other in_range whole not_due line_is faulty_is) b rest t =
@@ -43,7 +39,7 @@ module _ {G B S : Type 0} (m : Machine G B S) (genesis_laws : IsWire m.genesis) 
 
   -- blocks lead to one end alone, and write one text on the way
   pub one_way : (bs cs : List B) (p q r : Spot S) (text other : List ℕ)
-      → Passes m bs p q text → IsEnd q → Passes m cs p r other → IsEnd r → (q ≡ r) × (text ≡ other)
+      → Passes m bs p q text → IsEnd m q → Passes m cs p r other → IsEnd m r → (q ≡ r) × (text ≡ other)
   one_way [] [] p q r text other one q_ends two r_ends = (one.0 ∙ sym two.0, one.1 ∙ sym two.1)
   one_way [] (c ∷ cs) p q r text other one q_ends two r_ends =
       absurd (q_ends c two.0 (subst (λ (s : Spot S). IsTurn m s c two.0) (sym one.0) two.1))
@@ -143,13 +139,13 @@ module _ {G B S : Type 0} (m : Machine G B S) (genesis_laws : IsWire m.genesis) 
       let o : Ok p.state ≡ Ok q.state = sym one.state_is ∙ (ap m.start e.0 ∙ two.state_is) in
       same_spot p q (one.at_is ∙ ((λ i. length (m.genesis.spelling (e.0 i))) ∙ sym two.at_is)) (cc) e.1
 
-  begun_once : (bytes : List ℕ) (g : G) (rest : List ℕ) (p : Spot S) (fault : ℕ × ℕ) → m.genesis.in_range g
+  pub begun_once : (bytes : List ℕ) (g : G) (rest : List ℕ) (p : Spot S) (fault : ℕ × ℕ) → m.genesis.in_range g
       → bytes ≡ m.genesis.spelling g ++ rest → m.start g ≡ Err fault → Starts m bytes p → ⊥
   begun_once bytes g rest p fault in_range whole faulty start =
       let e = genesis_laws.one_reading g start.genesis rest p.rest in_range start.in_range (sym whole ∙ start.whole) in
       let o : Err fault ≡ Ok p.state = sym faulty ∙ (ap m.start e.0 ∙ start.state_is) in cc
 
-  unreadable : (bytes : List ℕ) (g : G) (rest : List ℕ) (at : ℕ) (why : Why) → m.genesis.in_range g
+  pub unreadable : (bytes : List ℕ) (g : G) (rest : List ℕ) (at : ℕ) (why : Why) → m.genesis.in_range g
       → bytes ≡ m.genesis.spelling g ++ rest → m.genesis.bad bytes at why → ⊥
   unreadable bytes g rest at why in_range whole bad =
       genesis_laws.exclusive g rest at why in_range (subst (λ (bs : List ℕ). m.genesis.bad bs at why) whole bad)
@@ -235,7 +231,7 @@ module _ {G B S : Type 0} (m : Machine G B S) (genesis_laws : IsWire m.genesis) 
   pub shorter : (p : Spot S) (b : B) (rest : List ℕ) → IsTurn m p b rest → length rest < length p.rest
   shorter p b rest here = omega (arith, ap length here.whole, length-append (m.block.spelling b) rest)
 
-  any_way : (n : ℕ) (p : Spot S) → IsBytes p.rest → length p.rest ≤ n → GoesOn p
+  pub any_way : (n : ℕ) (p : Spot S) → IsBytes p.rest → length p.rest ≤ n → GoesOn p
   any_way zero p bytes few = read_on p bytes (λ b rest here. absurd (omega (arith, few, shorter p b rest here)))
   any_way (suc n) p bytes few = read_on p bytes (λ b rest here. any_way n (behind m p b rest)
       (bytes_behind ((turn m).spelling (Some b)) rest (subst IsBytes here.whole bytes)) (omega (arith, few, shorter p b rest here)))

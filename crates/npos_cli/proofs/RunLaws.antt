@@ -1,5 +1,5 @@
 -- From what a run owed and what was delivered to the clauses of `run`.
-use Rattle.std.proofs.Common.{◌≡◌, ◌⊎◌, inl, inr, ℕ, Bool, true, false, List, [], ◌++◌, length, take, Option, Some, None, Result, Ok, IfSome, cond, if◌then◌else◌, refl, sym, ◌∙◌, ap, subst, arith}
+use Rattle.std.proofs.Common.{◌≡◌, inl, ℕ, Bool, true, false, List, [], ◌++◌, length, Option, Some, None, Result, Ok, IfSome, if◌then◌else◌, refl, sym, ◌∙◌, ap, subst, arith}
 use Rattle.std.proofs.lemmas.List.{take_all}
 use Rattle.npos_base.specs.Outside.{Told}
 use Rattle.npos_cli.specs.declared.status.Status.{Status}
@@ -10,7 +10,7 @@ use Rattle.npos_cli.specs.Words.{HasForm, usage_line}
 use Rattle.npos_cli.specs.Replay.{Outcome, IsReplay}
 use Rattle.npos_runtime.specs.declared.chain.Chain.{Chain}
 use Rattle.npos_cli.specs.Chain.{npos_machine}
-use Rattle.npos_cli.specs.Owed.{Delivers, DeliversFront, DeliversReplay, DeliversReplayFront, Comes, ComesWith, Empties, Replays}
+use Rattle.npos_cli.specs.Owed.{Delivers, DeliversFront, DeliversReplay, DeliversReplayFront, ComesWith, Empties, Replays}
 use Rattle.npos_cli.specs.Due.{due_text, due_status, IsDue}
 use Rattle.npos_cli.proofs.ReplayLaws.{one_replay}
 use Rattle.npos_cli.proofs.ChainLaws.{genesis_laws, turn_laws}

@@ -1,5 +1,5 @@
 -- How a replay begins: the genesis is refused, or has a fault, or starts the chain.
-use Rattle.std.proofs.Common.{◌≡◌, ◌≢◌, ◌⊎◌, inl, inr, ◌+◌, ℕ, Bool, true, false, List, [], ◌++◌, length, Option, Some, None, Ok, refl, sym, ◌∙◌, ap, subst, arith}
+use Rattle.std.proofs.Common.{◌≡◌, ◌≢◌, inl, inr, ℕ, Bool, true, List, [], ◌++◌, Option, Some, None, Ok, sym, ◌∙◌, ap, arith}
 use Rattle.scale_wire.specs.declared.fault.WireFault.{WireFault}
 use Rattle.scale_wire.specs.Reading.{Place, IsRead, IsFault}
 use Rattle.block_wire.specs.declared.genesis.Genesis.{Genesis}
@@ -9,7 +9,7 @@ use Rattle.npos_runtime.specs.declared.begin.GenesisFault.{GenesisFault}
 use Rattle.npos_runtime.specs.declared.begin.GenesisFault.TheVariants.{NoMemory}
 use Rattle.npos_runtime.specs.Genesis.{genesis_fault, genesis_chain, fault_numbers, IsFault as IsGenesisFault}
 use Rattle.npos_cli.specs.Texts.{fault_line, genesis_line}
-use Rattle.npos_cli.specs.Replay.{Spot, Outcome, BadGenesis, FaultyGenesis, Replayed}
+use Rattle.npos_cli.specs.Replay.{Outcome, BadGenesis, FaultyGenesis, Replayed}
 use Rattle.npos_cli.specs.Chain.{npos_machine, started}
 use Rattle.npos_cli.specs.Turning.{spot, Runs}
 use Rattle.npos_cli.specs.Owed.{Replays}

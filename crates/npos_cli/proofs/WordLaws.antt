@@ -1,6 +1,5 @@
 -- Two words have the form exactly where the second is the verb.
-use Rattle.std.proofs.Common.{◌≡◌, ℕ, ◌≤◌, ◌<◌, ◌↔◌, Bool, List, [], ◌∷◌, map, length, get_or, IsTrue, codes, String, string_bytes, refl, sym, ◌∙◌, ap, arith}
-use Rattle.std.specs.Bool.{Decides}
+use Rattle.std.proofs.Common.{◌≡◌, ℕ, ◌≤◌, ◌<◌, ◌↔◌, Bool, List, [], ◌∷◌, map, length, get_or, IsTrue, codes, String, string_bytes, sym, ◌∙◌, ap, arith}
 use Rattle.std.specs.Str.{bytes_eq}
 use Rattle.std.proofs.lemmas.Slice.Eq.{bytes_eq-Decides}
 use Rattle.std.specs.declared.alloc.Global.{Global}

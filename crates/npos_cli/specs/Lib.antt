@@ -7,3 +7,4 @@ pub mod Owed
 pub mod Chain
 pub mod Turning
 pub mod Due
+pub mod Laws

@@ -1,6 +1,6 @@
 -- What the replay of a byte list is, by rules on spellings and refusals.
 -- The rules hold for any machine that starts from a genesis and takes one block after the other.
-use Rattle.std.specs.Prelude.{◌≡◌, ◌≢◌, ◌<◌, ℕ, ◌+◌, Bool, true, false, List, [], ◌∷◌, ◌++◌, length, Option, Some, None, Result, Ok, Err, codes, decimal}
+use Rattle.std.specs.Prelude.{◌≡◌, ◌≢◌, ◌<◌, ℕ, ◌+◌, Bool, true, false, List, [], ◌∷◌, ◌++◌, length, Option, Some, None, Result, Ok, Err}
 use Rattle.scale_wire.specs.declared.fault.Why.{Why}
 use Rattle.scale_wire.specs.declared.fault.Why.TheVariants.{Trailing}
 use Rattle.scale_wire.specs.Form.{Form}
@@ -57,6 +57,10 @@ pub record Starts {G B S : Type 0} (m : Machine G B S) (bytes : List ℕ) (p : S
   pub whole : bytes ≡ m.genesis.spelling genesis ++ p.rest
   pub at_is : p.at ≡ length (m.genesis.spelling genesis)
 
+-- no block whose number is due stands here
+abbrev pub IsEnd : {G B S : Type 0} → Machine G B S → Spot S → Type 0
+IsEnd {G} {B} {S} m q = (b : B) (rest : List ℕ) → IsTurn m q b rest → ⊥
+
 -- A replay ends at q with this line: four ways, of which the last alone is no fault.
 pub data Stops {G B S : Type 0} (m : Machine G B S) (q : Spot S) (line : List ℕ) (faulty : Bool) : Type 0 where
   Refused : (at : ℕ) (why : Why) → (turn m).bad q.rest at why
@@ -82,3 +86,13 @@ pub data IsReplay {G B S : Type 0} (m : Machine G B S) (bytes : List ℕ) (out :
       → out ≡ record { text = genesis_line fault; faulty = true; last = None } → IsReplay m bytes out
   Replayed : (p q : Spot S) (text line : List ℕ) (faulty : Bool) → Starts m bytes p → Reaches m p q text → Stops m q line faulty
       → out ≡ record { text = text ++ line; faulty = faulty; last = Some q.state } → IsReplay m bytes out
+
+-- What the whole blocks of these bytes write: those of the longest front of the bytes that is a genesis without a fault
+-- and due blocks behind it. Where no front is one, this is nothing.
+pub data IsWhole {G B S : Type 0} (m : Machine G B S) (bytes : List ℕ) (text : List ℕ) : Type 0 where
+  NoStart : ((p : Spot S) → Starts m bytes p → ⊥) → text ≡ [] → IsWhole m bytes text
+  Blocks : (p q : Spot S) → Starts m bytes p → Reaches m p q text → IsEnd m q → IsWhole m bytes text
+
+-- the whole begins with the front
+abbrev pub IsFront : List ℕ → List ℕ → Type 0
+IsFront front whole = (back : List ℕ) × (whole ≡ front ++ back)

@@ -1,6 +1,6 @@
 //! Worked streams over an outside in memory. They show besides that runs succeed where there is memory, which no
 //! contract promises.
-use crate::run;
+use crate::{laws, run};
 use npos_base::{List, MemorySink, MemorySource, NoMemory};
 use scale_wire::Pen;
 use std::alloc::Global;
@@ -332,4 +332,12 @@ fn an_account_has_at_most_32_chunks(rt: HostRuntime) -> Result<(), Fail> {
     assert_eq!(rt; ran.status, 0);
     assert!(rt; ran.written.as_slice().ends_with(end));
     Ok(())
+}
+
+#[test]
+fn laws_are_called() {
+    laws::one_replay();
+    laws::every_input_has_a_replay();
+    laws::whole_blocks_have_one_text();
+    laws::whole_text_grows();
 }

@@ -1,4 +1,4 @@
-use Rattle.std.proofs.Common.{◌≡◌, ◌++◌, ap, subst, ◌∙◌, sym}
+use Rattle.std.proofs.Common.{◌++◌, ap, subst, ◌∙◌}
 use Rattle.scale_wire.specs.Reading.{Place, IsRead, IsFault}
 use Rattle.scale_wire.specs.declared.fault.WireFault.{WireFault}
 use Rattle.npos_cli.specs.Texts.{fault_line}

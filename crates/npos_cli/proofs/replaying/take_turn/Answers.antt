@@ -1,6 +1,5 @@
-use Rattle.std.proofs.Common.{◌≡◌, ◌+◌, ◌++◌, ℕ, List, Option, Some, None, ap, subst, ◌∙◌, sym, arith}
-use Rattle.scale_wire.specs.Reading.{IsRead, IsFault}
-use Rattle.scale_wire.specs.declared.fault.WireFault.{WireFault}
+use Rattle.std.proofs.Common.{◌+◌, ◌++◌, ℕ, Option, ap, subst, ◌∙◌, arith}
+use Rattle.scale_wire.specs.Reading.{IsRead}
 use Rattle.block_wire.specs.declared.block.Block.{Block}
 use Rattle.npos_runtime.specs.declared.runtime.BlockFault.{BlockFault}
 use Rattle.npos_runtime.specs.Life.{HasFault}

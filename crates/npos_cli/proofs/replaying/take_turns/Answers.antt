@@ -1,8 +1,8 @@
-use Rattle.std.proofs.Common.{◌≡◌, subst}
+use Rattle.std.proofs.Common.{subst}
 use Rattle.npos_cli.specs.declared.replaying.Turn.{Turn}
 use Rattle.npos_cli.specs.Chain.{npos_machine}
 use Rattle.npos_cli.specs.Turning.{spot, TakesTurn}
-use Rattle.npos_cli.proofs.TurnLaws.{reached_more, reached_end, fewer_left, fits_more}
+use Rattle.npos_cli.proofs.TurnLaws.{reached_more, reached_end, fits_more}
 use Rattle.npos_cli.proofs.replaying.take_turns.Goals as goal
 
 pub turns-preserved : goal.turns-preserved

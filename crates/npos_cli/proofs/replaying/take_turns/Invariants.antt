@@ -1,5 +1,4 @@
-use Rattle.std.proofs.Common.{◌≡◌, ◌+◌, ◌<◌, ◌^◌, ◌++◌, ℕ, List, false, length}
-use Rattle.npos_cli.specs.Replay.{Reaches}
+use Rattle.std.proofs.Common.{◌≡◌, ◌+◌, ◌<◌, ◌^◌, false, length}
 use Rattle.npos_cli.specs.Chain.{npos_machine}
 use Rattle.npos_cli.specs.Turning.{spot, HasReached}
 use Rattle.npos_cli.proofs.replaying.take_turns.Given as goal

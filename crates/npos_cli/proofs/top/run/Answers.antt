@@ -1,4 +1,4 @@
-use Rattle.std.proofs.Common.{◌⊎◌, ℕ, List, map, string_bytes, subst, sym, ap, ◌∙◌, true, false, refl}
+use Rattle.std.proofs.Common.{◌⊎◌, ℕ, List, map, string_bytes, subst, sym, ◌∙◌, true, false}
 use Rattle.npos_base.specs.Outside.{Rose}
 use Rattle.npos_cli.specs.Owed.{Delivers, DeliversFront}
 use Rattle.npos_cli.specs.Due.{due_text}

@@ -1,0 +1,25 @@
+//! What follows for the replays of all bytes. Each law is the clause of a function that does nothing.
+ghost use Rattle.npos_cli.specs.Chain.{npos_machine};
+ghost use Rattle.npos_cli.specs.Laws.{IsReplayedOnce, IsAlwaysReplayed, IsWholeOnce, IsAlwaysWhole, BeginsWithWhole, WholeGrows};
+
+/// No bytes have two replays: text, end and last state are determined by them.
+pub fn one_replay()
+    ensures { IsReplayedOnce npos_machine }
+{}
+
+/// All bytes have a replay.
+pub fn every_input_has_a_replay()
+    ensures { IsAlwaysReplayed npos_machine }
+{}
+
+/// The whole blocks of an input write exactly one text, and its replay begins with it.
+pub fn whole_blocks_have_one_text()
+    ensures one { IsWholeOnce npos_machine }
+    ensures any { IsAlwaysWhole npos_machine }
+    ensures front { BeginsWithWhole npos_machine }
+{}
+
+/// Where an input goes on, the text of its whole blocks goes on too: nothing that they wrote is taken back.
+pub fn whole_text_grows()
+    ensures { WholeGrows npos_machine }
+{}
