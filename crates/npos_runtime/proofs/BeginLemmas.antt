@@ -23,7 +23,7 @@ use Rattle.npos_runtime.proofs.EndowLemmas.{sum_more}
 use Rattle.npos_runtime.proofs.LiveLemmas.{chunks_changed}
 
 neither : (a b : Bool) (x y : GenesisFault) (r : Option GenesisFault)
-  → (if a then Some x else if b then Some y else r) ≡ None → (b ≡ false) × (r ≡ None)
+    → (if a then Some x else if b then Some y else r) ≡ None → (b ≡ false) × (r ≡ None)
 neither true b x y r none = cc
 neither false true x y r none = cc
 neither false false x y r none = (refl, none)
@@ -39,13 +39,13 @@ record IsFresh (ledger : Ledger) : Type 0 where
   pub locked : (who : AccountId) → (row_at ledger who).chunks ≡ []
 
 fresh : (before more : List Endowment) (ledger : Ledger) → IsFresh ledger → ledger.genesis ≡ endowment_sum before
-  → endowment_fault before more ≡ None → IsFresh (endowed_all more ledger)
+    → endowment_fault before more ≡ None → IsFresh (endowed_all more ledger)
 fresh before [] ledger is total none = is
 fresh before (e ∷ more) ledger is total none =
-  let n = neither (is_endowed before e.who) (nat_lt issuance_cap (endowment_sum (before ++ e ∷ []))) (RepeatedAccount _) (TooMuch _)
+    let n = neither (is_endowed before e.who) (nat_lt issuance_cap (endowment_sum (before ++ e ∷ []))) (RepeatedAccount _) (TooMuch _)
     (endowment_fault (before ++ e ∷ []) more) none in
-  let within : endowment_sum (before ++ e ∷ []) ≤ issuance_cap = ltb-false issuance_cap (endowment_sum (before ++ e ∷ [])) n.0 in
-  fresh (before ++ e ∷ []) more (endowed e.who e.value ledger)
+    let within : endowment_sum (before ++ e ∷ []) ≤ issuance_cap = ltb-false issuance_cap (endowment_sum (before ++ e ∷ [])) n.0 in
+    fresh (before ++ e ∷ []) more (endowed e.who e.value ledger)
     (record {
       balanced = balanced_endowed e.who e.value ledger is.balanced is.unminted (omega (arith, within, sum_more before e, total));
       unminted = is.unminted;
@@ -56,27 +56,26 @@ fresh before (e ∷ more) ledger is total none =
 fresh_empty : IsFresh empty_ledger
 unfolding IsStrictlySortedBy
 fresh_empty = record {
-  balanced = record { distinct = tt; schedules = λ k d few. absurd (omega arith); equation = refl; capped = omega arith; };
+  balanced = record { distinct = tt; schedules = λ k d few. absurd (omega arith); equation = refl; capped = omega arith };
   unminted = refl;
   locked = λ who. refl;
 }
 
-
 made_live : (params : Option Params) (endowments : List Endowment) → AreSound params → endowment_fault [] endowments ≡ None
-  → IsLive (record { params = params; book = endowed_all endowments empty_ledger; due = 1; })
+    → IsLive (record { params = params; book = endowed_all endowments empty_ledger; due = 1 })
 made_live params endowments sound none =
-  let is = fresh [] endowments empty_ledger fresh_empty refl none in
-  record {
-    params = sound;
-    due_at_least = omega arith;
-    due_at_most = omega arith;
-    balanced = is.balanced;
-    releases = λ who. subst (All (λ (chunk : Chunk). chunk.release ≤ release_now (record { params = params; book = endowed_all endowments empty_ledger; due = 1; })))
-      (sym (is.locked who)) (λ k d few. absurd (omega arith));
-  }
+    let is = fresh [] endowments empty_ledger fresh_empty refl none in
+    record {
+      params = sound;
+      due_at_least = omega arith;
+      due_at_most = omega arith;
+      balanced = is.balanced;
+      releases = λ who. subst (All (λ (chunk : Chunk). chunk.release ≤ release_now (record { params = params; book = endowed_all endowments empty_ledger; due = 1 })))
+          (sym (is.locked who)) (λ k d few. absurd (omega arith));
+    }
 
 pub live_begun : (genesis : Genesis) → genesis_fault genesis ≡ None → IsLive (genesis_chain genesis)
 live_begun (Plain endowments) none = made_live None endowments tt none
 live_begun (Full endowments params) none =
-  let both = first_none (endowment_fault [] endowments) (params_fault params) none in
-  made_live (Some params) endowments both.1 both.0
+    let both = first_none (endowment_fault [] endowments) (params_fault params) none in
+    made_live (Some params) endowments both.1 both.0

@@ -32,17 +32,17 @@ endowment_sum endowments = sum_by (λ endowment. endowment.value) endowments
 -- why the endowment at this place can't be opened over these books, if it can't
 abbrev pub opening_fault : Ledger → ℕ → Endowment → Option GenesisFault
 opening_fault ledger place endowment =
-  if is_some (row_of ledger endowment.who) then Some (RepeatedAccount place)
-  else if nat_lt issuance_cap (ledger.genesis + endowment.value) then Some (TooMuch place)
-  else None
+    if is_some (row_of ledger endowment.who) then Some (RepeatedAccount place)
+    else if nat_lt issuance_cap (ledger.genesis + endowment.value) then Some (TooMuch place)
+    else None
 
 -- the first fault of the endowments that follow these: an account that was endowed before, or too much in all
 abbrev pub endowment_fault : List Endowment → List Endowment → Option GenesisFault
 endowment_fault before [] = None
 endowment_fault before (endowment ∷ more) =
-  if is_endowed before endowment.who then Some (RepeatedAccount (length before))
-  else if nat_lt issuance_cap (endowment_sum (before ++ endowment ∷ [])) then Some (TooMuch (length before))
-  else endowment_fault (before ++ endowment ∷ []) more
+    if is_endowed before endowment.who then Some (RepeatedAccount (length before))
+    else if nat_lt issuance_cap (endowment_sum (before ++ endowment ∷ [])) then Some (TooMuch (length before))
+    else endowment_fault (before ++ endowment ∷ []) more
 
 -- the first threshold, from this place on, that is not above the one before it; the first is above 0
 abbrev pub threshold_fault : ℕ → ℕ → List ℕ → Option GenesisFault
@@ -58,21 +58,21 @@ phases_fit params = nat_le 1 params.offset && nat_le 1 params.signed && nat_lt (
 
 abbrev pub numbers_fault : Params → Option GenesisFault
 numbers_fault params =
-  if not (is_within 1 512 params.seats) then Some (BadSeats params.seats)
-  else if not (phases_fit params) then Some (BadPhases params.era_blocks)
-  else if not (is_within 1 84 params.bonding_eras) then Some (BadBonding params.bonding_eras)
-  else if params.least_bond == 0 then Some BadMinimum
-  else None
+    if not (is_within 1 512 params.seats) then Some (BadSeats params.seats)
+    else if not (phases_fit params) then Some (BadPhases params.era_blocks)
+    else if not (is_within 1 84 params.bonding_eras) then Some (BadBonding params.bonding_eras)
+    else if params.least_bond == 0 then Some BadMinimum
+    else None
 
 abbrev pub limits_fault : Params → Option GenesisFault
 limits_fault params =
-  if not (is_within 1 16 params.queue) then Some (BadQueue params.queue)
-  else if not (is_within 1 2097152 params.solution_max) then Some (BadSolutionMax params.solution_max)
-  else None
+    if not (is_within 1 16 params.queue) then Some (BadQueue params.queue)
+    else if not (is_within 1 2097152 params.solution_max) then Some (BadSolutionMax params.solution_max)
+    else None
 
 abbrev pub params_fault : Params → Option GenesisFault
 params_fault params =
-  option_or (numbers_fault params) (option_or (threshold_fault 0 0 params.thresholds) (limits_fault params))
+    option_or (numbers_fault params) (option_or (threshold_fault 0 0 params.thresholds) (limits_fault params))
 
 -- the first fault of a genesis: of its endowments, and then of its params
 abbrev pub genesis_fault : Genesis → Option GenesisFault

@@ -35,3 +35,8 @@ closed chain = quiet (record chain { due = chain.due + 1 })
 
 abbrev pub step : Chain → Block → Outcome
 step chain block = after (after (after (opened block.number chain) era_phase) (calls_outcome 0 block.calls)) closed
+
+-- the chain after each block in turn
+abbrev pub after_blocks : Chain → List Block → Chain
+after_blocks chain [] = chain
+after_blocks chain (block ∷ more) = after_blocks (step chain block).state more

@@ -4,12 +4,15 @@
 mod act;
 mod begin;
 mod chain;
+pub mod laws;
 mod line;
 mod refusal;
 mod rules;
 mod runtime;
 mod step;
 mod stop;
+#[cfg(test)]
+mod tests;
 
 pub use begin::GenesisFault;
 pub use chain::Chain;

@@ -3,13 +3,15 @@ ghost use Rattle.std.specs.Prelude.{◌≡◌, ◌≢◌, ◌<◌, ◌≤◌, �
 ghost use Rattle.stake_ledger.specs.Ledger.{IsBalanced, totals_of};
 ghost use Rattle.npos_runtime.specs.Genesis.{IsFault, endowments_of, genesis_chain, genesis_fault, thresholds_of};
 ghost use Rattle.npos_runtime.specs.Life.{AppliesWell, HasFault};
+ghost use Rattle.npos_runtime.specs.Live.{IsLive};
 ghost use Rattle.npos_runtime.specs.declared.runtime.BlockFault.TheVariants as faults;
+ghost use Rattle.npos_runtime.specs.declared.runtime.BlockFault.TheVariants.{NoMemory as NoMemoryFault};
 
 use crate::begin::begin;
 use crate::step::take_block;
 use crate::{Chain, GenesisFault, Line};
 use block_wire::{Block, Genesis};
-use npos_base::List;
+use npos_base::{List, NoMemory};
 use stake_ledger::{Book, Totals};
 use std::alloc::Global;
 use std::marker::Model;
@@ -27,6 +29,14 @@ pub enum BlockFault {
     /// Memory ran out in this block. The runtime is spent.
     #[error("no memory")]
     NoMemory,
+}
+
+impl From<NoMemory> for BlockFault {
+    ghost from_gives = { λ _ fault. fault ≡ NoMemoryFault };
+
+    fn from(_error: NoMemory) -> BlockFault {
+        BlockFault::NoMemory
+    }
 }
 
 /// What a block told.
@@ -96,15 +106,11 @@ impl Runtime {
         let Block { number, calls } = block;
         let mut lines = Vec::new(self.alloc);
         self.spent = true;
-        match take_block(&mut self.chain, &mut lines, number, calls.into_vec()) {
-            Ok(()) => {
-                self.spent = false;
-                Ok(Receipt {
-                    lines: List::from_vec(lines),
-                })
-            }
-            Err(_) => Err(BlockFault::NoMemory),
-        }
+        take_block(&mut self.chain, &mut lines, number, calls.into_vec())?;
+        self.spent = false;
+        Ok(Receipt {
+            lines: List::from_vec(lines),
+        })
     }
 
     /// The number of the next block.
@@ -121,10 +127,11 @@ impl Runtime {
         &self.chain.book
     }
 
-    /// The sums over the books.
+    /// The sums over the books. All holdings equal genesis plus minted less burned, also where the runtime is spent.
     pub fn totals(&self) -> Totals
         ensures value { result ≡ totals_of self.now.state.book }
         ensures balanced { IsBalanced self.now.state.book }
+        ensures live { self.now.spent ≡ false → IsLive self.now.state }
     {
         self.chain.book.totals()
     }

@@ -61,7 +61,12 @@ fn take_calls(chain: &mut Chain, lines: &mut Vec<Line>, calls: Vec<Call>) -> Res
 }
 
 /// The whole step of the block that is due.
-pub fn take_block(chain: &mut Chain, lines: &mut Vec<Line>, number: u32, calls: Vec<Call>) -> Result<(), NoMemory>
+pub fn take_block(
+    chain: &mut Chain,
+    lines: &mut Vec<Line>,
+    number: u32,
+    calls: Vec<Call>,
+) -> Result<(), NoMemory>
     requires live { IsLive chain.old }
     requires few { length calls.items < 2 ^ 32 }
     requires due { number ≡ chain.old.due }

@@ -10,12 +10,12 @@ use Rattle.npos_runtime.proofs.step.take_calls.Goals as goal
 
 pub turns-preserved : goal.turns-preserved
 turns-preserved c =
-  let goes = c.in_ok-take_call.ensures in
-  let left : into_iter_items c.turns.call-iterator ≡ c.in-Some.call ∷ into_iter_items c.next.new.self = c.in-Some.ensures.steps.0 in
-  record {
-    live = subst IsLive (sym goes.state) (live_call c.turns.index c.in-Some.call c.turns.chain c.turns.invariant.live);
-    counted = omega (arith, ap length left, c.turns.invariant.counted);
-    told = told_more (call_outcome c.turns.index c.in-Some.call c.turns.chain) (calls_outcome (c.turns.index + 1) (into_iter_items c.next.new.self))
-        c.take_call.new.chain c.turns.lines.items c.take_call.new.lines.items goes
-      ∙ (ap (λ (calls : List Call). told_after c.turns.lines.items (calls_outcome c.turns.index calls c.turns.chain)) (sym left) ∙ c.turns.invariant.told);
-  }
+    let goes = c.in_ok-take_call.ensures in
+    let left : into_iter_items c.turns.call-iterator ≡ c.in-Some.call ∷ into_iter_items c.next.new.self = c.in-Some.ensures.steps.0 in
+    record {
+      live = subst IsLive (sym goes.state) (live_call c.turns.index c.in-Some.call c.turns.chain c.turns.invariant.live);
+      counted = omega (arith, ap length left, c.turns.invariant.counted);
+      told = told_more (call_outcome c.turns.index c.in-Some.call c.turns.chain) (calls_outcome (c.turns.index + 1) (into_iter_items c.next.new.self))
+          c.take_call.new.chain c.turns.lines.items c.take_call.new.lines.items goes
+          ∙ (ap (λ (calls : List Call). told_after c.turns.lines.items (calls_outcome c.turns.index calls c.turns.chain)) (sym left) ∙ c.turns.invariant.told);
+    }
