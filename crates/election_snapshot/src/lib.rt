@@ -9,3 +9,6 @@ mod snapshot;
 pub use builder::SnapshotBuilder;
 pub use fault::SnapshotFault;
 pub use snapshot::Snapshot;
+
+#[cfg(test)]
+mod tests;
