@@ -4,5 +4,6 @@ pub mod WordLaws
 pub mod ChainLaws
 pub mod TurnLaws
 pub mod StartLaws
+pub mod BookLaws
 pub mod RunLaws
 pub mod WholeLaws

@@ -5,6 +5,7 @@ pub mod Status
 pub mod Words
 pub mod Owed
 pub mod Chain
+pub mod Books
 pub mod Turning
 pub mod Due
 pub mod Laws

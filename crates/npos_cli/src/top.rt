@@ -3,6 +3,7 @@ ghost use Rattle.std.specs.Prelude.{◌≡◌, ◌≢◌, ◌<◌, ◌⊎◌, �
 ghost use Rattle.npos_base.specs.Outside.{Rose};
 ghost use Rattle.npos_cli.specs.Words.{HasForm, usage_line};
 ghost use Rattle.npos_cli.specs.Chain.{npos_machine};
+ghost use Rattle.npos_cli.specs.Books.{BooksBalance};
 ghost use Rattle.npos_cli.specs.Owed.{Delivers, DeliversFront, DeliversReplay, DeliversReplayFront, Comes, ComesWith, HaltsWell};
 ghost use Rattle.npos_cli.specs.declared.top.Due.TheVariants as dues;
 ghost use Rattle.npos_cli.specs.Due.{due_text, due_status, IsDue};
@@ -74,6 +75,7 @@ fn prepare<S: Source>(alloc: Global, words: &[String], source: &mut S) -> Result
 
 /// Does all that the program does: finds the job that the words name, reads its input from the source, writes to the
 /// sink what is due, flushes it, and says how it ended. `words[0]` is the program's name and is not looked at.
+#[tactic(auto, using(crate::proofs::BookLaws::books_told))]
 pub fn run<S: Source, K: Sink>(
     alloc: Global,
     words: &[String],
@@ -102,6 +104,7 @@ pub fn run<S: Source, K: Sink>(
     ensures write_fault_comes { K.faults sink.old < K.faults sink.new → result ≡ Status.WriteFault }
     ensures front { HasForm (map string_bytes words.now) → IfSome (S.left source.old)
         (DeliversReplayFront npos_machine (K.told sink.old) (K.told sink.new)) }
+    ensures books { IfSome (S.left source.old) BooksBalance }
     ensures usage_front { (HasForm (map string_bytes words.now) → ⊥)
         → DeliversFront (K.told sink.old) (K.told sink.new) usage_line }
 {
