@@ -14,7 +14,9 @@ const NO_WORDS: u8 = 7;
 fn words(rt: &HostRuntime) -> Result<Vec<String>, u8> {
     let args = match env::args(rt) {
         Ok(args) => args,
-        Err(error) if error.kind() == ErrorKind::OutOfMemory => return Err(Status::NoMemory.number()),
+        Err(error) if error.kind() == ErrorKind::OutOfMemory => return Err(
+            Status::NoMemory.number(),
+        ),
         Err(_) => return Err(NO_WORDS),
     };
     let mut words = Vec::new(rt.alloc());

@@ -1,21 +1,20 @@
 -- The chain of a genesis without a fault is live.
-use Rattle.std.proofs.Common.{◌≡◌, ◌≢◌, ◌⊎◌, inl, inr, ℕ, ◌+◌, ◌≤◌, ◌<◌, Bool, true, false, All, List, [], ◌∷◌, ◌++◌, Option, Some, None, refl, sym, ◌∙◌, ap, subst, arith, nat_lt, if◌then◌else◌}
-use Rattle.std.specs.Option.{option_or, unwrap_or}
+use Rattle.std.proofs.Common.{◌≡◌, ◌≤◌, Bool, true, false, All, List, [], ◌∷◌, ◌++◌, Option, Some, None, refl, sym, subst, arith, nat_lt, if◌then◌else◌}
+use Rattle.std.specs.Option.{option_or}
 use Rattle.std.specs.List.Sorted.{IsStrictlySortedBy}
 use Rattle.std.proofs.lemmas.Bool.{ltb-false}
 use Rattle.npos_base.specs.declared.account.AccountId.{AccountId}
 use Rattle.block_wire.specs.declared.genesis.Endowment.{Endowment}
 use Rattle.block_wire.specs.declared.genesis.Genesis.{Genesis}
 use Rattle.block_wire.specs.declared.genesis.Genesis.TheVariants.{Plain, Full}
-use Rattle.stake_ledger.specs.declared.row.Row.{Row}
 use Rattle.stake_ledger.specs.declared.chunks.Chunk.{Chunk}
-use Rattle.stake_ledger.specs.Rows.{empty_row, gained}
-use Rattle.stake_ledger.specs.Ledger.{Ledger, row_at, row_of, empty_ledger, issuance_cap, IsBalanced}
+use Rattle.stake_ledger.specs.Rows.{gained}
+use Rattle.stake_ledger.specs.Ledger.{Ledger, row_at, empty_ledger, issuance_cap, IsBalanced}
 use Rattle.stake_ledger.specs.Calls.{endowed}
 use Rattle.stake_ledger.proofs.KeepLemmas.{balanced_endowed}
 use Rattle.npos_runtime.specs.declared.begin.GenesisFault.{GenesisFault}
 use Rattle.npos_runtime.specs.declared.begin.GenesisFault.TheVariants.{RepeatedAccount, TooMuch}
-use Rattle.npos_runtime.specs.Genesis.{endowment_sum, endowed_all, endowment_fault, is_endowed, genesis_fault, genesis_chain, params_fault, endowments_of}
+use Rattle.npos_runtime.specs.Genesis.{endowment_sum, endowed_all, endowment_fault, is_endowed, genesis_fault, genesis_chain, params_fault}
 use Rattle.npos_runtime.specs.Calls.{release_now}
 use Rattle.block_wire.specs.declared.genesis.Params.{Params}
 use Rattle.npos_runtime.specs.Live.{IsLive, AreSound}

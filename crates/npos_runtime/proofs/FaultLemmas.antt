@@ -1,5 +1,5 @@
 -- The first fault of two parts is the first part's, or else the second part's.
-use Rattle.std.proofs.Common.{◌≡◌, ◌⊎◌, inl, inr, Option, Some, None, refl, sym, ◌∙◌, ap}
+use Rattle.std.proofs.Common.{◌≡◌, inl, inr, Option, Some, None}
 use Rattle.std.specs.Option.{option_or}
 use Rattle.npos_runtime.specs.declared.begin.GenesisFault.{GenesisFault}
 use Rattle.npos_runtime.specs.Genesis.{IsFault}

@@ -1,7 +1,6 @@
 -- A call that is not refused keeps what holds of a chain between blocks.
-use Rattle.std.proofs.Common.{◌≡◌, ◌≢◌, ⊎_elim, ◌⊎◌, inl, inr, ℕ, zero, suc, ◌/◌, ◌+◌, ◌≤◌, Bool, true, false, All, List, [], ◌∷◌, Option, Some, None, option_map, refl, sym, ◌∙◌, ap, subst, arith, nat_lt, length, ◌-◌, ◌<◌, ◌^◌, ◌==◌, ◌&&◌}
+use Rattle.std.proofs.Common.{◌≡◌, ◌≢◌, ◌⊎◌, inl, inr, ℕ, zero, suc, ◌/◌, ◌+◌, ◌≤◌, All, List, [], ◌∷◌, Option, Some, None, option_map, refl, sym, ◌∙◌, ap, subst, arith, nat_lt, length, ◌-◌, ◌<◌, ◌^◌, ◌==◌, ◌&&◌}
 use Rattle.std.specs.Option.{unwrap_or}
-use Rattle.std.specs.Ordering.{is_eq}
 use Rattle.std.proofs.lemmas.Bool.{cond_both}
 use Rattle.std.proofs.lemmas.Bool.Decides.{eqb_tells}
 use Rattle.std.proofs.lemmas.List.Elements.{All-filter, All-cons, All-head, All-tail}
@@ -9,15 +8,13 @@ use Rattle.std.proofs.lemmas.Grind.{common_steps}
 use Rattle.std.proofs.lemmas.Nat.{le-div}
 use Rattle.std.proofs.Math.Nat.{div-zero, div-mul-le_self}
 use Rattle.npos_base.specs.declared.account.AccountId.{AccountId}
-use Rattle.npos_base.specs.Account.{account_cmp}
 use Rattle.block_wire.specs.declared.call.CallKind.{CallKind}
 use Rattle.block_wire.specs.declared.call.CallKind.TheVariants as kinds
 use Rattle.stake_ledger.specs.declared.chunks.Chunk.{Chunk}
 use Rattle.stake_ledger.specs.declared.row.Row.{Row}
-use Rattle.stake_ledger.specs.Accounts.{is_same}
 use Rattle.stake_ledger.specs.Chunks.{chunk_sum, with_chunk, without_latest, lessened, is_empty}
 use Rattle.stake_ledger.specs.Rows.{empty_row, bonded, unbonded, rebonded, withdrawn, gained, paid}
-use Rattle.stake_ledger.specs.Ledger.{Ledger, row_at, row_of, changed, IsBalanced, OthersStay}
+use Rattle.stake_ledger.specs.Ledger.{Ledger, row_at, changed, IsBalanced}
 use Rattle.stake_ledger.specs.Calls.{transfer_refusal, transferred, bond_refusal, bond_extra_refusal, unbond_refusal, unbond_amount, rebond_amount}
 use Rattle.stake_ledger.proofs.LedgerLemmas.{row_of-changed, others_stay, schedule_at}
 use Rattle.stake_ledger.proofs.RowLemmas.{bond_funds, bond_extra_funds}

@@ -1,10 +1,10 @@
 -- The kinds of call, one by one: the first refusal that is due, and what the chain becomes where none is.
-use Rattle.std.specs.Prelude.{ℕ, ◌+◌, Option, Some, None, option_map}
+use Rattle.std.specs.Prelude.{ℕ, ◌+◌, Option, Some, option_map}
 use Rattle.npos_base.specs.declared.account.AccountId.{AccountId}
 use Rattle.block_wire.specs.declared.call.CallKind.{CallKind}
 use Rattle.block_wire.specs.declared.call.CallKind.TheVariants as kinds
 use Rattle.stake_ledger.specs.Rows.{bonded, unbonded, rebonded, withdrawn}
-use Rattle.stake_ledger.specs.Ledger.{Ledger, row_at, changed}
+use Rattle.stake_ledger.specs.Ledger.{row_at, changed}
 use Rattle.stake_ledger.specs.Calls.{transfer_refusal, transferred, bond_refusal, bond_extra_refusal, unbond_refusal, unbond_amount, rebond_refusal, rebond_amount, withdraw_refusal}
 use Rattle.npos_runtime.specs.declared.chain.Chain.{Chain}
 use Rattle.npos_runtime.specs.declared.refusal.Refusal.{Refusal}

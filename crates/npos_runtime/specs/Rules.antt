@@ -1,5 +1,5 @@
 -- What the params of the genesis say. A plain genesis has none: the column of constants is what holds then.
-use Rattle.std.specs.Prelude.{ℕ, ◌+◌, ◌-◌, ◌/◌, ◌%◌, Option, Some, None, nat_lt, ◌==◌, ◌&&◌, if◌then◌else◌}
+use Rattle.std.specs.Prelude.{ℕ, ◌-◌, ◌/◌, ◌%◌, Option, Some, None, nat_lt, ◌==◌, ◌&&◌, if◌then◌else◌}
 use Rattle.block_wire.specs.declared.genesis.Params.{Params}
 
 -- the number of eras that stake stays bonded after an unbond

@@ -1,5 +1,5 @@
 -- The books stay balanced, and the running totals the sums.
-use Rattle.std.proofs.Common.{◌≡◌, ◌≢◌, ℕ, ◌+◌, ◌-◌, ◌≤◌, refl, ap, sym, ◌∙◌, arith, Option, None, unwrap_or, All}
+use Rattle.std.proofs.Common.{◌≡◌, ℕ, ◌+◌, ◌-◌, ◌≤◌, refl, ap, sym, ◌∙◌, arith, None, All}
 use Rattle.std.specs.Map.{values_of}
 use Rattle.npos_base.specs.declared.account.AccountId.{AccountId}
 use Rattle.stake_ledger.specs.declared.row.Row.{Row}
@@ -9,7 +9,7 @@ use Rattle.stake_ledger.specs.Rows.{empty_row, worth, gained, paid, bonded, unbo
 use Rattle.stake_ledger.specs.Ledger.{Ledger, row_at, changed, total, totals_of, IsBalanced, issuance_cap}
 use Rattle.stake_ledger.specs.Kept.{IsKept}
 use Rattle.stake_ledger.specs.Calls.{unbond_refusal, unbond_amount, rebond_amount, withdraw_amount, endowed, transferred}
-use Rattle.stake_ledger.proofs.LedgerLemmas.{total-changed, part_within, ordered-changed, schedules-changed, schedule_at, total_worth, others_stay}
+use Rattle.stake_ledger.proofs.LedgerLemmas.{total-changed, part_within, ordered-changed, schedules-changed, schedule_at, total_worth}
 use Rattle.stake_ledger.proofs.RowLemmas.{unbond_some, unbond_few}
 use Rattle.stake_ledger.proofs.ScheduleLemmas.{schedule_with, schedule_without, schedule_unreleased, sum_with, sum_without}
 use Rattle.stake_ledger.proofs.ChunkLemmas.{released_sum}

@@ -1,16 +1,10 @@
 -- The books' equation and the running totals, after one row is changed.
 use Rattle.std.proofs.Common.{◌≡◌, ◌≢◌, ◌∙◌, ℕ, ◌+◌, ◌-◌, ◌≤◌, false, List, [], ◌∷◌, refl, ap, sym, subst, arith, Option, Some, None, unwrap_or, option_map, sum_by, All, IfSome, nat_eq, ◌&&◌, true≢false}
 use Rattle.std.specs.BTreeMap.{insert_entry, is_at}
-use Rattle.std.specs.Cmp.{IsTotalOrder}
 use Rattle.std.specs.Map.{keys_of, values_of, lookup, set_value}
 use Rattle.std.specs.List.Sorted.{IsStrictlySortedBy}
-use Rattle.std.specs.Ordering.{nat_cmp, is_eq}
-use Rattle.std.specs.declared.cmp.Ordering.{Ordering}
-use Rattle.std.specs.declared.cmp.Ordering.TheVariants.{Less, Equal, Greater}
-use Rattle.std.proofs.lemmas.Cmp.{then_total, on_total, nat_cmp_total}
 use Rattle.std.proofs.lemmas.List.Sums.{sum_by-cons}
 use Rattle.std.proofs.lemmas.Map.Entries.{sum_by-insert_entry}
-use Rattle.std.proofs.lemmas.Map.Lookups.{exact_pairs, exact_unsigned}
 use Rattle.std.proofs.lemmas.Map.Views.{All-values-insert_entry, IfSome-lookup_from_All}
 use Rattle.std.proofs.lemmas.Grind.{common_steps}
 use Rattle.npos_base.specs.declared.account.AccountId.{AccountId}
@@ -106,7 +100,7 @@ pub given_back : (who : AccountId) (value : ℕ) (rows : List (AccountId × Row)
     → row_of_entries who rows ≡ Some (row_in rows who) → value ≤ (row_in rows who).free → with_row who (gained value) (with_row who (paid value) rows) ≡ rows
 given_back who value rows ordered there within =
     ap (λ (row : Row). insert_entry account_cmp (with_row who (paid value) rows) who row)
-      (ap (gained value) (row_in_put who (paid value) rows) ∙ same_free (row_in rows who) value within)
+    (ap (gained value) (row_in_put who (paid value) rows) ∙ same_free (row_in rows who) value within)
     ∙ put_back account_total who (paid value (row_in rows who)) rows (row_in rows who) ordered there
 
 pub row_of-put : (who : AccountId) (change : Row → Row) (rows : List (AccountId × Row))

@@ -68,7 +68,13 @@ fn give_back(rows: &mut Rows, who: AccountId, value: u64)
 /// Moves the value from what one account has free to another, whose row is made where it has none. The rows are as they
 /// were where the payer has too little, or where there is no memory for a new row.
 #[tactic(auto, using(crate::proofs::LedgerLemmas::given_back, crate::proofs::LedgerLemmas::row_in_other, crate::proofs::LedgerLemmas::row_in_put))]
-pub fn transfer(rows: &mut Rows, alloc: Global, from: AccountId, to: AccountId, value: u64) -> Result<(), LedgerRefusal>
+pub fn transfer(
+    rows: &mut Rows,
+    alloc: Global,
+    from: AccountId,
+    to: AccountId,
+    value: u64,
+) -> Result<(), LedgerRefusal>
     requires some { 0 < value }
     requires apart { to ≢ from }
     requires ordered { IsStrictlySortedBy account_cmp (keys_of rows.old.entries) }

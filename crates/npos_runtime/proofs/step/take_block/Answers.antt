@@ -1,4 +1,4 @@
-use Rattle.std.proofs.Common.{arith, ap, ◌∙◌}
+use Rattle.std.proofs.Common.{arith, ap}
 use Rattle.npos_runtime.specs.declared.chain.Chain.{Chain}
 use Rattle.npos_runtime.proofs.LiveLemmas.{live_closed, due_calls}
 use Rattle.npos_runtime.proofs.step.take_block.Goals as goal

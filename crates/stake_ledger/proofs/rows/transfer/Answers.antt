@@ -1,6 +1,6 @@
-use Rattle.std.proofs.Common.{◌≡◌, ◌+◌, ◌<◌, ◌^◌, ◌∙◌, sym, ap, arith, rules}
+use Rattle.std.proofs.Common.{◌≡◌, ◌∙◌, ap, arith}
 use Rattle.stake_ledger.specs.Rows.{gained, paid}
-use Rattle.stake_ledger.specs.Ledger.{row_in, with_row}
+use Rattle.stake_ledger.specs.Ledger.{with_row}
 use Rattle.stake_ledger.proofs.LedgerLemmas.{given_back, row_in_other, row_in_put, row_of-put}
 use Rattle.stake_ledger.proofs.rows.transfer.Goals as goal
 

@@ -1,8 +1,8 @@
-use Rattle.std.proofs.Common.{◌≡◌, ◌≢◌, ◌≤◌, ◌+◌, ◌<◌, ◌^◌, arith, ◌∙◌, refl}
+use Rattle.std.proofs.Common.{◌≤◌, arith, ◌∙◌, refl}
 use Rattle.stake_ledger.specs.Rows.{gained, paid}
 use Rattle.stake_ledger.specs.Ledger.{row_in, with_row}
 use Rattle.stake_ledger.proofs.KeepLemmas.{kept_transferred, free_within, totals_within}
-use Rattle.stake_ledger.proofs.LedgerLemmas.{others_by, different}
+use Rattle.stake_ledger.proofs.LedgerLemmas.{others_by}
 use Rattle.stake_ledger.proofs.book.Book.transfer.Goals as goal
 
 pub transfer-requires-clause-fits : goal.transfer-requires-clause-fits
