@@ -134,68 +134,15 @@ fn calm(piece: usize) -> Outside {
     }
 }
 
-// Outsides that fail over the two transfers, with the status, what is written and how many bytes are left.
-const FAILING: [(Outside, u8, &str, usize); 6] = [
-    (
-        Outside {
-            piece: 4096,
-            reads: &[0],
-            writes: &[],
-        },
-        4,
-        "",
-        205,
-    ),
-    (
-        Outside {
-            piece: 100,
-            reads: &[2],
-            writes: &[],
-        },
-        4,
-        "",
-        5,
-    ),
-    (
-        Outside {
-            piece: 4096,
-            reads: &[1],
-            writes: &[],
-        },
-        4,
-        "",
-        0,
-    ),
-    (
-        Outside {
-            piece: 4096,
-            reads: &[],
-            writes: &[0],
-        },
-        5,
-        "",
-        0,
-    ),
-    (
-        Outside {
-            piece: 10,
-            reads: &[],
-            writes: &[2],
-        },
-        5,
-        "block 1\ncall 0 ok\nca",
-        0,
-    ),
-    (
-        Outside {
-            piece: 4096,
-            reads: &[],
-            writes: &[1],
-        },
-        5,
-        TRANSFERS_TEXT,
-        0,
-    ),
+// Outsides that fail over the two transfers: the size of a piece and the numbers of the reads and writes that fail,
+// and then the status, what is written and how many bytes are left.
+const FAILING: [(usize, &[u64], &[u64], u8, &str, usize); 6] = [
+    (4096, &[0], &[], 4, "", 205),
+    (100, &[2], &[], 4, "", 5),
+    (4096, &[1], &[], 4, "", 0),
+    (4096, &[], &[0], 5, "", 0),
+    (10, &[], &[2], 5, "block 1\ncall 0 ok\nca", 0),
+    (4096, &[], &[1], 5, TRANSFERS_TEXT, 0),
 ];
 
 /// What a run came to.
@@ -222,7 +169,7 @@ fn put_parts(pen: &mut Pen, parts: &[&[u8]]) -> Result<(), NoMemory> {
     Ok(())
 }
 
-/// Runs the words over the parts of a stream.
+/// Runs the words over these bytes.
 fn run_over(
     alloc: Global,
     words: &[&str],
@@ -279,7 +226,12 @@ fn damaged_streams_end_with_a_fault_line(rt: HostRuntime) -> Result<(), Fail> {
 
 #[test]
 fn a_failed_read_or_write_ends_the_run(rt: HostRuntime) -> Result<(), Fail> {
-    for (outside, status, text, left) in FAILING {
+    for (piece, reads, writes, status, text, left) in FAILING {
+        let outside = Outside {
+            piece,
+            reads,
+            writes,
+        };
         let ran = replay_parts(rt.alloc(), &TRANSFERS, outside)?;
         assert_eq!(rt; ran.written.as_slice(), text.as_bytes());
         assert_eq!(rt; (ran.status, ran.left), (status, left));
