@@ -1,5 +1,5 @@
 -- A genesis without a fault starts a live chain, and each due block keeps it live; so the books balance throughout.
-use Rattle.std.proofs.Common.{◌≡◌, ◌<◌, ◌^◌, ℕ, List, [], ◌∷◌, Option, Some, None, Result, Ok, Err, IfSome, refl, sym, ◌∙◌, ap, subst}
+use Rattle.std.proofs.Common.{◌≡◌, ◌<◌, ◌^◌, ℕ, List, [], ◌∷◌, Option, Some, None, Ok, Err, IfSome, refl, sym, subst}
 use Rattle.block_wire.specs.declared.block.Block.{Block}
 use Rattle.block_wire.specs.declared.genesis.Genesis.{Genesis}
 use Rattle.npos_runtime.specs.declared.chain.Chain.{Chain}
@@ -8,7 +8,7 @@ use Rattle.npos_runtime.specs.Genesis.{genesis_fault, genesis_chain, fault_numbe
 use Rattle.npos_runtime.specs.Live.{IsLive}
 use Rattle.npos_runtime.proofs.LiveLemmas.{live_step}
 use Rattle.npos_runtime.proofs.BeginLemmas.{live_begun}
-use Rattle.npos_cli.specs.Replay.{Spot, IsTurn, behind, Passes, Starts}
+use Rattle.npos_cli.specs.Replay.{Spot, IsTurn, behind, Passes}
 use Rattle.npos_cli.specs.Chain.{npos_machine, started}
 use Rattle.npos_cli.specs.Books.{BooksBalance}
 
