@@ -1,4 +1,6 @@
 //! The walk of five accounts over three bags, and each refusal of the lists.
+ghost use Rattle.std.specs.Prelude.{◌≡◌, IfOk};
+
 use crate::{Bags, ListRefusal, Role, Roles};
 use npos_base::{AccountId, List, NoMemory};
 use std::alloc::Global;
@@ -12,7 +14,9 @@ const fn at(n: u8) -> AccountId {
     }
 }
 
-fn list_of<T: Copy>(alloc: Global, items: &[T]) -> Result<List<T>, NoMemory> {
+fn list_of<T: Copy>(alloc: Global, items: &[T]) -> Result<List<T>, NoMemory>
+    ensures { IfOk result (λ list. list ≡ items.now) }
+{
     Ok(List::from_vec(Vec::from_slice(alloc, items)?))
 }
 
@@ -20,8 +24,9 @@ fn list_of<T: Copy>(alloc: Global, items: &[T]) -> Result<List<T>, NoMemory> {
 fn five_in_bags(alloc: Global) -> Result<Bags, NoMemory> {
     let mut bags = Bags::new(alloc, list_of(alloc, &[100, 1000])?)?;
     for (n, score) in [(1, 50), (2, 100), (3, 101), (4, 2000), (5, 70)] {
-        if !bags.contains(at(n)) {
-            bags.insert(at(n), score)?;
+        let who = at(n);
+        if !bags.contains(who) {
+            bags.insert(who, score)?;
         }
     }
     Ok(bags)
@@ -61,11 +66,13 @@ fn the_walk_goes_from_the_highest_bag_down(rt: HostRuntime) -> Result<(), Fail> 
 #[test]
 fn accounts_move_and_leave(rt: HostRuntime) -> Result<(), Fail> {
     let mut bags = five_in_bags(rt.alloc())?;
+    let leaver = at(2);
+    let mover = at(5);
     assert_eq!(rt; bags.rebag(at(1), 1000), Ok(()));
-    assert!(rt; bags.contains(at(2)));
-    bags.remove(at(2));
-    assert!(rt; bags.contains(at(5)));
-    assert_eq!(rt; bags.update(at(5), 5000), Ok(true));
+    assert!(rt; bags.contains(leaver));
+    bags.remove(leaver);
+    assert!(rt; bags.contains(mover));
+    assert_eq!(rt; bags.update(mover, 5000), Ok(true));
     assert!(rt; walks(&bags, &[at(4), at(5), at(3), at(1)]));
     Ok(())
 }
