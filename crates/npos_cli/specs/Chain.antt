@@ -18,6 +18,10 @@ use Rattle.npos_cli.specs.Replay.{Machine}
 abbrev pub line_text : Line → List ℕ
 line_text (lines.Block number) = codes "block " ++ (decimal number ++ newline)
 line_text (lines.Era era) = codes "era " ++ (decimal era ++ newline)
+line_text (lines.Snapshot round targets voters total) =
+    codes "snapshot " ++ (decimal round ++ (codes " targets " ++ (decimal targets ++ (codes " voters " ++ (decimal voters ++ (codes " total " ++ (decimal total ++ newline)))))))
+line_text (lines.VoidFew round) = codes "void " ++ (decimal round ++ codes " few\n")
+line_text (lines.VoidPoor round) = codes "void " ++ (decimal round ++ codes " poor\n")
 line_text (lines.CallOk index) = codes "call " ++ (decimal index ++ codes " ok\n")
 line_text (lines.CallRefused index code) = codes "call " ++ (decimal index ++ (codes " refused " ++ (decimal code ++ newline)))
 

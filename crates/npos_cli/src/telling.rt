@@ -129,6 +129,41 @@ fn tell_line(text: &mut Vec<u8>, line: &Line) -> Result<(), NoMemory>
                 Piece::Words("\n"),
             ],
         ),
+        Line::Snapshot {
+            round,
+            targets,
+            voters,
+            total,
+        } => tell(
+            text,
+            &[
+                Piece::Words("snapshot "),
+                Piece::Number(u64::from(round)),
+                Piece::Words(" targets "),
+                Piece::Number(u64::from(targets)),
+                Piece::Words(" voters "),
+                Piece::Number(u64::from(voters)),
+                Piece::Words(" total "),
+                Piece::Number(total),
+                Piece::Words("\n"),
+            ],
+        ),
+        Line::VoidFew { round } => tell(
+            text,
+            &[
+                Piece::Words("void "),
+                Piece::Number(u64::from(round)),
+                Piece::Words(" few\n"),
+            ],
+        ),
+        Line::VoidPoor { round } => tell(
+            text,
+            &[
+                Piece::Words("void "),
+                Piece::Number(u64::from(round)),
+                Piece::Words(" poor\n"),
+            ],
+        ),
         Line::CallOk { index } => tell(
             text,
             &[

@@ -1,5 +1,5 @@
 -- The chain of a genesis without a fault is live.
-use Rattle.std.proofs.Common.{◌≡◌, ◌≤◌, Bool, true, false, All, List, [], ◌∷◌, ◌++◌, Option, Some, None, refl, sym, subst, arith, nat_lt, if◌then◌else◌}
+use Rattle.std.proofs.Common.{◌≡◌, ℕ, ◌+◌, ◌≤◌, ◌<◌, Bool, true, false, All, List, [], ◌∷◌, ◌++◌, Option, Some, None, refl, sym, subst, arith, nat_lt, if◌then◌else◌}
 use Rattle.std.specs.Option.{option_or}
 use Rattle.std.specs.List.Sorted.{IsStrictlySortedBy}
 use Rattle.std.proofs.lemmas.Bool.{ltb-false}
@@ -14,7 +14,13 @@ use Rattle.stake_ledger.specs.Calls.{endowed}
 use Rattle.stake_ledger.proofs.KeepLemmas.{balanced_endowed}
 use Rattle.npos_runtime.specs.declared.begin.GenesisFault.{GenesisFault}
 use Rattle.npos_runtime.specs.declared.begin.GenesisFault.TheVariants.{RepeatedAccount, TooMuch}
-use Rattle.npos_runtime.specs.Genesis.{endowment_sum, endowed_all, endowment_fault, is_endowed, genesis_fault, genesis_chain, params_fault}
+use Rattle.npos_runtime.specs.Genesis.{endowment_sum, endowed_all, endowment_fault, is_endowed, genesis_fault, genesis_chain, params_fault, numbers_fault, threshold_fault, limits_fault}
+use Rattle.npos_runtime.specs.declared.begin.GenesisFault.TheVariants.{BadThreshold}
+use Rattle.voter_lists.specs.Bags.{IsRisingFrom}
+use Rattle.std.proofs.lemmas.Bool.Decides.{nat_tests}
+use Rattle.npos_base.specs.Account.{account_cmp}
+use Rattle.npos_runtime.specs.declared.chain.Chain.{Chain}
+use Rattle.npos_runtime.specs.Rules.{thresholds_in}
 use Rattle.npos_runtime.specs.Calls.{release_now}
 use Rattle.block_wire.specs.declared.genesis.Params.{Params}
 use Rattle.npos_runtime.specs.Live.{IsLive, AreSound}
@@ -60,8 +66,23 @@ fresh_empty = record {
   locked = λ who. refl;
 }
 
+-- the chain of a genesis, in which nobody has a role
+abbrev begun_chain : Option Params → List Endowment → Chain
+begun_chain params endowments = record {
+  params = params;
+  book = endowed_all endowments empty_ledger;
+  roles = [];
+  bags = record { thresholds = thresholds_in params; order = [] };
+  round = None;
+  due = 1;
+}
+
+nobody_rises : IsStrictlySortedBy account_cmp []
+unfolding IsStrictlySortedBy
+nobody_rises = tt
+
 made_live : (params : Option Params) (endowments : List Endowment) → AreSound params → endowment_fault [] endowments ≡ None
-    → IsLive (record { params = params; book = endowed_all endowments empty_ledger; due = 1 })
+    → IsLive (begun_chain params endowments)
 made_live params endowments sound none =
     let is = fresh [] endowments empty_ledger fresh_empty refl none in
     record {
@@ -69,8 +90,11 @@ made_live params endowments sound none =
       due_at_least = omega arith;
       due_at_most = omega arith;
       balanced = is.balanced;
-      releases = λ who. subst (All (λ (chunk : Chunk). chunk.release ≤ release_now (record { params = params; book = endowed_all endowments empty_ledger; due = 1 })))
+      releases = λ who. subst (All (λ (chunk : Chunk). chunk.release ≤ release_now (begun_chain params endowments)))
           (sym (is.locked who)) (λ k d few. absurd (omega arith));
+      listing = record { listed = λ who. refl; once = λ who. omega arith; numbered = λ k d few. absurd (omega arith) };
+      roles = record { rising = nobody_rises; ranked = refl; few = omega arith };
+      nominations = λ who. record { few = omega arith; distinct = refl };
     }
 
 pub live_begun : (genesis : Genesis) → genesis_fault genesis ≡ None → IsLive (genesis_chain genesis)
@@ -78,3 +102,18 @@ live_begun (Plain endowments) none = made_live None endowments tt none
 live_begun (Full endowments params) none =
     let both = first_none (endowment_fault [] endowments) (params_fault params) none in
     made_live (Some params) endowments both.1 both.0
+
+rising_none : (place before : ℕ) (thresholds : List ℕ) → threshold_fault place before thresholds ≡ None → IsRisingFrom before thresholds
+rising_none place before [] e = tt
+rising_none place before (threshold ∷ thresholds) e = at (nat_lt before threshold) refl e (rising_none (place + 1) threshold thresholds) where
+  at : (b : Bool) → nat_lt before threshold ≡ b → (if b then threshold_fault (place + 1) threshold thresholds else Some (BadThreshold place)) ≡ None
+      → (threshold_fault (place + 1) threshold thresholds ≡ None → IsRisingFrom threshold thresholds) → (before < threshold) × IsRisingFrom threshold thresholds
+  at true f e rest = (grind (arith, nat_tests), rest e)
+  at false f e rest = cc
+
+-- thresholds without a fault rise from 0
+pub rising_params : (params : Option Params) (thresholds : List ℕ) → AreSound params → thresholds ≡ thresholds_in params → IsRisingFrom 0 thresholds
+rising_params None thresholds sound is = subst (IsRisingFrom 0) (sym is) tt
+rising_params (Some params) thresholds sound is =
+    let later = first_none (numbers_fault params) (option_or (threshold_fault 0 0 params.thresholds) (limits_fault params)) sound in
+    subst (IsRisingFrom 0) (sym is) (rising_none 0 0 params.thresholds (first_none (threshold_fault 0 0 params.thresholds) (limits_fault params) later.1).0)

@@ -1,4 +1,14 @@
 pub mod FaultLemmas
+pub mod ListLemmas
+pub mod RoleLemmas
+pub mod StopLemmas
+pub mod BallotLemmas
+pub mod PollLemmas
+pub mod StepLemmas
+pub mod StakeSums
+pub mod VoteLemmas
+pub mod VoterLemmas
+pub mod VoidLemmas
 pub mod LiveLemmas
 pub mod EndowLemmas
 pub mod BeginLemmas

@@ -1,5 +1,5 @@
 -- A call that is not refused keeps what holds of a chain between blocks.
-use Rattle.std.proofs.Common.{◌≡◌, ◌≢◌, ◌⊎◌, inl, inr, ℕ, zero, suc, ◌/◌, ◌+◌, ◌≤◌, All, List, [], ◌∷◌, Option, Some, None, option_map, refl, sym, ◌∙◌, ap, subst, arith, nat_lt, length, ◌-◌, ◌<◌, ◌^◌, ◌==◌, ◌&&◌}
+use Rattle.std.proofs.Common.{◌≡◌, ◌≢◌, ◌⊎◌, inl, inr, ℕ, zero, suc, ◌/◌, ◌+◌, ◌≤◌, Bool, true, false, All, List, [], ◌∷◌, Option, Some, None, option_map, refl, sym, ◌∙◌, ap, subst, arith, nat_lt, length, ◌-◌, ◌<◌, ◌^◌, ◌==◌, ◌&&◌, is_some, true≢false, if◌then◌else◌}
 use Rattle.std.specs.Option.{unwrap_or}
 use Rattle.std.proofs.lemmas.Bool.{cond_both}
 use Rattle.std.proofs.lemmas.Bool.Decides.{eqb_tells}
@@ -20,9 +20,20 @@ use Rattle.stake_ledger.proofs.LedgerLemmas.{row_of-changed, others_stay, schedu
 use Rattle.stake_ledger.proofs.RowLemmas.{bond_funds, bond_extra_funds}
 use Rattle.stake_ledger.proofs.KeepLemmas.{balanced-changed, balanced_bonded, balanced_transferred, keeps_unbonded, keeps_rebonded, keeps_withdrawn}
 use Rattle.npos_runtime.specs.declared.chain.Chain.{Chain}
-use Rattle.npos_runtime.specs.declared.refusal.Refusal.TheVariants.{Ledger as ByLedger}
+use Rattle.npos_runtime.specs.declared.refusal.Refusal.TheVariants.{Ledger as ByLedger, List as ByList}
+use Rattle.npos_base.specs.Account.{same_account}
+use Rattle.std.specs.Option.{option_or}
+use Rattle.voter_lists.specs.declared.standing.Standing.{Standing}
+use Rattle.voter_lists.specs.declared.standing.Standing.TheVariants.{Nominator, Validator}
+use Rattle.voter_lists.specs.Roles.{RoleList, standing_of, role_in, role_of, with_standing, without_role, nominate_refusal, validate_refusal}
+use Rattle.voter_lists.specs.Bags.{Listing, is_listed, removed, moved, rebag_refusal, put_in_front, put_in_front_refusal}
+use Rattle.npos_runtime.specs.Ballots.{active_of}
+use Rattle.npos_runtime.specs.Lists.{has_role, is_nominator_role, is_validator_role, followed, placed, with_stake, is_over, retired}
+use Rattle.npos_runtime.specs.Rounds.{round_phase}
+use Rattle.npos_runtime.proofs.ListLemmas.{IsListed, listed_from, listing_from, kept_followed, kept_removed, kept_rebagged, kept_front, kept_placed}
+use Rattle.npos_runtime.proofs.RoleLemmas.{AreKept, apart_from, standing_with, standing_other, standing_without, standing_without_other, kept_without, kept_nominated, kept_validating}
 use Rattle.npos_runtime.specs.Rules.{least_bond_of, era_of}
-use Rattle.npos_runtime.specs.Calls.{era_now, release_now, stop_of, done_of}
+use Rattle.npos_runtime.specs.Calls.{era_now, release_now, least_active, role_refusal, stop_of, done_of}
 use Rattle.npos_runtime.specs.declared.refusal.Refusal.{Refusal}
 use Rattle.block_wire.specs.declared.call.Call.{Call}
 use Rattle.npos_runtime.specs.Step.{call_after, call_outcome, calls_outcome, closed, step, after_blocks}
@@ -82,16 +93,105 @@ none_inside f (Some a) e = cc
 transfer_funds : (who to : AccountId) (value : ℕ) (ledger : Ledger) → transfer_refusal ledger who to value ≡ None → value ≤ (row_at ledger who).free
 transfer_funds who to value ledger allowed = grind (arith, common_steps, allowed)
 
--- the chain with other books that keep what it needs
-with_book : (chain : Chain) (book : Ledger) → IsLive chain → IsBalanced book
-    → ((who : AccountId) → All (λ chunk. chunk.release ≤ release_now chain) (row_at book who).chunks) → IsLive (record chain { book = book })
-with_book chain book live balanced releases = record {
+-- what a chain keeps of its books
+record AreBooks (release : ℕ) (book : Ledger) : Type 0 where
+  balanced : IsBalanced book
+  releases : (who : AccountId) → All (λ chunk. chunk.release ≤ release) (row_at book who).chunks
+
+-- a chain with other books, roles and bags that keep what it needs
+with_parts : (chain : Chain) (book : Ledger) (roles : RoleList) (bags : Listing) → IsLive chain → AreBooks (release_now chain) book
+    → IsListed (has_role roles) bags → AreKept roles → IsLive (record chain { book = book; roles = roles; bags = bags })
+with_parts chain book roles bags live books listed kept = record {
   params = live.params;
   due_at_least = live.due_at_least;
   due_at_most = live.due_at_most;
-  balanced = balanced;
-  releases = releases;
+  balanced = books.balanced;
+  releases = books.releases;
+  listing = listing_from roles bags listed;
+  roles = kept.ranked;
+  nominations = kept.nominations;
 }
+
+books_of : (chain : Chain) → IsLive chain → AreBooks (release_now chain) chain.book
+books_of chain live = record { balanced = live.balanced; releases = live.releases }
+
+listed_of : (chain : Chain) → IsLive chain → IsListed (has_role chain.roles) chain.bags
+listed_of chain live = listed_from chain.roles chain.bags live.listing
+
+kept_of : (chain : Chain) → IsLive chain → AreKept chain.roles
+kept_of chain live = record { ranked = live.roles; nominations = live.nominations }
+
+-- the chain with other books that keep what it needs
+with_book : (chain : Chain) (book : Ledger) → IsLive chain → IsBalanced book
+    → ((who : AccountId) → All (λ chunk. chunk.release ≤ release_now chain) (row_at book who).chunks) → IsLive (record chain { book = book })
+with_book chain book live balanced releases =
+    with_parts chain book chain.roles chain.bags live (record { balanced = balanced; releases = releases }) (listed_of chain live) (kept_of chain live)
+
+-- and the place of the account follows
+with_followed : (chain : Chain) (who : AccountId) (book : Ledger) → IsLive chain → IsBalanced book
+    → ((who : AccountId) → All (λ chunk. chunk.release ≤ release_now chain) (row_at book who).chunks) → IsLive (with_stake chain who book)
+with_followed chain who book live balanced releases =
+    with_parts chain book chain.roles (followed chain.bags who (row_at book who).active) live (record { balanced = balanced; releases = releases })
+    (kept_followed (has_role chain.roles) chain.bags who (listed_of chain live) (row_at book who).active) (kept_of chain live)
+
+-- other roles and bags
+with_lists : (chain : Chain) (roles : RoleList) (bags : Listing) → IsLive chain → IsListed (has_role roles) bags → AreKept roles
+    → IsLive (record chain { roles = roles; bags = bags })
+with_lists chain roles bags live listed kept = with_parts chain chain.book roles bags live (books_of chain live) listed kept
+
+has_without : (chain : Chain) (who : AccountId) → IsLive chain → has_role (without_role chain.roles who) who ≡ false
+has_without chain who live = ap is_some (standing_without who chain.roles live.roles.rising)
+
+others_without : (chain : Chain) (who : AccountId) (q : AccountId) → same_account who q ≡ false → has_role (without_role chain.roles who) q ≡ has_role chain.roles q
+others_without chain who q apart = ap is_some (standing_without_other who q chain.roles (apart_from who q apart))
+
+without_live : (chain : Chain) (who : AccountId) → IsLive chain → IsLive (record chain { roles = without_role chain.roles who; bags = removed chain.bags who })
+without_live chain who live =
+    with_lists chain (without_role chain.roles who) (removed chain.bags who) live
+    (kept_removed (has_role chain.roles) (has_role (without_role chain.roles who)) chain.bags who (listed_of chain live) (others_without chain who) (has_without chain who live))
+    (kept_without chain.roles who (kept_of chain live))
+
+retired_live : (chain : Chain) (who : AccountId) → IsLive chain → IsLive (retired who chain)
+retired_live chain who live = at (is_over chain who) where
+  at : (b : Bool) → IsLive (record chain { roles = if b then without_role chain.roles who else chain.roles; bags = if b then removed chain.bags who else chain.bags })
+  at true = without_live chain who live
+  at false = live
+
+-- an account takes a role, and keeps its place only if it had one
+placed_live : (chain : Chain) (who : AccountId) (standing : Standing) (stays : Bool) (score : ℕ) → IsLive chain → AreKept (with_standing chain.roles who standing)
+    → (stays ≡ true → has_role chain.roles who ≡ true)
+    → IsLive (record chain { roles = with_standing chain.roles who standing; bags = placed stays chain.bags who score })
+placed_live chain who standing stays score live kept had =
+    with_lists chain (with_standing chain.roles who standing) (placed stays chain.bags who score) live
+    (kept_placed (has_role chain.roles) (has_role (with_standing chain.roles who standing)) chain.bags who (listed_of chain live)
+    (λ q apart. ap is_some (standing_other chain.roles who standing q (apart_from who q apart)))
+    (ap is_some (standing_with chain.roles who standing)) stays score had)
+    kept
+
+nominator_has : (o : Option Standing) → is_nominator_role (role_in o) ≡ true → is_some o ≡ true
+nominator_has None e = absurd (true≢false (sym e))
+nominator_has (Some standing) e = refl
+
+validator_has : (o : Option Standing) → is_validator_role (role_in o) ≡ true → is_some o ≡ true
+validator_has None e = absurd (true≢false (sym e))
+validator_has (Some standing) e = refl
+
+second_none : (a b : Option Refusal) → option_or a b ≡ None → b ≡ None
+second_none None b e = e
+second_none (Some r) b e = cc
+
+rebag_listed : (listing : Listing) (who : AccountId) (score : ℕ) → rebag_refusal listing who score ≡ None → is_listed listing.order who ≡ true
+rebag_listed listing who score allowed = at (is_listed listing.order who) refl where
+  at : (b : Bool) → is_listed listing.order who ≡ b → b ≡ true
+  at true e = refl
+  at false e = grind (arith, common_steps, allowed, e)
+
+front_listed : (listing : Listing) (who : AccountId) (score : ℕ) (lighter : AccountId) (lighter_score : ℕ)
+    → put_in_front_refusal listing who score lighter lighter_score ≡ None → is_listed listing.order who ≡ true
+front_listed listing who score lighter lighter_score allowed = at (is_listed listing.order who) refl where
+  at : (b : Bool) → is_listed listing.order who ≡ b → b ≡ true
+  at true e = refl
+  at false e = grind (arith, common_steps, allowed, e)
 
 -- A call that is not refused keeps the chain live.
 pub live_done : (chain : Chain) (who : AccountId) (kind : CallKind) → IsLive chain → stop_of chain who kind ≡ None → IsLive (done_of chain who kind)
@@ -110,35 +210,50 @@ live_done chain who (kinds.Bond value) live free =
     (chunks_changed (All (λ chunk. chunk.release ≤ release_now chain)) who (bonded value) chain.book live.releases (live.releases who))
 live_done chain who (kinds.BondExtra value) live free =
     let allowed = none_inside ByLedger (bond_extra_refusal (row_at chain.book who) value) free in
-    with_book chain (changed who (bonded value) chain.book) live
+    with_followed chain who (changed who (bonded value) chain.book) live
     (balanced_bonded who value chain.book live.balanced (bond_extra_funds (row_at chain.book who) value allowed))
     (chunks_changed (All (λ chunk. chunk.release ≤ release_now chain)) who (bonded value) chain.book live.releases (live.releases who))
 live_done chain who (kinds.Unbond value) live free =
     let amount : ℕ = unbond_amount (row_at chain.book who) value in
-    let allowed = none_inside ByLedger (unbond_refusal (row_at chain.book who) value (release_now chain) 0) free in
-    with_book chain (changed who (unbonded amount (release_now chain)) chain.book) live
+    let allowed = none_inside ByLedger (unbond_refusal (row_at chain.book who) value (release_now chain) (least_active chain who)) free in
+    with_followed chain who (changed who (unbonded amount (release_now chain)) chain.book) live
     (balanced-changed who (unbonded amount (release_now chain)) chain.book live.balanced
-    (keeps_unbonded (row_at chain.book who) value (release_now chain) 0 (schedule_at who chain.book live.balanced.schedules) (live.releases who) allowed))
+    (keeps_unbonded (row_at chain.book who) value (release_now chain) (least_active chain who) (schedule_at who chain.book live.balanced.schedules) (live.releases who) allowed))
     (chunks_changed (All (λ chunk. chunk.release ≤ release_now chain)) who (unbonded amount (release_now chain)) chain.book live.releases
     (with_by (release_now chain) amount (row_at chain.book who).chunks (live.releases who)))
 live_done chain who (kinds.Rebond value) live free =
     let amount : ℕ = rebond_amount (row_at chain.book who) value in
-    with_book chain (changed who (rebonded amount) chain.book) live
+    with_followed chain who (changed who (rebonded amount) chain.book) live
     (balanced-changed who (rebonded amount) chain.book live.balanced
     (keeps_rebonded (row_at chain.book who) value (schedule_at who chain.book live.balanced.schedules)))
     (chunks_changed (All (λ chunk. chunk.release ≤ release_now chain)) who (rebonded amount) chain.book live.releases
     (without_by (release_now chain) amount (row_at chain.book who).chunks (live.releases who)))
 live_done chain who kinds.Withdraw live free =
-    with_book chain (changed who (withdrawn (era_now chain)) chain.book) live
+    retired_live (record chain { book = changed who (withdrawn (era_now chain)) chain.book }) who (with_book chain (changed who (withdrawn (era_now chain)) chain.book) live
     (balanced-changed who (withdrawn (era_now chain)) chain.book live.balanced
     (keeps_withdrawn (row_at chain.book who) (era_now chain) (schedule_at who chain.book live.balanced.schedules)))
     (chunks_changed (All (λ chunk. chunk.release ≤ release_now chain)) who (withdrawn (era_now chain)) chain.book live.releases
-    (All-filter (λ chunk. nat_lt (era_now chain) chunk.release) (λ chunk. chunk.release ≤ release_now chain) (row_at chain.book who).chunks (live.releases who)))
-live_done chain who (kinds.Nominate targets) live free = live
-live_done chain who (kinds.Validate commission) live free = live
-live_done chain who kinds.Chill live free = live
-live_done chain who (kinds.Rebag whom) live free = live
-live_done chain who (kinds.PutInFront lighter) live free = live
+    (All-filter (λ chunk. nat_lt (era_now chain) chunk.release) (λ chunk. chunk.release ≤ release_now chain) (row_at chain.book who).chunks (live.releases who))))
+live_done chain who (kinds.Nominate targets) live free =
+    let allowed = none_inside ByList (nominate_refusal chain.roles who targets) (second_none (option_map ByLedger (role_refusal chain who)) (option_map ByList (nominate_refusal chain.roles who targets)) free) in
+    placed_live chain who (Nominator targets) (is_nominator_role (role_of chain.roles who)) (active_of chain who) live
+    (kept_nominated chain.roles who targets (kept_of chain live) allowed) (nominator_has (standing_of chain.roles who))
+live_done chain who (kinds.Validate commission) live free =
+    let allowed = none_inside ByList (validate_refusal chain.roles who commission) (second_none (option_map ByLedger (role_refusal chain who)) (option_map ByList (validate_refusal chain.roles who commission)) free) in
+    placed_live chain who (Validator commission) (is_validator_role (role_of chain.roles who)) (active_of chain who) live
+    (kept_validating chain.roles who commission (kept_of chain live) allowed) (validator_has (standing_of chain.roles who))
+live_done chain who kinds.Chill live free = without_live chain who live
+live_done chain who (kinds.Rebag whom) live free =
+    with_lists chain chain.roles (moved chain.bags whom (active_of chain whom)) live
+    (kept_rebagged (has_role chain.roles) chain.bags whom (listed_of chain live) (active_of chain whom)
+    (rebag_listed chain.bags whom (active_of chain whom) (none_inside ByList (rebag_refusal chain.bags whom (active_of chain whom)) free)))
+    (kept_of chain live)
+live_done chain who (kinds.PutInFront lighter) live free =
+    with_lists chain chain.roles (put_in_front chain.bags who lighter) live
+    (kept_front (has_role chain.roles) chain.bags who (listed_of chain live) lighter
+    (front_listed chain.bags who (active_of chain who) lighter (active_of chain lighter)
+    (none_inside ByList (put_in_front_refusal chain.bags who (active_of chain who) lighter (active_of chain lighter)) free)))
+    (kept_of chain live)
 live_done chain who (kinds.Submit round claim bytes) live free = live
 live_done chain who (kinds.Points items) live free = live
 live_done chain who (kinds.Payout era validator) live free = live
@@ -205,16 +320,32 @@ live_closed chain live more = record {
   balanced = live.balanced;
   releases = λ who. released_later (release_now chain) (release_now (closed chain).state) (row_at chain.book who).chunks
       (omega (arith, later_release chain.params chain.due)) (live.releases who);
+  listing = live.listing;
+  roles = live.roles;
+  nominations = live.nominations;
+}
+
+-- the round is no part of it
+pub live_round : (chain : Chain) → IsLive chain → IsLive (round_phase chain).state
+live_round chain live = record {
+  params = live.params;
+  due_at_least = live.due_at_least;
+  due_at_most = live.due_at_most;
+  balanced = live.balanced;
+  releases = live.releases;
+  listing = live.listing;
+  roles = live.roles;
+  nominations = live.nominations;
 }
 
 -- the step of a block keeps the chain live
 pub live_step : (chain : Chain) (block : Block) → IsLive chain → chain.due < 2 ^ 32 → IsLive (step chain block).state
 live_step chain block live more =
-    live_closed (calls_outcome 0 block.calls chain).state (live_calls 0 block.calls chain live)
-    (subst (λ (due : ℕ). due < 2 ^ 32) (sym (due_calls 0 block.calls chain)) more)
+    live_closed (calls_outcome 0 block.calls (round_phase chain).state).state (live_calls 0 block.calls (round_phase chain).state (live_round chain live))
+    (subst (λ (due : ℕ). due < 2 ^ 32) (sym (due_calls 0 block.calls (round_phase chain).state)) more)
 
 pub due_step : (chain : Chain) (block : Block) → (step chain block).state.due ≡ chain.due + 1
-due_step chain block = ap (λ due. due + 1) (due_calls 0 block.calls chain)
+due_step chain block = ap (λ due. due + 1) (due_calls 0 block.calls (round_phase chain).state)
 
 -- and so do all blocks that there are numbers for
 pub live_blocks : (chain : Chain) (blocks : List Block) → IsLive chain → chain.due + length blocks ≤ 2 ^ 32 → IsLive (after_blocks chain blocks)

@@ -1,15 +1,22 @@
 -- The kinds of call, one by one: the first refusal that is due, and what the chain becomes where none is.
-use Rattle.std.specs.Prelude.{ℕ, ◌+◌, Option, Some, option_map}
+use Rattle.std.specs.Prelude.{ℕ, ◌+◌, List, Option, Some, None, option_map, nat_lt, not, if◌then◌else◌}
+use Rattle.std.specs.Option.{option_or}
 use Rattle.npos_base.specs.declared.account.AccountId.{AccountId}
 use Rattle.block_wire.specs.declared.call.CallKind.{CallKind}
 use Rattle.block_wire.specs.declared.call.CallKind.TheVariants as kinds
-use Rattle.stake_ledger.specs.Rows.{bonded, unbonded, rebonded, withdrawn}
+use Rattle.stake_ledger.specs.declared.refusal.LedgerRefusal.{LedgerRefusal}
+use Rattle.stake_ledger.specs.declared.refusal.LedgerRefusal.TheVariants.{NotBonded, BelowMinimum}
+use Rattle.stake_ledger.specs.Rows.{is_bonded, bonded, unbonded, rebonded, withdrawn}
 use Rattle.stake_ledger.specs.Ledger.{row_at, changed}
 use Rattle.stake_ledger.specs.Calls.{transfer_refusal, transferred, bond_refusal, bond_extra_refusal, unbond_refusal, unbond_amount, rebond_refusal, rebond_amount, withdraw_refusal}
+use Rattle.voter_lists.specs.Roles.{role_of, nominate_refusal, nominated, validate_refusal, validating, chill_refusal, without_role}
+use Rattle.voter_lists.specs.Bags.{removed, moved, rebag_refusal, put_in_front, put_in_front_refusal}
 use Rattle.npos_runtime.specs.declared.chain.Chain.{Chain}
 use Rattle.npos_runtime.specs.declared.refusal.Refusal.{Refusal}
-use Rattle.npos_runtime.specs.declared.refusal.Refusal.TheVariants.{Ledger as ByLedger, NotBuilt}
+use Rattle.npos_runtime.specs.declared.refusal.Refusal.TheVariants.{Ledger as ByLedger, List as ByList, NotBuilt}
 use Rattle.npos_runtime.specs.Rules.{bonding_eras_of, least_bond_of, era_of}
+use Rattle.npos_runtime.specs.Ballots.{active_of}
+use Rattle.npos_runtime.specs.Lists.{has_role, is_nominator_role, is_validator_role, placed, with_stake, retired}
 
 -- the era of the block that is due
 abbrev pub era_now : Chain → ℕ
@@ -35,28 +42,78 @@ abbrev pub bond_extra_stop : Chain → AccountId → ℕ → Option Refusal
 bond_extra_stop chain who value = option_map ByLedger (bond_extra_refusal (row_at chain.book who) value)
 
 abbrev pub bond_extra_done : Chain → AccountId → ℕ → Chain
-bond_extra_done chain who value = record chain { book = changed who (bonded value) chain.book }
+bond_extra_done chain who value = with_stake chain who (changed who (bonded value) chain.book)
 
--- no account has a role yet, so any amount may leave
+-- what has to stay active: the least bond, for an account with a role
+abbrev pub least_active : Chain → AccountId → ℕ
+least_active chain who = if has_role chain.roles who then least_bond_of chain.params else 0
+
 abbrev pub unbond_stop : Chain → AccountId → ℕ → Option Refusal
-unbond_stop chain who value = option_map ByLedger (unbond_refusal (row_at chain.book who) value (release_now chain) 0)
+unbond_stop chain who value = option_map ByLedger (unbond_refusal (row_at chain.book who) value (release_now chain) (least_active chain who))
 
 abbrev pub unbond_done : Chain → AccountId → ℕ → Chain
 unbond_done chain who value =
-    record chain { book = changed who (unbonded (unbond_amount (row_at chain.book who) value) (release_now chain)) chain.book }
+    with_stake chain who (changed who (unbonded (unbond_amount (row_at chain.book who) value) (release_now chain)) chain.book)
 
 abbrev pub rebond_stop : Chain → AccountId → ℕ → Option Refusal
 rebond_stop chain who value = option_map ByLedger (rebond_refusal (row_at chain.book who) value)
 
 abbrev pub rebond_done : Chain → AccountId → ℕ → Chain
 rebond_done chain who value =
-    record chain { book = changed who (rebonded (rebond_amount (row_at chain.book who) value)) chain.book }
+    with_stake chain who (changed who (rebonded (rebond_amount (row_at chain.book who) value)) chain.book)
 
 abbrev pub withdraw_stop : Chain → AccountId → Option Refusal
 withdraw_stop chain who = option_map ByLedger (withdraw_refusal (row_at chain.book who))
 
 abbrev pub withdraw_done : Chain → AccountId → Chain
-withdraw_done chain who = record chain { book = changed who (withdrawn (era_now chain)) chain.book }
+withdraw_done chain who = retired who (record chain { book = changed who (withdrawn (era_now chain)) chain.book })
+
+-- an account takes a role with at least the least bond active
+abbrev pub role_refusal : Chain → AccountId → Option LedgerRefusal
+role_refusal chain who =
+    if not (is_bonded (row_at chain.book who)) then Some NotBonded
+    else if nat_lt (active_of chain who) (least_bond_of chain.params) then Some BelowMinimum
+    else None
+
+abbrev pub nominate_stop : Chain → AccountId → List AccountId → Option Refusal
+nominate_stop chain who targets =
+    option_or (option_map ByLedger (role_refusal chain who)) (option_map ByList (nominate_refusal chain.roles who targets))
+
+abbrev pub nominate_done : Chain → AccountId → List AccountId → Chain
+nominate_done chain who targets = record chain {
+  roles = nominated chain.roles who targets;
+  bags = placed (is_nominator_role (role_of chain.roles who)) chain.bags who (active_of chain who);
+}
+
+abbrev pub validate_stop : Chain → AccountId → ℕ → Option Refusal
+validate_stop chain who commission =
+    option_or (option_map ByLedger (role_refusal chain who)) (option_map ByList (validate_refusal chain.roles who commission))
+
+abbrev pub validate_done : Chain → AccountId → ℕ → Chain
+validate_done chain who commission = record chain {
+  roles = validating chain.roles who commission;
+  bags = placed (is_validator_role (role_of chain.roles who)) chain.bags who (active_of chain who);
+}
+
+abbrev pub chill_stop : Chain → AccountId → Option Refusal
+chill_stop chain who = option_map ByList (chill_refusal chain.roles who)
+
+abbrev pub chill_done : Chain → AccountId → Chain
+chill_done chain who = record chain { roles = without_role chain.roles who; bags = removed chain.bags who }
+
+-- anyone may put any account into the bag of its active stake
+abbrev pub rebag_stop : Chain → AccountId → Option Refusal
+rebag_stop chain whom = option_map ByList (rebag_refusal chain.bags whom (active_of chain whom))
+
+abbrev pub rebag_done : Chain → AccountId → Chain
+rebag_done chain whom = record chain { bags = moved chain.bags whom (active_of chain whom) }
+
+abbrev pub put_in_front_stop : Chain → AccountId → AccountId → Option Refusal
+put_in_front_stop chain who lighter =
+    option_map ByList (put_in_front_refusal chain.bags who (active_of chain who) lighter (active_of chain lighter))
+
+abbrev pub put_in_front_done : Chain → AccountId → AccountId → Chain
+put_in_front_done chain who lighter = record chain { bags = put_in_front chain.bags who lighter }
 
 -- the table of refusals: a row a kind
 unfoldable pub stop_of : Chain → AccountId → CallKind → Option Refusal
@@ -66,6 +123,11 @@ stop_of chain who (kinds.BondExtra value) = bond_extra_stop chain who value
 stop_of chain who (kinds.Unbond value) = unbond_stop chain who value
 stop_of chain who (kinds.Rebond value) = rebond_stop chain who value
 stop_of chain who kinds.Withdraw = withdraw_stop chain who
+stop_of chain who (kinds.Nominate targets) = nominate_stop chain who targets
+stop_of chain who (kinds.Validate commission) = validate_stop chain who commission
+stop_of chain who kinds.Chill = chill_stop chain who
+stop_of chain who (kinds.Rebag whom) = rebag_stop chain whom
+stop_of chain who (kinds.PutInFront lighter) = put_in_front_stop chain who lighter
 stop_of chain who other = Some NotBuilt
 
 -- the table of effects
@@ -76,4 +138,9 @@ done_of chain who (kinds.BondExtra value) = bond_extra_done chain who value
 done_of chain who (kinds.Unbond value) = unbond_done chain who value
 done_of chain who (kinds.Rebond value) = rebond_done chain who value
 done_of chain who kinds.Withdraw = withdraw_done chain who
+done_of chain who (kinds.Nominate targets) = nominate_done chain who targets
+done_of chain who (kinds.Validate commission) = validate_done chain who commission
+done_of chain who kinds.Chill = chill_done chain who
+done_of chain who (kinds.Rebag whom) = rebag_done chain whom
+done_of chain who (kinds.PutInFront lighter) = put_in_front_done chain who lighter
 done_of chain who other = chain

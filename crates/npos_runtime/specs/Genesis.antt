@@ -1,4 +1,4 @@
--- What a genesis must keep, its first fault in order, and the chain that starts from it.
+-- What a genesis must keep, its first fault in order, and the chain that starts from it: nobody has a role.
 use Rattle.std.specs.Prelude.{◌≡◌, ◌⊎◌, ℕ, ◌+◌, Bool, List, [], ◌∷◌, ◌++◌, length, sum_by, Option, Some, None, is_some, nat_lt, nat_le, ◌==◌, ◌&&◌, not, if◌then◌else◌}
 use Rattle.std.specs.List.{list_any}
 use Rattle.std.specs.Option.{option_or}
@@ -11,6 +11,7 @@ use Rattle.stake_ledger.specs.Accounts.{is_same}
 use Rattle.stake_ledger.specs.Ledger.{Ledger, row_of, empty_ledger, issuance_cap}
 use Rattle.stake_ledger.specs.Calls.{endowed}
 use Rattle.npos_runtime.specs.declared.chain.Chain.{Chain}
+use Rattle.npos_runtime.specs.Rules.{thresholds_in}
 use Rattle.npos_runtime.specs.declared.begin.GenesisFault.{GenesisFault}
 use Rattle.npos_runtime.specs.declared.begin.GenesisFault.TheVariants.{RepeatedAccount, TooMuch, BadSeats, BadPhases, BadBonding, BadMinimum, BadThreshold, BadQueue, BadSolutionMax, NoMemory}
 
@@ -21,6 +22,10 @@ endowments_of (Full endowments params) = endowments
 abbrev pub params_of : Genesis → Option Params
 params_of (Plain endowments) = None
 params_of (Full endowments params) = Some params
+
+-- the thresholds between the bags
+abbrev pub thresholds_of : Genesis → List ℕ
+thresholds_of genesis = thresholds_in (params_of genesis)
 
 -- the account is among those endowed
 abbrev pub is_endowed : List Endowment → AccountId → Bool
@@ -87,6 +92,9 @@ abbrev pub genesis_chain : Genesis → Chain
 genesis_chain genesis = record {
   params = params_of genesis;
   book = endowed_all (endowments_of genesis) empty_ledger;
+  roles = [];
+  bags = record { thresholds = thresholds_of genesis; order = [] };
+  round = None;
   due = 1;
 }
 
@@ -106,7 +114,3 @@ fault_numbers NoMemory = (0, 0)
 -- the fault that is answered: the first that the genesis has, or want of memory
 abbrev pub IsFault : Option GenesisFault → GenesisFault → Type 0
 IsFault due fault = (fault ≡ NoMemory) ⊎ (due ≡ Some fault)
-
-abbrev pub thresholds_of : Genesis → List ℕ
-thresholds_of (Plain endowments) = []
-thresholds_of (Full endowments params) = params.thresholds

@@ -2,8 +2,12 @@ pub mod Rules
 pub mod Refusals
 pub mod Stops
 pub mod Outcome
+pub mod Ballots
+pub mod Rounds
+pub mod Lists
 pub mod Calls
 pub mod Step
 pub mod Genesis
 pub mod Live
 pub mod Life
+pub mod Polling

@@ -1,16 +1,43 @@
 -- What holds of a chain between any two blocks, besides what its parts keep.
-use Rattle.std.specs.Prelude.{◌≡◌, ◌^◌, ◌≤◌, All, Option, Some, None}
+use Rattle.std.specs.Prelude.{◌≡◌, ℕ, ◌^◌, ◌≤◌, false, All, List, count_by, length, Option, Some, None}
 use Rattle.npos_base.specs.declared.account.AccountId.{AccountId}
 use Rattle.block_wire.specs.declared.genesis.Params.{Params}
 use Rattle.stake_ledger.specs.Ledger.{row_at, IsBalanced}
 use Rattle.npos_runtime.specs.declared.chain.Chain.{Chain}
 use Rattle.npos_runtime.specs.Genesis.{params_fault}
 use Rattle.npos_runtime.specs.Calls.{release_now}
+use Rattle.npos_base.specs.Account.{same_account}
+use Rattle.voter_lists.specs.Ranked.{AreRanked}
+use Rattle.voter_lists.specs.Roles.{RoleList, nominated_by, validators_of, has_repeat}
+use Rattle.voter_lists.specs.Bags.{Listing, is_listed, walk}
+use Rattle.npos_runtime.specs.Lists.{has_role}
 
 -- the params are without a fault
 abbrev pub AreSound : Option Params → Type 0
 AreSound None = Unit {0}
 AreSound (Some params) = params_fault params ≡ None
+
+-- an account is listed in the bags exactly while it has a role
+abbrev pub IsJoined : RoleList → Listing → Type 0
+IsJoined roles listing = (who : AccountId) → is_listed listing.order who ≡ has_role roles who
+
+abbrev pub times : AccountId → List AccountId → ℕ
+times who accounts = count_by (λ account. same_account account who) accounts
+
+-- no account stands twice
+abbrev pub IsOnce : List AccountId → Type 0
+IsOnce accounts = (who : AccountId) → times who accounts ≤ 1
+
+-- the bags are the one list of accounts with a role: each stands once, in a bag that there is
+pub record IsListing (roles : RoleList) (listing : Listing) : Type 0 where
+  pub listed : IsJoined roles listing
+  pub once : IsOnce (walk listing.order)
+  pub numbered : All (λ entry. entry.1 ≤ length listing.thresholds) listing.order
+
+-- at most 16 targets, none of them twice
+pub record IsNomination (targets : List AccountId) : Type 0 where
+  pub few : length targets ≤ 16
+  pub distinct : has_repeat targets ≡ false
 
 -- a chain that can take its next block
 pub record IsLive (chain : Chain) : Type 0 where
@@ -21,3 +48,7 @@ pub record IsLive (chain : Chain) : Type 0 where
   pub balanced : IsBalanced chain.book
   -- nothing is released later than what would be unbonded now
   pub releases : (who : AccountId) → All (λ chunk. chunk.release ≤ release_now chain) (row_at chain.book who).chunks
+  pub listing : IsListing chain.roles chain.bags
+  -- there are at most 2,048 validators
+  pub roles : AreRanked chain.roles (validators_of chain.roles)
+  pub nominations : (who : AccountId) → IsNomination (nominated_by chain.roles who)

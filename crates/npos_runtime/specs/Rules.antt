@@ -1,5 +1,5 @@
 -- What the params of the genesis say. A plain genesis has none: the column of constants is what holds then.
-use Rattle.std.specs.Prelude.{ℕ, ◌-◌, ◌/◌, ◌%◌, Option, Some, None, nat_lt, ◌==◌, ◌&&◌, if◌then◌else◌}
+use Rattle.std.specs.Prelude.{ℕ, List, [], ◌-◌, ◌/◌, ◌%◌, Option, Some, None, nat_lt, ◌==◌, ◌&&◌, if◌then◌else◌}
 use Rattle.block_wire.specs.declared.genesis.Params.{Params}
 
 -- the number of eras that stake stays bonded after an unbond
@@ -25,3 +25,8 @@ abbrev pub begun_era : Option Params → ℕ → Option ℕ
 begun_era None number = None
 begun_era (Some params) number =
     if (place_of params number == 0) && nat_lt 0 (era_of (Some params) number) then Some (era_of (Some params) number) else None
+
+-- the thresholds between the bags
+abbrev pub thresholds_in : Option Params → List ℕ
+thresholds_in None = []
+thresholds_in (Some params) = params.thresholds

@@ -1,4 +1,4 @@
--- The step of a block: the line of the block, the era that may begin, and then the calls in order.
+-- The step of a block: the line of the block, the era that may begin, the round that may, and then the calls in order.
 use Rattle.std.specs.Prelude.{ℕ, ◌+◌, List, [], ◌∷◌, Option, Some, None, option_map, option_to_list}
 use Rattle.block_wire.specs.declared.call.Call.{Call}
 use Rattle.block_wire.specs.declared.block.Block.{Block}
@@ -8,6 +8,7 @@ use Rattle.npos_runtime.specs.declared.refusal.Refusal.{Refusal}
 use Rattle.npos_runtime.specs.Rules.{begun_era}
 use Rattle.npos_runtime.specs.Refusals.{code_of}
 use Rattle.npos_runtime.specs.Outcome.{Outcome, quiet, after}
+use Rattle.npos_runtime.specs.Rounds.{round_phase}
 use Rattle.npos_runtime.specs.Calls.{stop_of, done_of}
 
 abbrev pub opened : ℕ → Chain → Outcome
@@ -33,7 +34,8 @@ abbrev pub closed : Chain → Outcome
 closed chain = quiet (record chain { due = chain.due + 1 })
 
 abbrev pub step : Chain → Block → Outcome
-step chain block = after (after (after (opened block.number chain) era_phase) (calls_outcome 0 block.calls)) closed
+step chain block =
+    after (after (after (after (opened block.number chain) era_phase) round_phase) (calls_outcome 0 block.calls)) closed
 
 -- the chain after each block in turn
 abbrev pub after_blocks : Chain → List Block → Chain

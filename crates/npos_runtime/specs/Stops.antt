@@ -1,10 +1,16 @@
--- Why a call stops, where the books stop it.
+-- Why a call stops, where the books or the lists stop it.
 use Rattle.stake_ledger.specs.declared.refusal.LedgerRefusal.{LedgerRefusal}
 use Rattle.stake_ledger.specs.declared.refusal.LedgerRefusal.TheVariants as reasons
-use Rattle.npos_runtime.specs.declared.refusal.Refusal.TheVariants.{Ledger}
+use Rattle.voter_lists.specs.declared.refusal.ListRefusal.{ListRefusal}
+use Rattle.voter_lists.specs.declared.refusal.ListRefusal.TheVariants as lists
+use Rattle.npos_runtime.specs.declared.refusal.Refusal.TheVariants.{Ledger, List}
 use Rattle.npos_runtime.specs.declared.stop.Stop.{Stop}
 use Rattle.npos_runtime.specs.declared.stop.Stop.TheVariants as stops
 
 abbrev pub ledger_stop : LedgerRefusal → Stop
 ledger_stop reasons.NoMemory = stops.NoMemory
 ledger_stop refusal = stops.Refused (Ledger refusal)
+
+abbrev pub list_stop : ListRefusal → Stop
+list_stop lists.NoMemory = stops.NoMemory
+list_stop refusal = stops.Refused (List refusal)

@@ -1,16 +1,20 @@
 //! The kinds of call, one function each.
-ghost use Rattle.std.specs.Prelude.{◌≡◌, ◌<◌, ◌^◌, Err};
+ghost use Rattle.std.specs.Prelude.{◌≡◌, Err, None, Some, OnOk, IfErr};
 ghost use Rattle.npos_runtime.specs.declared.refusal.Refusal.TheVariants as refusals;
 ghost use Rattle.npos_runtime.specs.declared.stop.Stop.TheVariants as stops;
 ghost use Rattle.npos_runtime.specs.Outcome.{Meets};
-ghost use Rattle.npos_runtime.specs.Live.{IsLive};
-ghost use Rattle.npos_runtime.specs.Calls.{release_now, stop_of, done_of, transfer_stop, transfer_done, bond_stop, bond_done, bond_extra_stop, bond_extra_done, unbond_stop, unbond_done, rebond_stop, rebond_done, withdraw_stop, withdraw_done};
+ghost use Rattle.npos_runtime.specs.Live.{IsLive, IsJoined};
+ghost use Rattle.npos_runtime.specs.Ballots.{active_of};
+ghost use Rattle.npos_runtime.specs.Calls.{release_now, stop_of, done_of, transfer_stop, transfer_done, bond_stop, bond_done, bond_extra_stop, bond_extra_done, unbond_stop, unbond_done, rebond_stop, rebond_done, withdraw_stop, withdraw_done, least_active, role_refusal, nominate_stop, nominate_done, validate_stop, validate_done, chill_stop, chill_done, rebag_stop, rebag_done, put_in_front_stop, put_in_front_done};
+ghost use Rattle.npos_runtime.specs.Lists.{has_role, listed_anew, placed, retired, unlisted, with_stake};
 
 use crate::rules::{bonding_eras_of, era_of, least_bond_of};
 use crate::stop::Stop;
 use crate::{Chain, Refusal};
 use block_wire::CallKind;
-use npos_base::AccountId;
+use npos_base::{AccountId, List, NoMemory};
+use stake_ledger::LedgerRefusal;
+use voter_lists::{Bags, Role};
 
 fn transfer(chain: &mut Chain, who: AccountId, to: AccountId, value: u64) -> Result<(), Stop>
     ensures { Meets (transfer_stop chain.old who to value) (transfer_done chain.old who to value) chain.old chain.new result }
@@ -31,7 +35,39 @@ fn bond_extra(chain: &mut Chain, who: AccountId, value: u64) -> Result<(), Stop>
     ensures { Meets (bond_extra_stop chain.old who value) (bond_extra_done chain.old who value) chain.old chain.new result }
 {
     chain.book.bond_extra(who, value)?;
+    follow(chain, who)?;
     Ok(())
+}
+
+/// The account's place in the bags follows its active stake, where it is listed.
+fn follow(chain: &mut Chain, who: AccountId) -> Result<(), NoMemory>
+    ensures { OnOk result (chain.new ≡ with_stake chain.old who chain.old.book) }
+{
+    if chain.bags.contains(who) {
+        let score = chain.book.active(who);
+        let _ = chain.bags.update(who, score)?;
+    }
+    Ok(())
+}
+
+/// What an unbond has to leave active.
+fn least_active(chain: &Chain, who: AccountId) -> u64
+    ensures { result ≡ least_active chain.now who }
+{
+    if has_role(chain, who) {
+        least_bond_of(&chain.params)
+    } else {
+        0
+    }
+}
+
+fn has_role(chain: &Chain, who: AccountId) -> bool
+    ensures { result ≡ has_role chain.now.roles who }
+{
+    match chain.roles.role(who) {
+        Role::Nobody => false,
+        Role::Nominator | Role::Validator { .. } => true,
+    }
 }
 
 /// The era in which stake is free that is unbonded now.
@@ -47,7 +83,9 @@ fn unbond(chain: &mut Chain, who: AccountId, value: u64) -> Result<(), Stop>
     ensures { Meets (unbond_stop chain.old who value) (unbond_done chain.old who value) chain.old chain.new result }
 {
     let release = release(chain);
-    chain.book.unbond(who, value, release, 0)?;
+    let least = least_active(chain, who);
+    chain.book.unbond(who, value, release, least)?;
+    follow(chain, who)?;
     Ok(())
 }
 
@@ -55,6 +93,7 @@ fn rebond(chain: &mut Chain, who: AccountId, value: u64) -> Result<(), Stop>
     ensures { Meets (rebond_stop chain.old who value) (rebond_done chain.old who value) chain.old chain.new result }
 {
     chain.book.rebond(who, value)?;
+    follow(chain, who)?;
     Ok(())
 }
 
@@ -64,6 +103,101 @@ fn withdraw(chain: &mut Chain, who: AccountId) -> Result<(), Stop>
 {
     let era = era_of(&chain.params, chain.due);
     chain.book.withdraw(who, era)?;
+    retire(chain, who);
+    Ok(())
+}
+
+/// A role ends where nothing is bonded behind it any more.
+fn retire(chain: &mut Chain, who: AccountId)
+    requires { IsJoined chain.old.roles chain.old.bags }
+    ensures { chain.new ≡ retired who chain.old }
+{
+    if has_role(chain, who) && !chain.book.bonded(who) {
+        let _ = chain.roles.chill(who);
+        chain.bags.remove(who);
+    }
+}
+
+/// Whether the account may take a role.
+fn check_stake(chain: &Chain, who: AccountId) -> Result<(), LedgerRefusal>
+    ensures ok { OnOk result (role_refusal chain.now who ≡ None) }
+    ensures refused { IfErr result (λ refusal. role_refusal chain.now who ≡ Some refusal) }
+{
+    if !chain.book.bonded(who) {
+        return Err(LedgerRefusal::NotBonded);
+    }
+    if chain.book.active(who) < least_bond_of(&chain.params) {
+        return Err(LedgerRefusal::BelowMinimum);
+    }
+    Ok(())
+}
+
+/// A listed account leaves.
+fn unlist(bags: &mut Bags, who: AccountId)
+    ensures { bags.new ≡ unlisted bags.old who }
+{
+    if bags.contains(who) {
+        bags.remove(who);
+    }
+}
+
+/// The account goes to the tail of the bag of its active stake, and leaves its old place first.
+#[tactic(auto, using(crate::proofs::ListLemmas::nowhere_unlisted))]
+fn list_anew(chain: &mut Chain, who: AccountId) -> Result<(), NoMemory>
+    ensures { OnOk result (chain.new ≡ record chain.old { bags = listed_anew chain.old.bags who (active_of chain.old who) }) }
+{
+    let score = chain.book.active(who);
+    unlist(&mut chain.bags, who);
+    chain.bags.insert(who, score)
+}
+
+fn nominate(chain: &mut Chain, who: AccountId, targets: List<AccountId>) -> Result<(), Stop>
+    ensures { Meets (nominate_stop chain.old who targets) (nominate_done chain.old who targets) chain.old chain.new result }
+{
+    check_stake(chain, who)?;
+    let stays = matches!(chain.roles.role(who), Role::Nominator);
+    chain.roles.nominate(who, targets)?;
+    if !stays {
+        list_anew(chain, who)?;
+    }
+    Ok(())
+}
+
+fn validate(chain: &mut Chain, who: AccountId, commission: u32) -> Result<(), Stop>
+    ensures { Meets (validate_stop chain.old who commission) (validate_done chain.old who commission) chain.old chain.new result }
+{
+    check_stake(chain, who)?;
+    let stays = matches!(chain.roles.role(who), Role::Validator { .. });
+    chain.roles.validate(who, commission)?;
+    if !stays {
+        list_anew(chain, who)?;
+    }
+    Ok(())
+}
+
+fn chill(chain: &mut Chain, who: AccountId) -> Result<(), Stop>
+    requires { IsJoined chain.old.roles chain.old.bags }
+    ensures { Meets (chill_stop chain.old who) (chill_done chain.old who) chain.old chain.new result }
+{
+    chain.roles.chill(who)?;
+    chain.bags.remove(who);
+    Ok(())
+}
+
+fn rebag(chain: &mut Chain, whom: AccountId) -> Result<(), Stop>
+    ensures { Meets (rebag_stop chain.old whom) (rebag_done chain.old whom) chain.old chain.new result }
+{
+    let score = chain.book.active(whom);
+    chain.bags.rebag(whom, score)?;
+    Ok(())
+}
+
+fn put_in_front(chain: &mut Chain, who: AccountId, lighter: AccountId) -> Result<(), Stop>
+    ensures { Meets (put_in_front_stop chain.old who lighter) (put_in_front_done chain.old who lighter) chain.old chain.new result }
+{
+    let score = chain.book.active(who);
+    let lighter_score = chain.book.active(lighter);
+    chain.bags.put_in_front(who, score, lighter, lighter_score)?;
     Ok(())
 }
 
@@ -86,6 +220,11 @@ pub fn act(chain: &mut Chain, who: AccountId, kind: CallKind) -> Result<(), Stop
         CallKind::Unbond { value } => unbond(chain, who, value),
         CallKind::Rebond { value } => rebond(chain, who, value),
         CallKind::Withdraw => withdraw(chain, who),
+        CallKind::Nominate { targets } => nominate(chain, who, targets),
+        CallKind::Validate { commission } => validate(chain, who, commission),
+        CallKind::Chill => chill(chain, who),
+        CallKind::Rebag { whom } => rebag(chain, whom),
+        CallKind::PutInFront { lighter } => put_in_front(chain, who, lighter),
         _ => not_built(),
     }
 }

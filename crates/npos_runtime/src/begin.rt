@@ -3,14 +3,17 @@ ghost use Rattle.std.specs.Prelude.{◌≡◌, ◌≤◌, List, [], length, None
 ghost use Rattle.stake_ledger.specs.Ledger.{empty_ledger};
 ghost use Rattle.stake_ledger.specs.Calls.{endowed};
 ghost use Rattle.npos_runtime.specs.Genesis.{genesis_fault, genesis_chain, endowment_fault, opening_fault, endowed_all, threshold_fault, numbers_fault, limits_fault, params_fault, phases_fit, is_within, fault_numbers, IsFault, endowments_of, thresholds_of};
+ghost use Rattle.npos_runtime.specs.Rules.{thresholds_in};
+ghost use Rattle.npos_runtime.specs.Live.{AreSound};
 ghost use Rattle.npos_runtime.specs.declared.begin.GenesisFault.TheVariants.{NoMemory as NoMemoryFault};
 
 use crate::Chain;
 use block_wire::{Endowment, Genesis, Params};
-use npos_base::NoMemory;
+use npos_base::{List, NoMemory};
 use stake_ledger::{Book, LedgerRefusal};
 use std::alloc::Global;
 use thiserror::Error;
+use voter_lists::{Bags, Roles};
 
 /// Why no chain starts from a genesis: its first fault, with the number or the place that is at fault.
 #[derive(Clone, Copy, Debug, PartialEq, Eq, Error)]
@@ -182,6 +185,29 @@ fn check_params(params: &Params) -> Result<(), GenesisFault>
     check_limits(params)
 }
 
+/// A copy of the thresholds of the params; none where there are no params.
+fn copy_thresholds(alloc: Global, params: &Option<Params>) -> Result<List<u64>, NoMemory>
+    ensures { IfOk result (λ thresholds. thresholds ≡ thresholds_in params.now) }
+{
+    match params {
+        None => Ok(List::new(alloc)),
+        Some(params) => {
+            let thresholds = Vec::from_slice(alloc, params.thresholds.as_slice())?;
+            Ok(List::from_vec(thresholds))
+        }
+    }
+}
+
+/// Bags with nobody in them, between the thresholds of the params.
+fn empty_bags(alloc: Global, params: &Option<Params>) -> Result<Bags, NoMemory>
+    requires sound { AreSound params.now }
+    requires few { length (thresholds_in params.now) ≤ 200 }
+    ensures { IfOk result (λ bags. bags ≡ record { thresholds = thresholds_in params.now; order = [] }) }
+{
+    let thresholds = copy_thresholds(alloc, params)?;
+    Bags::new(alloc, thresholds)
+}
+
 /// The chain that starts from a genesis, or the first fault that the genesis has.
 #[tactic(auto, using(crate::proofs::FaultLemmas::is_first, crate::proofs::FaultLemmas::is_then, crate::proofs::FaultLemmas::no_fault))]
 pub fn begin(alloc: Global, genesis: Genesis) -> Result<Chain, GenesisFault>
@@ -199,9 +225,13 @@ pub fn begin(alloc: Global, genesis: Genesis) -> Result<Chain, GenesisFault>
     if let Some(params) = &params {
         check_params(params)?;
     }
+    let bags = empty_bags(alloc, &params)?;
     Ok(Chain {
         params,
         book,
+        roles: Roles::new(alloc),
+        bags,
+        round: None,
         due: 1,
     })
 }

@@ -2,11 +2,13 @@
 #![tactic(auto)]
 
 mod act;
+mod ballot;
 mod begin;
 mod chain;
 pub mod laws;
 mod line;
 mod refusal;
+mod round;
 mod rules;
 mod runtime;
 mod step;
@@ -18,4 +20,5 @@ pub use begin::GenesisFault;
 pub use chain::Chain;
 pub use line::Line;
 pub use refusal::Refusal;
+pub use round::Round;
 pub use runtime::{BlockFault, Receipt, Runtime};

@@ -1,14 +1,17 @@
 //! Why a call of a block is refused.
 ghost use Rattle.std.specs.Prelude.{◌≡◌};
-ghost use Rattle.npos_runtime.specs.Refusals.{code_of, ledger_code};
+ghost use Rattle.npos_runtime.specs.Refusals.{code_of, ledger_code, list_code};
 
 use stake_ledger::LedgerRefusal;
+use voter_lists::ListRefusal;
 
 /// Why a call of a block is refused. The chain is then as it was.
 #[derive(Clone, Copy, Debug, PartialEq, Eq)]
 pub enum Refusal {
     /// The books refuse, for one of their reasons other than want of memory.
     Ledger(LedgerRefusal),
+    /// The roles or the bags refuse, for one of their reasons other than want of memory.
+    List(ListRefusal),
     /// Calls of this kind are not built yet.
     NotBuilt,
 }
@@ -20,6 +23,7 @@ impl Refusal {
     {
         match self {
             Refusal::Ledger(refusal) => ledger_code(refusal),
+            Refusal::List(refusal) => list_code(refusal),
             Refusal::NotBuilt => 99,
         }
     }
@@ -40,5 +44,24 @@ fn ledger_code(refusal: LedgerRefusal) -> u32
         LedgerRefusal::SameAccount => 8,
         LedgerRefusal::IssuanceCap => 9,
         LedgerRefusal::NoMemory => 0,
+    }
+}
+
+/// The number of a reason of the lists. Want of memory is none, and has the number 0.
+fn list_code(refusal: ListRefusal) -> u32
+    ensures { result ≡ list_code refusal }
+{
+    match refusal {
+        ListRefusal::NoTargets => 10,
+        ListRefusal::TooManyTargets => 11,
+        ListRefusal::RepeatedTarget => 12,
+        ListRefusal::NotValidator => 13,
+        ListRefusal::TooManyValidators => 14,
+        ListRefusal::BadFraction => 15,
+        ListRefusal::NotListed => 16,
+        ListRefusal::SameBag => 17,
+        ListRefusal::OtherBag => 18,
+        ListRefusal::NotHeavier => 19,
+        ListRefusal::NoMemory => 0,
     }
 }

@@ -1,6 +1,8 @@
 //! What the params of the genesis say, and what holds without params.
 ghost use Rattle.std.specs.Prelude.{◌≡◌, ◌<◌, ◌≤◌, ◌^◌, IfSome};
 ghost use Rattle.npos_runtime.specs.Rules as rules;
+ghost use Rattle.npos_runtime.specs.Ballots.{seats_of};
+ghost use Rattle.npos_runtime.specs.Rounds.{begun_round};
 ghost use Rattle.npos_runtime.specs.Live.{AreSound};
 
 use block_wire::Params;
@@ -46,6 +48,34 @@ pub fn begun_era(params: &Option<Params>, number: u64) -> Option<u32>
     let era = era_of(params, number);
     if (number - 1) % blocks == 0 && 0 < era {
         Some(era)
+    } else {
+        None
+    }
+}
+
+/// How many are elected in a round.
+pub fn seats_of(params: &Option<Params>) -> u32
+    ensures { result ≡ seats_of params.now }
+{
+    params.as_ref().map_or(1, |params| params.seats)
+}
+
+/// The round whose snapshot is taken in the block of this number, if one is.
+pub fn begun_round(params: &Option<Params>, number: u64) -> Option<u32>
+    requires sound { AreSound params.now }
+    requires numbered { number ≤ 2 ^ 32 }
+    requires counted { 1 ≤ number }
+    ensures { result ≡ begun_round params.now number }
+{
+    let Some((blocks, offset)) = params.as_ref().map(|params| (
+        u64::from(params.era_blocks),
+        u64::from(params.offset),
+    ))
+    else {
+        return None;
+    };
+    if (number - 1) % blocks == offset {
+        Some(era_of(params, number) + 1)
     } else {
         None
     }

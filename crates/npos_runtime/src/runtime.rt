@@ -3,7 +3,7 @@ ghost use Rattle.std.specs.Prelude.{◌≡◌, ◌≢◌, ◌<◌, ◌≤◌, �
 ghost use Rattle.stake_ledger.specs.Ledger.{IsBalanced, totals_of};
 ghost use Rattle.npos_runtime.specs.Genesis.{IsFault, endowments_of, genesis_chain, genesis_fault, thresholds_of};
 ghost use Rattle.npos_runtime.specs.Life.{AppliesWell, HasFault};
-ghost use Rattle.npos_runtime.specs.Live.{IsLive};
+ghost use Rattle.npos_runtime.specs.Live.{IsLive, IsJoined};
 ghost use Rattle.npos_runtime.specs.declared.runtime.BlockFault.TheVariants as faults;
 ghost use Rattle.npos_runtime.specs.declared.runtime.BlockFault.TheVariants.{NoMemory as NoMemoryFault};
 
@@ -16,6 +16,7 @@ use stake_ledger::{Book, Totals};
 use std::alloc::Global;
 use std::marker::Model;
 use thiserror::Error;
+use voter_lists::{Bags, Roles};
 
 /// Why a block was not taken.
 #[derive(Clone, Copy, Debug, PartialEq, Eq, Error)]
@@ -93,6 +94,7 @@ impl Runtime {
         ensures wrong { self.old.spent ≡ false → block.number ≢ self.old.state.due
             → result ≡ Err (faults.WrongNumber self.old.state.due block.number) }
         ensures books { OnOk result (IsBalanced self.new.state.book) }
+        ensures listing { OnOk result (IsJoined self.new.state.roles self.new.state.bags) }
     {
         if self.spent {
             return Err(BlockFault::Spent);
@@ -106,7 +108,13 @@ impl Runtime {
         let Block { number, calls } = block;
         let mut lines = Vec::new(self.alloc);
         self.spent = true;
-        take_block(&mut self.chain, &mut lines, number, calls.into_vec())?;
+        take_block(
+            self.alloc,
+            &mut self.chain,
+            &mut lines,
+            number,
+            calls.into_vec(),
+        )?;
         self.spent = false;
         Ok(Receipt {
             lines: List::from_vec(lines),
@@ -125,6 +133,20 @@ impl Runtime {
         ensures { result.now ≡ self.now.state.book }
     {
         &self.chain.book
+    }
+
+    /// Who is a validator and who a nominator.
+    pub fn roles(&self) -> &Roles
+        ensures { result.now ≡ self.now.state.roles }
+    {
+        &self.chain.roles
+    }
+
+    /// The accounts with a role, in bags of coarse active stake.
+    pub fn bags(&self) -> &Bags
+        ensures { result.now ≡ self.now.state.bags }
+    {
+        &self.chain.bags
     }
 
     /// The sums over the books. All holdings equal genesis plus minted less burned, also where the runtime is spent.

@@ -2,14 +2,17 @@
 ghost use Rattle.std.specs.Prelude.{◌≡◌, ◌+◌, ◌<◌, ◌≤◌, ◌^◌, [], length, OnOk, IfOk};
 ghost use Rattle.npos_runtime.specs.Outcome.{Goes, Outcome};
 ghost use Rattle.npos_runtime.specs.Step.{call_outcome, calls_outcome, era_phase, opened, step};
+ghost use Rattle.npos_runtime.specs.Rounds.{round_phase};
 ghost use Rattle.npos_runtime.specs.Live.{IsLive};
 
 use crate::act::act;
-use crate::rules::begun_era;
+use crate::ballot::take_snapshot;
+use crate::rules::{begun_era, begun_round};
 use crate::stop::Stop;
 use crate::{Chain, Line};
 use block_wire::Call;
 use npos_base::NoMemory;
+use std::alloc::Global;
 
 /// An era may begin.
 fn begin_era(chain: &Chain, lines: &mut Vec<Line>) -> Result<(), NoMemory>
@@ -18,6 +21,19 @@ fn begin_era(chain: &Chain, lines: &mut Vec<Line>) -> Result<(), NoMemory>
 {
     if let Some(era) = begun_era(&chain.params, chain.due) {
         lines.push(Line::Era { era })?;
+    }
+    Ok(())
+}
+
+/// A round may begin, with its snapshot.
+fn begin_round(alloc: Global, chain: &mut Chain, lines: &mut Vec<Line>) -> Result<(), NoMemory>
+    requires { IsLive chain.old }
+    ensures { OnOk result (Goes (round_phase chain.old) chain.new lines.old.items lines.new.items) }
+{
+    if let Some(number) = begun_round(&chain.params, chain.due) {
+        let (round, line) = take_snapshot(alloc, chain, number)?;
+        lines.push(line)?;
+        chain.round = Some(round);
     }
     Ok(())
 }
@@ -62,6 +78,7 @@ fn take_calls(chain: &mut Chain, lines: &mut Vec<Line>, calls: Vec<Call>) -> Res
 
 /// The whole step of the block that is due.
 pub fn take_block(
+    alloc: Global,
     chain: &mut Chain,
     lines: &mut Vec<Line>,
     number: u32,
@@ -75,6 +92,7 @@ pub fn take_block(
 {
     lines.push(Line::Block { number })?;
     begin_era(chain, lines)?;
+    begin_round(alloc, chain, lines)?;
     take_calls(chain, lines, calls)?;
     chain.due += 1;
     Ok(())

@@ -1,9 +1,11 @@
 //! Why a call stops: it is refused, or memory ran out.
 ghost use Rattle.std.specs.Prelude.{◌≡◌};
+ghost use Rattle.npos_runtime.specs.declared.stop.Stop.TheVariants.{NoMemory as NoMemoryStop};
 
 use crate::Refusal;
 use npos_base::NoMemory;
 use stake_ledger::LedgerRefusal;
+use voter_lists::ListRefusal;
 
 /// Why a call stops.
 #[derive(Clone, Copy, Debug, PartialEq, Eq)]
@@ -22,5 +24,26 @@ impl From<LedgerRefusal> for Stop {
             LedgerRefusal::NoMemory => Stop::NoMemory,
             refusal => Stop::Refused(Refusal::Ledger(refusal)),
         }
+    }
+}
+
+impl From<ListRefusal> for Stop {
+    ghost use Rattle.npos_runtime.specs.Stops.{list_stop};
+
+    ghost from_gives = { λ refusal stop. stop ≡ list_stop refusal };
+
+    fn from(refusal: ListRefusal) -> Stop {
+        match refusal {
+            ListRefusal::NoMemory => Stop::NoMemory,
+            refusal => Stop::Refused(Refusal::List(refusal)),
+        }
+    }
+}
+
+impl From<NoMemory> for Stop {
+    ghost from_gives = { λ _ stop. stop ≡ NoMemoryStop };
+
+    fn from(_want: NoMemory) -> Stop {
+        Stop::NoMemory
     }
 }

@@ -8,6 +8,14 @@ use std::test::Fail;
 
 const FIRST: AccountId = AccountId { hi: 0, lo: 1 };
 
+const SECOND: AccountId = AccountId { hi: 0, lo: 2 };
+
+const THIRD: AccountId = AccountId { hi: 0, lo: 3 };
+
+const SEVENTH: AccountId = AccountId { hi: 0, lo: 7 };
+
+const EIGHTH: AccountId = AccountId { hi: 0, lo: 8 };
+
 /// One endowment of 100 to the first account.
 fn endowments(alloc: Global) -> Result<List<Endowment>, NoMemory> {
     let mut list = List::new(alloc);
@@ -63,6 +71,11 @@ fn apply(
             .push(Call { who: FIRST, kind })
             .map_err(|_| BlockFault::NoMemory)?;
     }
+    take(runtime, number, calls)
+}
+
+/// Takes a block of these calls.
+fn take(runtime: &mut Runtime, number: u32, calls: List<Call>) -> Result<Receipt, BlockFault> {
     if calls.len() > 64 {
         return Err(BlockFault::NoMemory);
     }
@@ -99,7 +112,7 @@ fn chunks_are_rebonded(rt: HostRuntime) -> Result<(), Fail> {
         Line::CallOk { index: 1 },
         Line::CallOk { index: 2 },
         Line::CallOk { index: 3 },
-        Line::CallRefused { index: 4, code: 99 },
+        Line::CallRefused { index: 4, code: 16 },
     ];
     assert_eq!(rt; receipt.lines.as_slice(), wanted.as_slice());
     assert_eq!(rt;
@@ -260,5 +273,195 @@ fn parameters_are_at_fault(rt: HostRuntime) -> Result<(), Fail> {
         Some(GenesisFault::BadSolutionMax(2_097_153)),
     ];
     assert!(rt; faults(rt.alloc())? == wanted);
+    Ok(())
+}
+
+/// A chain of five accounts with 100 units each: two seats, eras of six blocks, the snapshot in an era's third block.
+fn five_accounts(alloc: Global) -> Result<Runtime, BlockFault> {
+    let mut endowments = List::new(alloc);
+    for who in [FIRST, SECOND, THIRD, SEVENTH, EIGHTH] {
+        endowments
+            .push(Endowment { who, value: 100 })
+            .map_err(|_| BlockFault::NoMemory)?;
+    }
+    let mut params = Params {
+        seats: 2,
+        era_blocks: 6,
+        offset: 2,
+        signed: 2,
+        bonding_eras: 1,
+        ..params(alloc)
+    };
+    for threshold in [100, 1000] {
+        params
+            .thresholds
+            .push(threshold)
+            .map_err(|_| BlockFault::NoMemory)?;
+    }
+    start(alloc, Genesis::Full { endowments, params }).map_err(|_| BlockFault::NoMemory)
+}
+
+/// The lines of the third block, where these accounts bonded so much and validate since the first.
+fn third_block(alloc: Global, stakes: &[(AccountId, u64)]) -> Result<Receipt, BlockFault> {
+    let mut runtime = five_accounts(alloc)?;
+    let mut calls = List::new(alloc);
+    for (who, value) in stakes {
+        for kind in [
+            CallKind::Bond { value: *value },
+            CallKind::Validate { commission: 0 },
+        ] {
+            calls
+                .push(Call { who: *who, kind })
+                .map_err(|_| BlockFault::NoMemory)?;
+        }
+    }
+    let _ = take(&mut runtime, 1, calls)?;
+    let _ = take(&mut runtime, 2, List::new(alloc))?;
+    take(&mut runtime, 3, List::new(alloc))
+}
+
+#[test]
+fn a_round_begins_with_its_snapshot(rt: HostRuntime) -> Result<(), Fail> {
+    let table: [(&[(AccountId, u64)], Line); 3] = [
+        (&[], Line::VoidFew { round: 1 }),
+        (&[(FIRST, 1), (SECOND, 2)], Line::VoidPoor { round: 1 }),
+        (
+            &[(FIRST, 60), (SECOND, 40), (THIRD, 30)],
+            Line::Snapshot {
+                round: 1,
+                targets: 3,
+                voters: 3,
+                total: 130,
+            },
+        ),
+    ];
+    for (stakes, line) in table {
+        let receipt = third_block(rt.alloc(), stakes)?;
+        assert_eq!(rt;
+            receipt.lines.as_slice(),
+            [Line::Block { number: 3 }, line].as_slice()
+        );
+    }
+    Ok(())
+}
+
+fn nominate(alloc: Global, who: AccountId, targets: &[AccountId]) -> Result<Call, BlockFault> {
+    let targets = Vec::from_slice(alloc, targets).map_err(|_| BlockFault::NoMemory)?;
+    Ok(Call {
+        who,
+        kind: CallKind::Nominate {
+            targets: List::from_vec(targets),
+        },
+    })
+}
+
+/// Calls on roles and bags: two validators with 60 and 40, one with 150, and then one call for each refusal.
+fn calls_on_lists(alloc: Global) -> Result<List<Call>, BlockFault> {
+    let calls = vec![in alloc;
+        Call {
+            who: FIRST,
+            kind: CallKind::Bond { value: 60 }
+        },
+        Call {
+            who: FIRST,
+            kind: CallKind::Validate { commission: 0 }
+        },
+        Call {
+            who: SECOND,
+            kind: CallKind::Bond { value: 40 }
+        },
+        Call {
+            who: SECOND,
+            kind: CallKind::Validate { commission: 7 }
+        },
+        Call {
+            who: EIGHTH,
+            kind: CallKind::Transfer {
+                to: SEVENTH,
+                value: 50
+            }
+        },
+        Call {
+            who: SEVENTH,
+            kind: CallKind::Bond { value: 150 }
+        },
+        Call {
+            who: SEVENTH,
+            kind: CallKind::Validate { commission: 0 }
+        },
+        nominate(alloc, THIRD, &[FIRST])?,
+        Call {
+            who: THIRD,
+            kind: CallKind::Bond { value: 30 }
+        },
+        nominate(alloc, THIRD, &[])?,
+        nominate(alloc, THIRD, &[FIRST; 17])?,
+        nominate(alloc, THIRD, &[FIRST, FIRST])?,
+        nominate(alloc, THIRD, &[FIRST, EIGHTH])?,
+        nominate(alloc, THIRD, &[FIRST])?,
+        Call {
+            who: THIRD,
+            kind: CallKind::Validate {
+                commission: 1_000_000_001
+            }
+        },
+        Call {
+            who: EIGHTH,
+            kind: CallKind::Chill
+        },
+        Call {
+            who: THIRD,
+            kind: CallKind::Rebag { whom: FIRST }
+        },
+        Call {
+            who: SEVENTH,
+            kind: CallKind::PutInFront { lighter: FIRST }
+        },
+        Call {
+            who: SECOND,
+            kind: CallKind::PutInFront { lighter: FIRST }
+        },
+        Call {
+            who: FIRST,
+            kind: CallKind::PutInFront { lighter: SECOND }
+        },
+        Call {
+            who: FIRST,
+            kind: CallKind::Unbond { value: 60 }
+        },
+        Call {
+            who: FIRST,
+            kind: CallKind::Chill
+        },
+        Call {
+            who: FIRST,
+            kind: CallKind::Unbond { value: 60 }
+        },
+    ]
+    .map_err(|_| BlockFault::NoMemory)?;
+    Ok(List::from_vec(calls))
+}
+
+/// The number of each call's refusal, and 0 where it was accepted.
+fn codes(alloc: Global) -> Result<Vec<u32>, BlockFault> {
+    let mut runtime = five_accounts(alloc)?;
+    let receipt = take(&mut runtime, 1, calls_on_lists(alloc)?)?;
+    let mut codes = Vec::new(alloc);
+    for line in receipt.lines.as_slice() {
+        match line {
+            Line::CallOk { .. } => codes.push(0).map_err(|_| BlockFault::NoMemory)?,
+            Line::CallRefused { code, .. } => codes.push(*code).map_err(|_| BlockFault::NoMemory)?,
+            _ => {}
+        }
+    }
+    Ok(codes)
+}
+
+#[test]
+fn calls_on_lists_are_refused(rt: HostRuntime) -> Result<(), Fail> {
+    let wanted = [
+        0, 0, 0, 0, 0, 0, 0, 2, 0, 10, 11, 12, 13, 0, 15, 16, 17, 18, 19, 0, 4, 0, 0,
+    ];
+    assert_eq!(rt; codes(rt.alloc())?.as_slice(), wanted.as_slice());
     Ok(())
 }

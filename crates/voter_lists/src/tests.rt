@@ -122,3 +122,20 @@ fn a_nomination_is_refused_for_its_first_fault(rt: HostRuntime) -> Result<(), Fa
     }
     Ok(())
 }
+
+#[test]
+fn a_validator_too_many(rt: HostRuntime) -> Result<(), Fail> {
+    let mut roles = Roles::new(rt.alloc());
+    for n in 0..2048_u32 {
+        let who = AccountId {
+            hi: 1,
+            lo: u128::from(n),
+        };
+        roles.validate(who, 0)?;
+    }
+    assert_eq!(rt;
+        roles.validate(at(1), 0),
+        Err(ListRefusal::TooManyValidators)
+    );
+    Ok(())
+}

@@ -1,0 +1,206 @@
+//! The snapshot of a round, made from roles, bags and books.
+ghost use Rattle.std.specs.Prelude.{◌≡◌, ◌<◌, true, [], ◌∷◌, length, filter_map, Some, None, OnOk, IfOk};
+ghost use Rattle.voter_lists.specs.Roles.{role_of, validators_of};
+ghost use Rattle.voter_lists.specs.Ranked.{AreRanked};
+ghost use Rattle.voter_lists.specs.Bags.{is_listed, walk};
+ghost use Rattle.election_snapshot.specs.Draft.{place_of, target_fault, voter_fault, with_target, with_voter};
+ghost use Rattle.npos_runtime.specs.Ballots.{ballot_of, commission_in, commissions_of, is_eligible, snapshot_of, votes_of};
+ghost use Rattle.npos_runtime.specs.Rounds.{round_line, round_now};
+ghost use Rattle.npos_runtime.specs.Polling.{IsPolled, ahead_of, polled};
+ghost use Rattle.npos_runtime.specs.Live.{IsLive};
+
+use crate::rules::seats_of;
+use crate::{Chain, Line, Round};
+use election_snapshot::{SnapshotBuilder, SnapshotFault};
+use npos_base::{AccountId, List, NoMemory};
+use std::alloc::Global;
+use voter_lists::{Role, Roles};
+
+/// The most voters of a snapshot.
+const MOST_VOTERS: usize = 16384;
+
+/// Adds a target that has no fault.
+fn add_target(builder: &mut SnapshotBuilder, who: AccountId) -> Result<(), NoMemory>
+    requires { target_fault builder.old who ≡ None }
+    ensures { OnOk result (builder.new ≡ with_target builder.old who) }
+{
+    match builder.add_target(who) {
+        Ok(()) => Ok(()),
+        Err(SnapshotFault::NoMemory) => Err(NoMemory),
+        Err(_) => unreachable!(),
+    }
+}
+
+/// Adds all validators by rising account.
+#[tactic(auto, using(crate::proofs::BallotLemmas::target_free, crate::proofs::BallotLemmas::target_next))]
+fn add_targets(builder: &mut SnapshotBuilder, roles: &Roles) -> Result<(), NoMemory>
+    requires empty { builder.old ≡ record { targets = []; voters = [] } }
+    requires ranked { AreRanked roles.now (validators_of roles.now) }
+    ensures { OnOk result (builder.new ≡ record { targets = validators_of roles.now; voters = [] }) }
+{
+    for i in 0..roles.validator_count() {
+        add_target(builder, roles.validator_at(i))?;
+    }
+    Ok(())
+}
+
+/// Writes the votes for these choices: the place of each that is a target.
+#[tactic(auto, using(crate::proofs::BallotLemmas::cast_some, crate::proofs::BallotLemmas::cast_none))]
+fn cast(
+    builder: &SnapshotBuilder,
+    choices: &[AccountId],
+    votes: &mut Vec<u16>,
+) -> Result<(), NoMemory>
+    ensures { OnOk result (votes.new.items ≡ filter_map (place_of builder.now.targets) choices.now) }
+{
+    votes.clear();
+    for choice in choices {
+        if let Some(place) = builder.position(*choice) {
+            votes.push(place)?;
+        }
+    }
+    Ok(())
+}
+
+/// Writes the votes of an account.
+fn find_votes(
+    builder: &SnapshotBuilder,
+    roles: &Roles,
+    who: AccountId,
+    votes: &mut Vec<u16>,
+) -> Result<(), NoMemory>
+    requires { builder.now.targets ≡ validators_of roles.now }
+    ensures { OnOk result (votes.new.items ≡ votes_of roles.now who) }
+{
+    match roles.role(who) {
+        Role::Validator { .. } => cast(builder, &[who], votes),
+        Role::Nominator => cast(builder, roles.targets_of(who), votes),
+        Role::Nobody => cast(builder, &[], votes),
+    }
+}
+
+/// Adds a voter that has no fault.
+fn put_voter(
+    builder: &mut SnapshotBuilder,
+    who: AccountId,
+    stake: u64,
+    votes: &[u16],
+) -> Result<(), NoMemory>
+    requires { voter_fault builder.old who stake votes.now ≡ None }
+    ensures { OnOk result (builder.new ≡ with_voter builder.old who stake votes.now) }
+{
+    match builder.add_voter(who, stake, votes) {
+        Ok(()) => Ok(()),
+        Err(SnapshotFault::NoMemory) => Err(NoMemory),
+        Err(_) => unreachable!(),
+    }
+}
+
+/// Adds the voter of an account if it is eligible, and tells whether it is.
+fn add_voter(
+    builder: &mut SnapshotBuilder,
+    chain: &Chain,
+    who: AccountId,
+    votes: &mut Vec<u16>,
+) -> Result<bool, NoMemory>
+    requires live { IsLive chain.now }
+    requires room { length builder.old.voters < 16384 }
+    requires listed { is_listed chain.now.bags.order who ≡ true }
+    requires polled { IsPolled chain.now builder.old (ahead_of (walk chain.now.bags.order) (Some who)) }
+    ensures answer { IfOk result (λ added. added ≡ is_eligible chain.now who) }
+    ensures ok { OnOk result (builder.new ≡ polled chain.now builder.old who) }
+{
+    let stake = chain.book.active(who);
+    find_votes(builder, &chain.roles, who, votes)?;
+    if stake == 0 || votes.is_empty() {
+        return Ok(false);
+    }
+    put_voter(builder, who, stake, votes.as_slice())?;
+    Ok(true)
+}
+
+/// Adds the first eligible accounts of the walk over the bags.
+fn add_voters(alloc: Global, builder: &mut SnapshotBuilder, chain: &Chain) -> Result<(), NoMemory>
+    requires live { IsLive chain.now }
+    requires empty { builder.old ≡ record { targets = validators_of chain.now.roles; voters = [] } }
+    ensures { OnOk result (builder.new ≡ ballot_of chain.now) }
+{
+    let mut votes = Vec::new(alloc);
+    let mut voters = 0;
+    let mut next = chain.bags.first();
+    while voters < MOST_VOTERS {
+        let Some(who) = next else {
+            break;
+        };
+        if add_voter(builder, chain, who, &mut votes)? {
+            voters += 1;
+        }
+        next = chain.bags.next(who);
+    }
+    Ok(())
+}
+
+/// The targets and voters as they are now.
+fn draft(alloc: Global, chain: &Chain) -> Result<SnapshotBuilder, NoMemory>
+    requires { IsLive chain.now }
+    ensures { IfOk result (λ draft. draft ≡ ballot_of chain.now) }
+{
+    let mut builder = SnapshotBuilder::new(alloc);
+    add_targets(&mut builder, &chain.roles)?;
+    add_voters(alloc, &mut builder, chain)?;
+    Ok(builder)
+}
+
+/// What a validator keeps of its rewards, in billionths.
+fn commission(roles: &Roles, who: AccountId) -> u32
+    ensures { result ≡ commission_in (role_of roles.now who) }
+{
+    match roles.role(who) {
+        Role::Validator { commission } => commission,
+        Role::Nominator | Role::Nobody => 0,
+    }
+}
+
+/// The commissions of the targets, in their order.
+#[tactic(auto, using(crate::proofs::BallotLemmas::mapped_next))]
+fn commissions(alloc: Global, roles: &Roles) -> Result<List<u32>, NoMemory>
+    ensures { IfOk result (λ noted. noted ≡ commissions_of roles.now) }
+{
+    let mut noted = Vec::new(alloc);
+    for i in 0..roles.validator_count() {
+        noted.push(commission(roles, roles.validator_at(i)))?;
+    }
+    Ok(List::from_vec(noted))
+}
+
+/// Begins the round of this number with its snapshot. It is void where there are fewer targets than seats, or too
+/// little stake.
+#[tactic(auto, using(crate::proofs::VoidLemmas::few_void, crate::proofs::VoidLemmas::poor_void))]
+pub fn take_snapshot(alloc: Global, chain: &Chain, number: u32) -> Result<(Round, Line), NoMemory>
+    requires { IsLive chain.now }
+    ensures { IfOk result (λ begun. (begun.0 ≡ round_now chain.now number) × (begun.1 ≡ round_line number (snapshot_of chain.now))) }
+{
+    match draft(alloc, chain)?.finish(seats_of(&chain.params)) {
+        Ok(snapshot) => {
+            let line = Line::Snapshot {
+                round: number,
+                targets: snapshot.target_count() as u32,
+                voters: snapshot.voter_count() as u32,
+                total: snapshot.total(),
+            };
+            let round = Round::Open {
+                number,
+                snapshot,
+                commissions: commissions(alloc, &chain.roles)?,
+            };
+            Ok((round, line))
+        }
+        Err((_, SnapshotFault::Few { .. })) => {
+            Ok((Round::Void { number }, Line::VoidFew { round: number }))
+        }
+        Err((_, SnapshotFault::Poor { .. })) => {
+            Ok((Round::Void { number }, Line::VoidPoor { round: number }))
+        }
+        Err(_) => unreachable!(),
+    }
+}
