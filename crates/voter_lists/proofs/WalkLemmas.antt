@@ -7,7 +7,7 @@ use Rattle.std.proofs.lemmas.List.Elements.{filter-append}
 use Rattle.npos_base.specs.declared.account.AccountId.{AccountId}
 use Rattle.npos_base.specs.Account.{same_account}
 use Rattle.voter_lists.specs.Bags.{Order, in_bag, from_bag, is_in, walk, account_after}
-use Rattle.voter_lists.specs.BagRows.{numbered, walk_from, holds, AreNoted}
+use Rattle.voter_lists.specs.BagRows.{falling, numbered, walk_from, holds, AreNoted}
 
 -- each bag of the list has the accounts that the order gives its number
 abbrev pub Lists : Order → ℕ → List (List AccountId) → Type 0
@@ -94,38 +94,18 @@ pub walk_numbered : (number : ℕ) (accounts : List AccountId) → walk (numbere
 walk_numbered number [] = refl
 walk_numbered number (account ∷ accounts) = ap (λ zs. account ∷ zs) (walk_numbered number accounts)
 
-highest_first : (number : ℕ) (lower : List (List AccountId)) (highest : List AccountId)
-    → walk (walk_from number (lower ++ highest ∷ [])) ≡ highest ++ walk (walk_from number lower)
-highest_first number [] highest = walk_numbered number highest ∙ sym (append-nil highest)
-highest_first number (bag ∷ lower) highest =
-    walk_append (walk_from (number + 1) (lower ++ highest ∷ [])) (numbered number bag)
-    ∙ ap (λ zs. zs ++ walk (numbered number bag)) (highest_first (number + 1) lower highest)
-    ∙ append_assoc highest (walk (walk_from (number + 1) lower)) (walk (numbered number bag))
-    ∙ ap (λ zs. highest ++ zs) (sym (walk_append (walk_from (number + 1) lower) (numbered number bag)))
-
--- the first account is that of the highest bag that has one
-pub first_here : (bags lower : List (List AccountId)) (highest : List AccountId) → bags ≡ lower ++ highest ∷ [] → is_some (slice_get highest 0) ≡ true
-    → slice_get highest 0 ≡ slice_get (walk (walk_from 0 bags)) 0
-first_here bags lower highest e some = sym (ap (λ bs. slice_get (walk (walk_from 0 bs)) 0) e ∙ ap (λ zs. slice_get zs 0) (highest_first 0 lower highest) ∙ front highest some) where
-  front : (xs : List AccountId) → is_some (slice_get xs 0) ≡ true → slice_get (xs ++ walk (walk_from 0 lower)) 0 ≡ slice_get xs 0
-  front [] some = absurd (true≢false (sym some))
-  front (x ∷ xs) some = refl
-
-pub first_below : (bags lower : List (List AccountId)) (highest : List AccountId) → bags ≡ lower ++ highest ∷ [] → is_some (slice_get highest 0) ≡ false
-    → slice_get (walk (walk_from 0 lower)) 0 ≡ slice_get (walk (walk_from 0 bags)) 0
-first_below bags lower highest e none = sym (ap (λ bs. slice_get (walk (walk_from 0 bs)) 0) e ∙ ap (λ zs. slice_get zs 0) (highest_first 0 lower highest) ∙ front highest none) where
-  front : (xs : List AccountId) → is_some (slice_get xs 0) ≡ false → slice_get (xs ++ walk (walk_from 0 lower)) 0 ≡ slice_get (walk (walk_from 0 lower)) 0
-  front [] none = refl
-  front (x ∷ xs) none = absurd (true≢false none)
-
--- the accounts of the bags, those of the last first
-abbrev pub falling : List (List AccountId) → List AccountId
-falling [] = []
-falling (bag ∷ bags) = falling bags ++ bag
-
-walk_falls : (number : ℕ) (bags : List (List AccountId)) → walk (walk_from number bags) ≡ falling bags
+-- the walk is the accounts of the bags, those of the highest first
+pub walk_falls : (number : ℕ) (bags : List (List AccountId)) → walk (walk_from number bags) ≡ falling bags
 walk_falls number [] = refl
 walk_falls number (bag ∷ bags) = walk_append (walk_from (number + 1) bags) (numbered number bag) ∙ ap₂ (λ xs ys. xs ++ ys) (walk_falls (number + 1) bags) (walk_numbered number bag)
+
+-- where no account of a bag is left, the highest of the lower bags is next
+pub next_bag : (here : List AccountId) (bags lower : List (List AccountId)) (highest : List AccountId) → length here ≡ 0 → bags ≡ lower ++ highest ∷ [] → highest ++ falling lower ≡ here ++ falling bags
+next_bag (account ∷ here) bags lower highest none e = absurd (omega (arith, none))
+next_bag [] bags lower highest none e = sym (ap falling e ∙ last_falls lower) where
+  last_falls : (rest : List (List AccountId)) → falling (rest ++ highest ∷ []) ≡ highest ++ falling rest
+  last_falls [] = sym (append-nil highest)
+  last_falls (bag ∷ rest) = ap (λ accounts. accounts ++ bag) (last_falls rest) ∙ append_assoc highest (falling rest) bag
 
 holds_append : (xs ys : List AccountId) (who : AccountId) → holds (xs ++ ys) who ≡ (holds xs who || holds ys who)
 holds_append [] ys who = refl

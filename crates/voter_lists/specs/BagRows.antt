@@ -7,6 +7,11 @@ use Rattle.npos_base.specs.declared.account.AccountId.{AccountId}
 use Rattle.npos_base.specs.Account.{account_cmp, same_account}
 use Rattle.voter_lists.specs.Bags.{Order, IsRisingFrom, is_in}
 
+-- the accounts of the bags, those of the last first
+abbrev pub falling : List (List AccountId) → List AccountId
+falling [] = []
+falling (bag ∷ bags) = falling bags ++ bag
+
 -- the accounts of a bag with its number
 abbrev pub numbered : ℕ → List AccountId → Order
 numbered number accounts = map (λ account. (account, number)) accounts

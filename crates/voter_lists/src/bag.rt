@@ -1,5 +1,5 @@
 //! One bag: the accounts whose scores lie between two thresholds, from head to tail.
-ghost use Rattle.std.specs.Prelude.{◌≡◌, ◌≢◌, ◌≤◌, length, [], ◌∷◌, ◌++◌, OnOk, OnErr, slice_get};
+ghost use Rattle.std.specs.Prelude.{◌≡◌, ◌≢◌, ◌≤◌, length, [], ◌∷◌, ◌++◌, OnOk, OnErr};
 ghost use Rattle.std.specs.List.{position_or_len};
 ghost use Rattle.npos_base.specs.Account.{same_account};
 ghost use Rattle.voter_lists.specs.Bag.{without, with_before};
@@ -62,10 +62,11 @@ impl Bag {
         }
     }
 
-    pub(crate) fn first(&self) -> Option<AccountId>
-        ensures { result ≡ slice_get self.now 0 }
+    /// The accounts from head to tail.
+    pub(crate) fn as_slice(&self) -> &[AccountId]
+        ensures { result.now ≡ self.now }
     {
-        self.accounts.first().copied()
+        self.accounts.as_slice()
     }
 
     /// The account after this one.

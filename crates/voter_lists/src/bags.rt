@@ -6,7 +6,7 @@ ghost use Rattle.voter_lists.specs.Bags.{Listing, IsRisingFrom, bag_of, is_liste
 use crate::ListRefusal;
 use crate::bag::Bag;
 use crate::rows::{empty_bags, home_of, join_bag, leave_bag, put_in_bag};
-use crate::walk::top_of;
+use crate::walk::{Walk, top_of};
 use npos_base::{AccountId, List, NoMemory};
 use std::alloc::Global;
 use std::collections::BTreeMap;
@@ -167,6 +167,13 @@ impl Bags {
             return after;
         }
         top_of(&self.bags.as_slice()[..home])
+    }
+
+    /// The walk over all accounts, from the highest bag down and within a bag from head to tail.
+    pub fn walk(&self) -> Walk<'_>
+        ensures { result ≡ walk self.now.order }
+    {
+        Walk::over(self.bags.as_slice())
     }
 }
 

@@ -15,6 +15,7 @@ pub use bags::Bags;
 pub use refusal::ListRefusal;
 pub use roles::Roles;
 pub use standing::{Role, Standing};
+pub use walk::Walk;
 
 #[cfg(test)]
 mod tests;

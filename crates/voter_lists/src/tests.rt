@@ -32,16 +32,17 @@ fn five_in_bags(alloc: Global) -> Result<Bags, NoMemory> {
     Ok(bags)
 }
 
-/// Whether these accounts are the walk.
+/// Whether these accounts are the walk, from one to the next and in one go.
 fn walks(bags: &Bags, accounts: &[AccountId]) -> bool {
     let mut next = bags.first();
+    let mut walk = bags.walk();
     for account in accounts {
-        if next != Some(*account) || !bags.contains(*account) {
+        if next != Some(*account) || walk.next() != next || !bags.contains(*account) {
             return false;
         }
         next = bags.next(*account);
     }
-    next.is_none()
+    next.is_none() && walk.next().is_none()
 }
 
 #[test]
