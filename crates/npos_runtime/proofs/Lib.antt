@@ -3,7 +3,6 @@ pub mod ListLemmas
 pub mod RoleLemmas
 pub mod StopLemmas
 pub mod BallotLemmas
-pub mod PollLemmas
 pub mod StepLemmas
 pub mod StakeSums
 pub mod VoteLemmas

@@ -14,18 +14,20 @@ use Rattle.npos_runtime.specs.Live.{IsListing, times}
 abbrev pub one : Bool → ℕ
 one b = cond b 1 0
 
+pub times_cons : (who a : AccountId) (more : List AccountId) → times who (a ∷ more) ≡ one (same_account a who) + times who more
+times_cons who a more = sum_by-cons (λ (x : AccountId). cond (same_account x who) 1 0) a more
+
 -- how often an account stands in the order
 abbrev pub seen : AccountId → Order → ℕ
 seen who [] = 0
 seen who (entry ∷ order) = one (same_account entry.0 who) + seen who order
 
-pub times_seen : (who : AccountId) (order : Order) → times who (walk order) ≡ seen who order
+times_seen : (who : AccountId) (order : Order) → times who (walk order) ≡ seen who order
 times_seen who [] = refl
 times_seen who (entry ∷ order) =
-    sum_by-cons (λ (a : AccountId). cond (same_account a who) 1 0) entry.0 (walk order)
-    ∙ ap (λ n. one (same_account entry.0 who) + n) (times_seen who order)
+    times_cons who entry.0 (walk order) ∙ ap (λ n. one (same_account entry.0 who) + n) (times_seen who order)
 
-pub listed_some : (who : AccountId) (order : Order) → is_listed order who ≡ true → 1 ≤ seen who order
+listed_some : (who : AccountId) (order : Order) → is_listed order who ≡ true → 1 ≤ seen who order
 listed_some who [] e = absurd (true≢false (sym e))
 listed_some who (entry ∷ order) e = at (same_account entry.0 who) e (listed_some who order) where
   at : (b : Bool) → is_some (if b then Some entry.1 else number_of order who) ≡ true → (is_listed order who ≡ true → 1 ≤ seen who order)

@@ -1,5 +1,5 @@
 -- The stakes of accounts of which none stands twice are no more than what is active in all rows.
-use Rattle.std.proofs.Common.{◌≡◌, ℕ, zero, suc, ◌+◌, ◌*◌, ◌≤◌, Bool, true, false, cond, List, [], ◌∷◌, sum_by, refl, sym, ◌∙◌, ap, subst, arith}
+use Rattle.std.proofs.Common.{◌≡◌, ℕ, zero, suc, ◌+◌, ◌*◌, ◌≤◌, Bool, true, false, List, [], ◌∷◌, sum_by, refl, sym, ◌∙◌, ap, subst, arith}
 use Rattle.std.specs.Map.{values_of}
 use Rattle.std.proofs.lemmas.List.Sums.{sum_by-cons}
 use Rattle.std.proofs.lemmas.Cmp.{tied_itself}
@@ -9,10 +9,7 @@ use Rattle.npos_base.proofs.AccountOrder.{account_total, same_exact, same_itself
 use Rattle.stake_ledger.specs.declared.row.Row.{Row}
 use Rattle.stake_ledger.specs.Ledger.{row_in}
 use Rattle.npos_runtime.specs.Live.{IsOnce, times}
-use Rattle.npos_runtime.proofs.ListLemmas.{one, by_account}
-
-times_cons : (who a : AccountId) (more : List AccountId) → times who (a ∷ more) ≡ one (same_account a who) + times who more
-times_cons who a more = sum_by-cons (λ (x : AccountId). cond (same_account x who) 1 0) a more
+use Rattle.npos_runtime.proofs.ListLemmas.{one, times_cons, by_account}
 
 grown : (n r s t u v : ℕ) → s ≤ n * r + t → u ≡ r → u + s ≤ (1 + n) * r + (v + t)
 grown n r s t u v p q = omega (arith, p, q)

@@ -1,18 +1,16 @@
 -- One account more of the walk for a snapshot.
-use Rattle.std.proofs.Common.{◌≡◌, ℕ, zero, suc, ◌+◌, ◌-◌, ◌≤◌, ◌<◌, Bool, true, false, cond, List, [], ◌∷◌, ◌++◌, length, take, map, filter, Option, Some, None, slice_get, IfSome, refl, sym, ◌∙◌, ap, ap₂, subst, arith, if◌then◌else◌, append_assoc}
+use Rattle.std.proofs.Common.{◌≡◌, ℕ, zero, suc, ◌+◌, ◌-◌, ◌≤◌, ◌<◌, Bool, true, false, cond, List, [], ◌∷◌, ◌++◌, length, take, map, filter, refl, sym, ◌∙◌, ap, ap₂, subst, arith, if◌then◌else◌, append_assoc}
 use Rattle.std.proofs.lemmas.List.Sums.{sum_by-append, sum_by-cons}
 use Rattle.npos_base.specs.declared.account.AccountId.{AccountId}
 use Rattle.npos_base.specs.Account.{same_account}
 use Rattle.voter_lists.specs.Roles.{validators_of}
-use Rattle.voter_lists.specs.Bags.{Order, walk, is_listed, account_after}
+use Rattle.voter_lists.specs.Bags.{walk}
 use Rattle.election_snapshot.specs.Snapshot.{Voter}
 use Rattle.election_snapshot.specs.Draft.{Draft, accounts_of, with_voter}
 use Rattle.npos_runtime.specs.declared.chain.Chain.{Chain}
 use Rattle.npos_runtime.specs.Ballots.{active_of, votes_of, is_eligible, electorate, voter_of, ballot_of}
 use Rattle.npos_runtime.specs.Live.{IsOnce, IsLive, times}
-use Rattle.npos_runtime.specs.Polling.{IsPolled, polled, ahead_of}
-use Rattle.npos_runtime.proofs.PollLemmas.{ahead_first, ahead_next, first_listed, after_listed}
-use Rattle.npos_runtime.proofs.ListLemmas.{listed_some, times_seen}
+use Rattle.npos_runtime.specs.Polling.{IsPolled, polled}
 
 mapped_more : {A B : Type 0} (f : A → B) (xs : List A) (y : A) → map f (xs ++ y ∷ []) ≡ map f xs ++ f y ∷ []
 mapped_more f [] y = refl
@@ -70,11 +68,11 @@ module _ (chain : Chain) (draft : Draft) (who : AccountId) (rest : List AccountI
     at false e = passed e
 
 -- nothing of the walk is in the draft at first
-pub polled_first : (chain : Chain) (draft : Draft) (next : Option AccountId) → IsLive chain → draft ≡ record { targets = validators_of chain.roles; voters = [] }
-    → next ≡ slice_get (walk chain.bags.order) 0 → IsPolled chain draft (ahead_of (walk chain.bags.order) next)
-polled_first chain draft next live empty first =
-    subst (λ d. IsPolled chain d (ahead_of (walk chain.bags.order) next)) (sym empty)
-    (subst (λ ahead. IsPolled chain (record { targets = validators_of chain.roles; voters = [] }) ahead) (sym (ap (ahead_of (walk chain.bags.order)) first ∙ ahead_first (walk chain.bags.order)))
+pub polled_first : (chain : Chain) (draft : Draft) (ahead : List AccountId) → IsLive chain → draft ≡ record { targets = validators_of chain.roles; voters = [] }
+    → ahead ≡ walk chain.bags.order → IsPolled chain draft ahead
+polled_first chain draft ahead live empty whole =
+    subst (λ d. IsPolled chain d ahead) (sym empty)
+    (subst (λ accounts. IsPolled chain (record { targets = validators_of chain.roles; voters = [] }) accounts) (sym whole)
     (record { targets = refl; voters = refl; few = omega arith; once = live.listing.once; rest = refl }))
 
 -- and at last the whole electorate is
@@ -102,29 +100,6 @@ polled_through chain draft is = polled_last chain draft [] is (nothing (16384 - 
   nothing : (n : ℕ) → take n (filter (is_eligible chain) []) ≡ []
   nothing zero = refl
   nothing (suc n) = refl
-
--- what is ahead from the next account on
-pub ahead_is : (chain : Chain) (next later : Option AccountId) (who : AccountId) → IsLive chain → next ≡ Some who
-    → IfSome next (λ q. is_listed chain.bags.order q ≡ true) → later ≡ account_after (walk chain.bags.order) who
-    → ahead_of (walk chain.bags.order) next ≡ who ∷ ahead_of (walk chain.bags.order) later
-ahead_is chain next later who live is listed after =
-    let there : is_listed chain.bags.order who ≡ true = subst (λ n. IfSome n (λ q. is_listed chain.bags.order q ≡ true)) is listed in
-    ap (ahead_of (walk chain.bags.order)) is
-    ∙ (ahead_next (walk chain.bags.order) who live.listing.once (omega (arith, listed_some who chain.bags.order there, times_seen who chain.bags.order))
-    ∙ ap (λ n. who ∷ ahead_of (walk chain.bags.order) n) (sym after))
-
-pub less_ahead : (chain : Chain) (next later : Option AccountId) (who : AccountId) → IsLive chain → next ≡ Some who
-    → IfSome next (λ q. is_listed chain.bags.order q ≡ true) → later ≡ account_after (walk chain.bags.order) who
-    → length (ahead_of (walk chain.bags.order) later) < length (ahead_of (walk chain.bags.order) next)
-less_ahead chain next later who live is listed after = omega (arith, ap length (ahead_is chain next later who live is listed after))
-
-pub first_if : (order : Order) (next : Option AccountId) → next ≡ slice_get (walk order) 0 → IfSome next (λ q. is_listed order q ≡ true)
-first_if order None e = tt
-first_if order (Some q) e = first_listed order q (sym e)
-
-pub after_if : (order : Order) (who : AccountId) (next : Option AccountId) → next ≡ account_after (walk order) who → IfSome next (λ q. is_listed order q ≡ true)
-after_if order who None e = tt
-after_if order who (Some q) e = after_listed order who q (sym e)
 
 pub one_more : (chain : Chain) (draft new : Draft) (who : AccountId) → is_eligible chain who ≡ true → new ≡ polled chain draft who → length new.voters ≡ length draft.voters + 1
 one_more chain draft new who e is = ap (λ (d : Draft). length d.voters) is ∙ rw e (length_more draft.voters (voter_of chain who))

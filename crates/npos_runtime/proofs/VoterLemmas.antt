@@ -1,5 +1,5 @@
 -- An eligible account of the walk is a voter without a fault.
-use Rattle.std.proofs.Common.{◌≡◌, ℕ, suc, ◌+◌, ◌≤◌, ◌<◌, ◌^◌, Bool, true, false, cond, nat_le, nat_lt, nat_eq, ◌||◌, List, [], ◌∷◌, ◌++◌, length, map, sum_by, Some, None, is_some, refl, sym, ◌∙◌, ap, subst, arith, if◌then◌else◌}
+use Rattle.std.proofs.Common.{◌≡◌, ℕ, suc, ◌+◌, ◌≤◌, ◌<◌, ◌^◌, Bool, true, false, cond, nat_le, nat_lt, nat_eq, ◌||◌, List, [], ◌∷◌, ◌++◌, length, map, sum_by, None, refl, sym, ◌∙◌, ap, arith}
 use Rattle.std.specs.List.{list_any}
 use Rattle.std.specs.Map.{values_of}
 use Rattle.std.proofs.lemmas.Bool.Decides.{nat_tests}
@@ -10,20 +10,16 @@ use Rattle.npos_base.proofs.AccountOrder.{same_exact, same_itself}
 use Rattle.stake_ledger.specs.declared.row.Row.{Row}
 use Rattle.stake_ledger.specs.Rows.{worth}
 use Rattle.stake_ledger.specs.Ledger.{row_in, IsBalanced}
-use Rattle.voter_lists.specs.Bags.{Order, walk, is_listed}
 use Rattle.voter_lists.specs.Roles.{validators_of}
 use Rattle.election_snapshot.specs.Snapshot.{Voter, total_of}
 use Rattle.election_snapshot.specs.Draft.{Draft, accounts_of, stands_in, voter_fault}
 use Rattle.npos_runtime.specs.declared.chain.Chain.{Chain}
 use Rattle.npos_runtime.specs.Ballots.{active_of, votes_of, voter_of}
 use Rattle.npos_runtime.specs.Live.{IsLive, IsOnce, times}
-use Rattle.npos_runtime.specs.Polling.{IsPolled, from_account, ahead_of}
-use Rattle.npos_runtime.proofs.ListLemmas.{one}
+use Rattle.npos_runtime.specs.Polling.{IsPolled}
+use Rattle.npos_runtime.proofs.ListLemmas.{one, times_cons}
 use Rattle.npos_runtime.proofs.StakeSums.{stakes_fit}
 use Rattle.npos_runtime.proofs.VoteLemmas.{votes_known, few_votes, distinct_votes}
-
-times_cons : (who a : AccountId) (more : List AccountId) → times who (a ∷ more) ≡ one (same_account a who) + times who more
-times_cons who a more = sum_by-cons (λ (x : AccountId). cond (same_account x who) 1 0) a more
 
 times_append : (who : AccountId) (xs ys : List AccountId) → times who (xs ++ ys) ≡ times who xs + times who ys
 times_append who xs ys = sum_by-append (λ (x : AccountId). cond (same_account x who) 1 0) xs ys
@@ -37,17 +33,6 @@ stands_not (a ∷ more) who e = at (same_account who a) refl (stands_not more wh
       let z : one (same_account a who) ≡ 1 = ap (λ (x : AccountId). one (same_account x who)) (sym (same_exact who a f)) ∙ ap (λ b. one b) (same_itself who) in
       absurd (omega (arith, times_cons who a more, e, z))
   at false f rest = rest
-
--- a listed account is the first of what is ahead from it on
-starts_with : (order : Order) (who : AccountId) → is_listed order who ≡ true
-    → (more : List AccountId) × (from_account (walk order) who ≡ who ∷ more)
-starts_with [] who e = cc
-starts_with (entry ∷ order) who e = at (same_account entry.0 who) refl e (starts_with order who) where
-  at : (b : Bool) → same_account entry.0 who ≡ b → is_some (if b then Some entry.1 else Rattle.voter_lists.specs.Bags.number_of order who) ≡ true
-      → (is_listed order who ≡ true → (more : List AccountId) × (from_account (walk order) who ≡ who ∷ more))
-      → (more : List AccountId) × ((if b then entry.0 ∷ walk order else from_account (walk order) who) ≡ who ∷ more)
-  at true f e rest = (walk order, ap (λ (x : AccountId). x ∷ walk order) (same_exact entry.0 who f))
-  at false f e rest = rest e
 
 front_once : (accounts more : List AccountId) (who : AccountId) → IsOnce (accounts ++ who ∷ more) → IsOnce (accounts ++ who ∷ [])
 front_once accounts more who once = λ other. omega (arith, once other, times_append other accounts (who ∷ more), times_append other accounts (who ∷ []), times_cons other who more, times_cons other who [])
@@ -97,21 +82,19 @@ count_kept : (voters : List Voter) → length (accounts_of voters) ≡ length vo
 count_kept [] = refl
 count_kept (voter ∷ voters) = ap (λ n. suc n) (count_kept voters)
 
-pub no_fault : (chain : Chain) (draft : Draft) (who : AccountId) → IsLive chain → length draft.voters < 16384 → is_listed chain.bags.order who ≡ true
-    → IsPolled chain draft (ahead_of (walk chain.bags.order) (Some who)) → 0 < active_of chain who → 0 < length (votes_of chain.roles who)
+pub no_fault : (chain : Chain) (draft : Draft) (who : AccountId) (more : List AccountId) → IsLive chain → length draft.voters < 16384
+    → IsPolled chain draft (who ∷ more) → 0 < active_of chain who → 0 < length (votes_of chain.roles who)
     → voter_fault draft who (active_of chain who) (votes_of chain.roles who) ≡ None
-no_fault chain draft who live room listed polled stake votes =
-    let start : (more : List AccountId) × (from_account (walk chain.bags.order) who ≡ who ∷ more) = starts_with chain.bags.order who listed in
-    let once : IsOnce (accounts_of draft.voters ++ who ∷ start.0) = subst (λ ahead. IsOnce (accounts_of draft.voters ++ ahead)) start.1 polled.once in
+no_fault chain draft who more live room polled stake votes =
     let few : length (accounts_of draft.voters) < 16384 = omega (arith, count_kept draft.voters, room) in
     rw (
       not_above 16384 (length (accounts_of draft.voters)) few,
-      not_yet (accounts_of draft.voters) start.0 who once,
+      not_yet (accounts_of draft.voters) more who polled.once,
       not_none (active_of chain who) stake,
       not_none (length (votes_of chain.roles who)) votes,
       not_below 16 (length (votes_of chain.roles who)) (few_votes chain.roles who (live.nominations who)),
       ap (λ (targets : List AccountId). list_any (λ target. nat_le (length targets) target) (votes_of chain.roles who)) polled.targets ∙ votes_known (validators_of chain.roles) (Rattle.npos_runtime.specs.Ballots.choices_of chain.roles who),
       distinct_votes chain.roles who (live.nominations who),
-      not_above (2 ^ 64) (total_of draft.voters + active_of chain who) (total_fits chain draft who live.balanced polled.voters (front_once (accounts_of draft.voters) start.0 who once)),
+      not_above (2 ^ 64) (total_of draft.voters + active_of chain who) (total_fits chain draft who live.balanced polled.voters (front_once (accounts_of draft.voters) more who polled.once)),
     )
     refl

@@ -1,21 +1,11 @@
 -- The walk over the bags for a snapshot: what is there of it already, and what is ahead.
-use Rattle.std.specs.Prelude.{◌≡◌, ◌-◌, ◌≤◌, List, [], ◌∷◌, ◌++◌, map, filter, take, length, Option, Some, None, if◌then◌else◌}
+use Rattle.std.specs.Prelude.{◌≡◌, ◌-◌, ◌≤◌, List, ◌++◌, map, filter, take, length, if◌then◌else◌}
 use Rattle.npos_base.specs.declared.account.AccountId.{AccountId}
-use Rattle.npos_base.specs.Account.{same_account}
 use Rattle.voter_lists.specs.Roles.{validators_of}
 use Rattle.election_snapshot.specs.Draft.{Draft, accounts_of, with_voter}
 use Rattle.npos_runtime.specs.declared.chain.Chain.{Chain}
 use Rattle.npos_runtime.specs.Ballots.{active_of, votes_of, is_eligible, electorate, voter_of}
 use Rattle.npos_runtime.specs.Live.{IsOnce}
-
--- the accounts from this one on
-abbrev pub from_account : List AccountId → AccountId → List AccountId
-from_account [] who = []
-from_account (account ∷ accounts) who = if same_account account who then account ∷ accounts else from_account accounts who
-
-abbrev pub ahead_of : List AccountId → Option AccountId → List AccountId
-ahead_of accounts None = []
-ahead_of accounts (Some who) = from_account accounts who
 
 -- the draft with the voter of this account, if it is eligible
 abbrev pub polled : Chain → Draft → AccountId → Draft

@@ -1,12 +1,12 @@
 //! The snapshot of a round, made from roles, bags and books.
-ghost use Rattle.std.specs.Prelude.{◌≡◌, ◌<◌, true, [], ◌∷◌, length, filter_map, Some, None, OnOk, IfOk};
+ghost use Rattle.std.specs.Prelude.{◌≡◌, ◌<◌, List, [], ◌∷◌, length, filter_map, None, OnOk, IfOk};
+ghost use Rattle.npos_base.specs.declared.account.AccountId.{AccountId};
 ghost use Rattle.voter_lists.specs.Roles.{role_of, validators_of};
 ghost use Rattle.voter_lists.specs.Ranked.{AreRanked};
-ghost use Rattle.voter_lists.specs.Bags.{is_listed, walk};
 ghost use Rattle.election_snapshot.specs.Draft.{place_of, target_fault, voter_fault, with_target, with_voter};
 ghost use Rattle.npos_runtime.specs.Ballots.{ballot_of, commission_in, commissions_of, is_eligible, snapshot_of, votes_of};
 ghost use Rattle.npos_runtime.specs.Rounds.{round_line, round_now};
-ghost use Rattle.npos_runtime.specs.Polling.{IsPolled, ahead_of, polled};
+ghost use Rattle.npos_runtime.specs.Polling.{IsPolled, polled};
 ghost use Rattle.npos_runtime.specs.Live.{IsLive};
 
 use crate::rules::seats_of;
@@ -105,8 +105,7 @@ fn add_voter(
 ) -> Result<bool, NoMemory>
     requires live { IsLive chain.now }
     requires room { length builder.old.voters < 16384 }
-    requires listed { is_listed chain.now.bags.order who ≡ true }
-    requires polled { IsPolled chain.now builder.old (ahead_of (walk chain.now.bags.order) (Some who)) }
+    requires polled { (more : List AccountId) × IsPolled chain.now builder.old (who ∷ more) }
     ensures answer { IfOk result (λ added. added ≡ is_eligible chain.now who) }
     ensures ok { OnOk result (builder.new ≡ polled chain.now builder.old who) }
 {
@@ -127,15 +126,14 @@ fn add_voters(alloc: Global, builder: &mut SnapshotBuilder, chain: &Chain) -> Re
 {
     let mut votes = Vec::new(alloc);
     let mut voters = 0;
-    let mut next = chain.bags.first();
+    let mut walk = chain.bags.walk();
     while voters < MOST_VOTERS {
-        let Some(who) = next else {
+        let Some(who) = walk.next() else {
             break;
         };
         if add_voter(builder, chain, who, &mut votes)? {
             voters += 1;
         }
-        next = chain.bags.next(who);
     }
     Ok(())
 }

@@ -1,15 +1,13 @@
-use Rattle.std.proofs.Common.{◌≡◌, true, length, IfSome}
-use Rattle.voter_lists.specs.Bags.{walk, is_listed}
-use Rattle.npos_runtime.specs.Polling.{IsPolled, ahead_of}
+use Rattle.std.proofs.Common.{◌≡◌, length}
+use Rattle.npos_runtime.specs.Polling.{IsPolled}
 use Rattle.npos_runtime.proofs.ballot.add_voters.Given as goal
 
 abbrev pub decreases-loop-voters : goal.decreases-loop-voters
-decreases-loop-voters l = length (ahead_of (walk l.chain.bags.order) l.next)
+decreases-loop-voters l = length l.walk
 
--- the draft has the voters of the walk up to the next account, which is listed
+-- the draft has the voters of the walk up to what is left of it
 abbrev pub invariant-loop-voters : goal.invariant-loop-voters
 invariant-loop-voters l = record {
-  polled : IsPolled l.chain l.builder (ahead_of (walk l.chain.bags.order) l.next);
+  polled : IsPolled l.chain l.builder l.walk;
   counted : l.voters ≡ length l.builder.voters;
-  listed : IfSome l.next (λ who. is_listed l.chain.bags.order who ≡ true);
 }
