@@ -1,6 +1,7 @@
 -- The books stay balanced, and the running totals the sums.
-use Rattle.std.proofs.Common.{◌≡◌, ℕ, ◌+◌, ◌-◌, ◌≤◌, refl, ap, sym, ◌∙◌, arith, None, All}
+use Rattle.std.proofs.Common.{◌≡◌, ℕ, ◌+◌, ◌-◌, ◌≤◌, refl, ap, sym, ◌∙◌, arith, None, All, []}
 use Rattle.std.specs.Map.{values_of}
+use Rattle.std.specs.List.Sorted.{IsStrictlySortedBy}
 use Rattle.npos_base.specs.declared.account.AccountId.{AccountId}
 use Rattle.stake_ledger.specs.declared.row.Row.{Row}
 use Rattle.stake_ledger.specs.declared.totals.Totals.{Totals}
@@ -253,4 +254,12 @@ kept_transferred from to value ledger totals kept within = record {
       (ap (λ (t : Totals). t.minted) kept.running)
       (ap (λ (t : Totals). t.burned) kept.running)
       (ap (λ (t : Totals). t.issuance) kept.running);
+}
+
+-- nothing is in order
+pub kept_nothing : IsKept (record { rows = []; genesis = 0; minted = 0; burned = 0 }) (record { free = 0; active = 0; unlocking = 0; deposits = 0; minted = 0; burned = 0; issuance = 0 })
+unfolding IsStrictlySortedBy
+kept_nothing = record {
+  balanced = record { distinct = tt; schedules = λ k d below. absurd (omega (arith, below)); equation = refl; capped = omega arith };
+  running = refl;
 }

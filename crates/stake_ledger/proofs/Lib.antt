@@ -1,5 +1,6 @@
 pub mod ChunkLemmas
 pub mod MapLemmas
+pub mod PlaceLemmas
 pub mod LedgerLemmas
 pub mod RowLemmas
 pub mod ScheduleLemmas

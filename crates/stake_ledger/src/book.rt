@@ -8,11 +8,10 @@ ghost use Rattle.stake_ledger.specs.Calls.{endow_refusal, endowed, transfer_refu
 
 use crate::chunks::Chunk;
 use crate::refusal::LedgerRefusal;
-use crate::rows::{self, Rows};
+use crate::rows::Rows;
 use crate::totals::Totals;
 use npos_base::AccountId;
 use std::alloc::Global;
-use std::collections::BTreeMap;
 use std::marker::Model;
 
 /// The most that may ever be issued, in units of stake.
@@ -21,7 +20,6 @@ const CAP: u64 = 9_223_372_036_854_775_807;
 /// The books: a row for each account that was ever heard of, and the sums over them.
 #[derive(Drop)]
 pub struct Book {
-    alloc: Global,
     rows: Rows,
     genesis: u64,
     totals: Totals,
@@ -34,9 +32,9 @@ impl Model for Book {
 
     ghost Value = { Ledger };
 
-    ghost view = { λ b. record { rows = b.rows.entries; genesis = b.genesis; minted = b.totals.minted; burned = b.totals.burned } };
+    ghost view = { λ b. record { rows = b.rows; genesis = b.genesis; minted = b.totals.minted; burned = b.totals.burned } };
 
-    ghost invariant = { λ b. IsKept (record { rows = b.rows.entries; genesis = b.genesis; minted = b.totals.minted; burned = b.totals.burned }) b.totals };
+    ghost invariant = { λ b. IsKept (record { rows = b.rows; genesis = b.genesis; minted = b.totals.minted; burned = b.totals.burned }) b.totals };
 }
 
 impl Book {
@@ -45,8 +43,7 @@ impl Book {
         ensures { result ≡ empty_ledger }
     {
         Book {
-            alloc,
-            rows: BTreeMap::new(alloc),
+            rows: Rows::new(alloc),
             genesis: 0,
             totals: Totals {
                 free: 0,
@@ -74,7 +71,7 @@ impl Book {
         if value > CAP - self.genesis {
             return Err(LedgerRefusal::IssuanceCap);
         }
-        rows::gain(&mut self.rows, self.alloc, who, value)?;
+        self.rows.gain(who, value)?;
         self.genesis += value;
         self.totals.free += value;
         self.totals.issuance += value;
@@ -101,7 +98,7 @@ impl Book {
         if from == to {
             return Err(LedgerRefusal::SameAccount);
         }
-        rows::transfer(&mut self.rows, self.alloc, from, to, value)?;
+        self.rows.transfer(from, to, value)?;
         Ok(())
     }
 
@@ -114,7 +111,7 @@ impl Book {
         ensures refused { IfErr result (λ refusal. bond_refusal (row_at self.old who) value minimum ≡ Some refusal) }
         ensures others { OthersStay who self.old self.new }
     {
-        rows::bond(&mut self.rows, self.alloc, who, value, minimum)?;
+        self.rows.bond(who, value, minimum)?;
         self.totals.free -= value;
         self.totals.active += value;
         Ok(())
@@ -129,7 +126,7 @@ impl Book {
         ensures refused { IfErr result (λ refusal. bond_extra_refusal (row_at self.old who) value ≡ Some refusal) }
         ensures others { OthersStay who self.old self.new }
     {
-        rows::bond_extra(&mut self.rows, self.alloc, who, value)?;
+        self.rows.bond_extra(who, value)?;
         self.totals.free -= value;
         self.totals.active += value;
         Ok(())
@@ -155,7 +152,7 @@ impl Book {
         ensures refused { IfErr result (IsDue (unbond_refusal (row_at self.old who) value release least)) }
         ensures others { OthersStay who self.old self.new }
     {
-        let amount = rows::unbond(&mut self.rows, self.alloc, who, value, release, least)?;
+        let amount = self.rows.unbond(who, value, release, least)?;
         self.totals.active -= amount;
         self.totals.unlocking += amount;
         Ok(amount)
@@ -172,7 +169,7 @@ impl Book {
         ensures refused { IfErr result (λ refusal. rebond_refusal (row_at self.old who) value ≡ Some refusal) }
         ensures others { OthersStay who self.old self.new }
     {
-        let amount = rows::rebond(&mut self.rows, self.alloc, who, value)?;
+        let amount = self.rows.rebond(who, value)?;
         self.totals.unlocking -= amount;
         self.totals.active += amount;
         Ok(amount)
@@ -188,7 +185,7 @@ impl Book {
         ensures refused { IfErr result (λ refusal. withdraw_refusal (row_at self.old who) ≡ Some refusal) }
         ensures others { OthersStay who self.old self.new }
     {
-        let freed = rows::withdraw(&mut self.rows, self.alloc, who, era)?;
+        let freed = self.rows.withdraw(who, era)?;
         self.totals.unlocking -= freed;
         self.totals.free += freed;
         Ok(freed)
@@ -198,21 +195,21 @@ impl Book {
     pub fn knows(&self, who: AccountId) -> bool
         ensures { result ≡ is_some (row_of self.now who) }
     {
-        self.rows.contains_key(&who)
+        self.rows.get(who).is_some()
     }
 
     /// What the account may spend; 0 where it is not known.
     pub fn free(&self, who: AccountId) -> u64
         ensures { result ≡ (row_at self.now who).free }
     {
-        self.rows.get(&who).map_or(0, |row| row.free)
+        self.rows.get(who).map_or(0, |row| row.free)
     }
 
     /// What the account has bonded and not unbonded; 0 where it is not known.
     pub fn active(&self, who: AccountId) -> u64
         ensures { result ≡ (row_at self.now who).active }
     {
-        self.rows.get(&who).map_or(0, |row| row.active)
+        self.rows.get(who).map_or(0, |row| row.active)
     }
 
     /// Whether active and the account's chunks together are above 0.
@@ -220,7 +217,7 @@ impl Book {
     pub fn bonded(&self, who: AccountId) -> bool
         ensures { result ≡ is_bonded (row_at self.now who) }
     {
-        match self.rows.get(&who) {
+        match self.rows.get(who) {
             Some(row) => row.is_bonded(),
             None => false,
         }
@@ -232,7 +229,7 @@ impl Book {
         ensures chunks { result.now ≡ (row_at self.now who).chunks }
         ensures schedule { IsSchedule result.now }
     {
-        match self.rows.get(&who) {
+        match self.rows.get(who) {
             Some(row) => row.chunks.as_slice(),
             None => &[],
         }

@@ -5,6 +5,8 @@
 
 mod book;
 mod chunks;
+mod hints;
+mod places;
 mod refusal;
 mod row;
 mod rows;

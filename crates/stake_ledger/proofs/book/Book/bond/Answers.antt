@@ -10,14 +10,14 @@ pub bond-requires : goal.bond-requires
 bond-requires c = omega (arith, worth_within c.args.who _ _ c.self.invariant)
 
 pub overflow_sub-self : goal.overflow_sub-self
-overflow_sub-self c = omega (arith, free_within c.args.who _ _ c.self.invariant, bond_funds (row_in c.self.inside.rows.entries c.args.who) c.args.value c.args.minimum c.in_ok-bond.ensures.accepted)
+overflow_sub-self c = omega (arith, free_within c.args.who _ _ c.self.invariant, bond_funds (row_in c.self.inside.rows c.args.who) c.args.value c.args.minimum c.in_ok-bond.ensures.accepted)
 
 pub overflow_add-self : goal.overflow_add-self
 overflow_add-self c =
-    omega (arith, totals_within _ _ c.self.invariant, free_within c.args.who _ _ c.self.invariant, bond_funds (row_in c.self.inside.rows.entries c.args.who) c.args.value c.args.minimum c.in_ok-bond.ensures.accepted)
+    omega (arith, totals_within _ _ c.self.invariant, free_within c.args.who _ _ c.self.invariant, bond_funds (row_in c.self.inside.rows c.args.who) c.args.value c.args.minimum c.in_ok-bond.ensures.accepted)
 
 pub invariant_of-self-2 : goal.invariant_of-self-2
-invariant_of-self-2 c = rw c.in_ok-bond.ensures.ok (kept_bonded c.args.who c.args.value _ _ c.self.invariant (bond_funds (row_in c.self.inside.rows.entries c.args.who) c.args.value c.args.minimum c.in_ok-bond.ensures.accepted))
+invariant_of-self-2 c = rw c.in_ok-bond.ensures.ok (kept_bonded c.args.who c.args.value _ _ c.self.invariant (bond_funds (row_in c.self.inside.rows c.args.who) c.args.value c.args.minimum c.in_ok-bond.ensures.accepted))
 
 pub returns-clause-others : goal.returns-clause-others
 returns-clause-others c = rw (← c.self.view_is) (others_by c.args.who (bonded c.args.value) _ _ c.in_ok-bond.ensures.ok)

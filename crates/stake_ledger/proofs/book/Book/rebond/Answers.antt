@@ -23,4 +23,4 @@ invariant_of-self-2 c =
 
 pub returns-clause-others : goal.returns-clause-others
 returns-clause-others c =
-    rw (← c.self.view_is) (others_by c.args.who (rebonded (rebond_amount (row_in c.self.inside.rows.entries c.args.who) c.args.value)) _ _ c.in_ok-amount.ensures.ok)
+    rw (← c.self.view_is) (others_by c.args.who (rebonded (rebond_amount (row_in c.self.inside.rows c.args.who) c.args.value)) _ _ c.in_ok-amount.ensures.ok)

@@ -10,7 +10,7 @@ pub unbond-requires-clause-fits : goal.unbond-requires-clause-fits
 unbond-requires-clause-fits c = omega (arith, worth_within c.args.who _ _ c.self.invariant)
 
 pub unbond-requires-clause-few : goal.unbond-requires-clause-few
-unbond-requires-clause-few c = (schedule_in c.args.who c.self.inside.rows.entries c.self.invariant.balanced.schedules).few
+unbond-requires-clause-few c = (schedule_in c.args.who c.self.inside.rows c.self.invariant.balanced.schedules).few
 
 pub overflow_sub-self : goal.overflow_sub-self
 overflow_sub-self c = omega (arith, active_within c.args.who _ _ c.self.invariant, c.in_ok-amount.ensures.amount)
@@ -27,4 +27,4 @@ invariant_of-self-2 c =
 
 pub returns-clause-others : goal.returns-clause-others
 returns-clause-others c =
-    rw (← c.self.view_is) (others_by c.args.who (unbonded (unbond_amount (row_in c.self.inside.rows.entries c.args.who) c.args.value) c.args.release) _ _ c.in_ok-amount.ensures.ok)
+    rw (← c.self.view_is) (others_by c.args.who (unbonded (unbond_amount (row_in c.self.inside.rows c.args.who) c.args.value) c.args.release) _ _ c.in_ok-amount.ensures.ok)

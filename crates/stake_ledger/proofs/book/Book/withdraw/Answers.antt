@@ -11,7 +11,7 @@ withdraw-requires c = omega (arith, worth_within c.args.who _ _ c.self.invariant
 
 pub overflow_sub-self : goal.overflow_sub-self
 overflow_sub-self c =
-    omega (arith, unlocking_within c.args.who _ _ c.self.invariant, c.in_ok-freed.ensures.amount, released_sum c.args.era (row_in c.self.inside.rows.entries c.args.who).chunks)
+    omega (arith, unlocking_within c.args.who _ _ c.self.invariant, c.in_ok-freed.ensures.amount, released_sum c.args.era (row_in c.self.inside.rows c.args.who).chunks)
 
 pub overflow_add-self : goal.overflow_add-self
 overflow_add-self c =
@@ -20,7 +20,7 @@ overflow_add-self c =
       totals_within _ _ c.self.invariant,
       unlocking_within c.args.who _ _ c.self.invariant,
       c.in_ok-freed.ensures.amount,
-      released_sum c.args.era (row_in c.self.inside.rows.entries c.args.who).chunks,
+      released_sum c.args.era (row_in c.self.inside.rows c.args.who).chunks,
     )
 
 pub invariant_of-self-2 : goal.invariant_of-self-2
