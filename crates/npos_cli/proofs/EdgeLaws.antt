@@ -1,8 +1,9 @@
 -- How single reads add up to all that was left, and a write and a flush to a delivery.
-use Rattle.std.proofs.Common.{◌≡◌, Bool, true, ℕ, List, [], ◌++◌, length, take, drop, Option, Some, None, refl, sym, ◌∙◌, ap, subst, append_assoc, arith}
+use Rattle.std.proofs.Common.{◌≡◌, ◌⊎◌, inl, inr, Bool, true, false, ℕ, List, [], ◌++◌, length, take, drop, Option, Some, None, refl, sym, ◌∙◌, ap, subst, append_assoc, arith}
 use Rattle.std.proofs.lemmas.List.{append-nil, take_all, take-append-drop}
 use Rattle.npos_base.specs.Outside.{Told, Takes, IsAtEnd, Appends, Flushes}
-use Rattle.npos_cli.specs.Owed.{LeftAfter, Empties, TakesMore, Delivers, DeliversFront}
+use Rattle.npos_cli.specs.Owed.{LeftAfter, IsDrained, TakesMore, Delivers, DeliversFront}
+use Rattle.npos_cli.specs.Ahead.{HasSeen}
 
 pub left_join : (old mid new : Option (List ℕ)) (bytes taken : List ℕ)
     → LeftAfter old mid bytes → LeftAfter mid new taken → LeftAfter old new (bytes ++ taken)
@@ -16,20 +17,39 @@ left_taken None new n taken takes = tt
 left_taken (Some left) new n taken takes =
     (drop n left, takes.2, sym (take-append-drop n left) ∙ ap (λ front. front ++ drop n left) (sym takes.1))
 
-pub left_more : (old mid new : Option (List ℕ)) (before bytes more : List ℕ) (ended : Bool)
-    → LeftAfter old mid bytes → TakesMore mid new bytes more ended → LeftAfter old new more
-left_more old mid new before bytes more ended so_far takes =
-    subst (λ (all : List ℕ). LeftAfter old new all) (sym takes.1) (left_join old mid new bytes takes.0 so_far takes.2)
+pub left_none : (old : Option (List ℕ)) (bytes : List ℕ) → bytes ≡ [] → LeftAfter old old bytes
+left_none None bytes empty = tt
+left_none (Some left) bytes empty = (left, refl, ap (λ front. front ++ left) (sym empty))
 
-pub left_all : (old mid new : Option (List ℕ)) (bytes more : List ℕ) (ended : Bool)
-    → LeftAfter old mid bytes → TakesMore mid new bytes more ended → ended ≡ true → Empties old new more
-left_all None mid new bytes more ended before takes end = tt
-left_all (Some left) mid new bytes more ended before takes end =
-    let last = takes.3 end in
-    let none = subst IsAtEnd before.1 last.1 in
-    let t = subst (λ (m : Option (List ℕ)). LeftAfter m new takes.0) before.1 takes.2 in
-    let nothing : t.0 ≡ [] = ap (λ front. front ++ t.0) (sym last.0) ∙ (sym t.2 ∙ none) in
-    (takes.1 ∙ (ap (λ back. bytes ++ back) (last.0 ∙ sym none) ∙ sym before.2), t.1 ∙ ap Some nothing)
+-- what a read that was tried tells of what was seen
+pub seen_once : (old new : Option (List ℕ)) (before after : List ℕ) (ended : Bool) → TakesMore old new before after ended
+    → (taken : List ℕ) × (after ≡ before ++ taken) × HasSeen old new taken false ended
+seen_once old new before after ended takes = (takes.0, takes.1, record { taken = takes.2; at_end = λ end. inr (drained old takes.2 (takes.3 end)) }) where
+  drained : (old : Option (List ℕ)) → LeftAfter old new takes.0 → (takes.0 ≡ []) × IsAtEnd old → IsDrained old new
+  drained None left end = tt
+  drained (Some left) after end = after.1 ∙ ap Some (ap (λ front. front ++ after.0) (sym end.0) ∙ (sym after.2 ∙ end.1))
+
+-- what was seen, and then more of it
+pub seen_more : (old mid new : Option (List ℕ)) (seen more : List ℕ) (before between ended : Bool)
+    → HasSeen old mid seen before between → HasSeen mid new more between ended → HasSeen old new (seen ++ more) before ended
+seen_more old mid new seen more before between ended first then = record {
+  taken = left_join old mid new seen more first.taken then.taken;
+  at_end = λ end. on (then.at_end end);
+} where
+  drained : (old : Option (List ℕ)) → LeftAfter old mid seen → IsDrained mid new → IsDrained old new
+  drained None left end = tt
+  drained (Some left) after end = subst (λ (m : Option (List ℕ)). IsDrained m new) after.1 end
+
+  earlier : new ≡ mid → ((before ≡ true) × (mid ≡ old)) ⊎ IsDrained old mid → ((before ≡ true) × (new ≡ old)) ⊎ IsDrained old new
+  earlier same (inl was) = inl (was.0, same ∙ was.1)
+  earlier same (inr end) = inr (subst (λ (n : Option (List ℕ)). IsDrained old n) (sym same) end)
+
+  on : ((between ≡ true) × (new ≡ mid)) ⊎ IsDrained mid new → ((before ≡ true) × (new ≡ old)) ⊎ IsDrained old new
+  on (inl was) = earlier was.1 (first.at_end was.0)
+  on (inr end) = inr (drained old first.taken end)
+
+pub seen_nothing : (left : Option (List ℕ)) (ended : Bool) → HasSeen left left [] ended ended
+seen_nothing left ended = record { taken = left_none left [] refl; at_end = λ end. inl (end, refl) }
 
 pub delivered : (old mid new : Option Told) (text : List ℕ) → Appends old mid text → Flushes mid new → Delivers old new text
 delivered old mid None text appends flushes = tt
@@ -46,7 +66,3 @@ not_flushed old mid (Some now) text appends none =
 pub front_put : (old new : Option Told) (n : ℕ) (text : List ℕ) → Appends old new (take n text) → DeliversFront old new text
 front_put old None n text appends = tt
 front_put old (Some now) n text appends = (appends.0, n, appends.1, appends.2)
-
-pub left_none : (old : Option (List ℕ)) (bytes : List ℕ) → bytes ≡ [] → LeftAfter old old bytes
-left_none None bytes empty = tt
-left_none (Some left) bytes empty = (left, refl, ap (λ front. front ++ left) (sym empty))

@@ -1,5 +1,6 @@
 pub mod ReplayLaws
 pub mod EdgeLaws
+pub mod GrowLaws
 pub mod WordLaws
 pub mod ChainLaws
 pub mod TurnLaws

@@ -2,16 +2,13 @@
 use Rattle.std.proofs.Common.{◌≡◌, inl, inr, ℕ, Some, List, [], ◌∷◌, ◌++◌, length, Result, Ok, Err, refl, sym, ◌∙◌, ap, subst, append_assoc, arith}
 use Rattle.scale_wire.specs.Form.{IsWire, IsBytes}
 use Rattle.npos_cli.specs.Replay.{Machine, Spot, turn, behind, IsTurn, IsEnd, Passes, Starts, Outcome, IsReplay, BadGenesis, FaultyGenesis, Replayed, IsWhole, NoStart, Blocks, IsFront}
+use Rattle.npos_cli.specs.Turning.{grown}
 use Rattle.npos_cli.proofs.ReplayLaws.{bytes_behind, one_turn, one_way, one_start, stop_ends, begun_once, unreadable, any_way}
 
 front_of_none : (text other : List ℕ) → text ≡ [] → IsFront text other
 front_of_none text other none = (other, ap (λ front. front ++ other) (sym none))
 
 module _ {G B S : Type 0} (m : Machine G B S) (genesis_laws : IsWire m.genesis) (turn_laws : IsWire (turn m)) where
-  -- the same place where more bytes follow
-  abbrev grown : List ℕ → Spot S → Spot S
-  grown more p = record { at = p.at; state = p.state; rest = p.rest ++ more }
-
   turn_grows : (more : List ℕ) (p : Spot S) (b : B) (rest : List ℕ) → IsTurn m p b rest → IsTurn m (grown more p) b (rest ++ more)
   turn_grows more p b rest here = record {
     in_range = here.in_range;
@@ -19,7 +16,7 @@ module _ {G B S : Type 0} (m : Machine G B S) (genesis_laws : IsWire m.genesis) 
     whole = ap (λ bytes. bytes ++ more) here.whole ∙ append_assoc ((turn m).spelling (Some b)) rest more;
   }
 
-  passes_grow : (more : List ℕ) (bs : List B) (p q : Spot S) (text : List ℕ) → Passes m bs p q text → Passes m bs (grown more p) (grown more q) text
+  pub passes_grow : (more : List ℕ) (bs : List B) (p q : Spot S) (text : List ℕ) → Passes m bs p q text → Passes m bs (grown more p) (grown more q) text
   passes_grow more [] p q text passes = (ap (grown more) passes.0, passes.1)
   passes_grow more (b ∷ bs) p q text passes = (
     passes.0 ++ more,

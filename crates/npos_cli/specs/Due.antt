@@ -5,7 +5,7 @@ use Rattle.npos_cli.specs.declared.status.Status.TheVariants as statuses
 use Rattle.npos_cli.specs.declared.top.Due.{Due}
 use Rattle.npos_cli.specs.declared.top.Due.TheVariants.{Usage, Replay}
 use Rattle.npos_cli.specs.Words.{HasForm, usage_line}
-use Rattle.npos_cli.specs.Owed.{Empties, Replays}
+use Rattle.npos_cli.specs.Owed.{FindsReplay}
 use Rattle.npos_cli.specs.Chain.{npos_machine}
 
 abbrev pub due_text : Due → List ℕ
@@ -19,5 +19,4 @@ due_status (Replay told) = if told.faulty then statuses.BadInput else statuses.D
 -- Words without a form owe the usage line; words with one the replay of all that was left in the source.
 abbrev pub IsDue : List (List ℕ) → Option (List ℕ) → Option (List ℕ) → Due → Type 0
 IsDue words old new Usage = HasForm words → ⊥
-IsDue words old new (Replay told) = HasForm words
-    × ((bytes : List ℕ) × Empties old new bytes × Replays npos_machine bytes told.text.items told.faulty)
+IsDue words old new (Replay told) = HasForm words × FindsReplay npos_machine old new told.text.items told.faulty

@@ -4,6 +4,7 @@ pub mod Replay
 pub mod Status
 pub mod Words
 pub mod Owed
+pub mod Ahead
 pub mod Chain
 pub mod Books
 pub mod Turning

@@ -1,5 +1,5 @@
 -- What a run owes: which text reaches the sink, and what is left in the source.
-use Rattle.std.specs.Prelude.{◌≡◌, ◌⊎◌, ⊤, ℕ, ◌≤◌, Bool, true, List, [], ◌++◌, length, take, Option, Some, None, Result, Ok, Err}
+use Rattle.std.specs.Prelude.{◌≡◌, ◌⊎◌, ⊤, ℕ, ◌≤◌, Bool, true, false, List, [], ◌++◌, length, take, Option, Some, None, Result, Ok, Err}
 use Rattle.npos_base.specs.Outside.{Told, Rose, IsAtEnd}
 use Rattle.npos_cli.specs.declared.status.Status.{Status}
 use Rattle.npos_cli.specs.declared.status.Status.TheVariants as statuses
@@ -17,10 +17,15 @@ abbrev pub DeliversFront : Option Told → Option Told → List ℕ → Type 0
 DeliversFront old None text = ⊤
 DeliversFront old (Some now) text = (before : Told) × (n : ℕ) × (old ≡ Some before) × (now.written ≡ before.written ++ take n text)
 
--- the bytes are all that was left, and nothing is left now
-abbrev pub Empties : Option (List ℕ) → Option (List ℕ) → List ℕ → Type 0
-Empties None now bytes = ⊤
-Empties (Some left) now bytes = (bytes ≡ left) × (now ≡ Some [])
+-- the bytes are all that was left
+abbrev pub IsAll : Option (List ℕ) → List ℕ → Type 0
+IsAll None bytes = ⊤
+IsAll (Some left) bytes = bytes ≡ left
+
+-- nothing is left now
+abbrev pub IsDrained : Option (List ℕ) → Option (List ℕ) → Type 0
+IsDrained None now = ⊤
+IsDrained (Some left) now = now ≡ Some []
 
 -- The replay of these bytes was delivered, which ends with a fault line or not.
 abbrev pub DeliversReplay : {G B S : Type 0} → Machine G B S → Bool → Option Told → Option Told → List ℕ → Type 0
@@ -61,3 +66,8 @@ TakesMore old new before after ended =
 -- this text is the replay's, which ends with a fault line or not
 abbrev pub Replays : {G B S : Type 0} → Machine G B S → List ℕ → List ℕ → Bool → Type 0
 Replays {G} {B} {S} m bytes text faulty = (last : Option S) × IsReplay m bytes (record { text = text; faulty = faulty; last = last })
+
+-- The text is that of the replay of all that was left; one that ends with its end line leaves nothing.
+abbrev pub FindsReplay : {G B S : Type 0} → Machine G B S → Option (List ℕ) → Option (List ℕ) → List ℕ → Bool → Type 0
+FindsReplay m old now text faulty =
+    (bytes : List ℕ) × IsAll old bytes × Replays m bytes text faulty × (faulty ≡ false → IsDrained old now)

@@ -2,6 +2,7 @@
 #![tactic(auto)]
 
 mod edges;
+mod held;
 pub mod laws;
 mod replaying;
 mod status;

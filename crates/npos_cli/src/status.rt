@@ -1,6 +1,9 @@
 //! How a run ends.
 ghost use Rattle.std.specs.Prelude.{◌≡◌};
 ghost use Rattle.npos_cli.specs.Status.{number_of};
+ghost use Rattle.npos_cli.specs.declared.status.Status.TheVariants as statuses;
+
+use npos_base::NoMemory;
 
 /// How a run ended. Its number is the exit status of the program.
 #[derive(Clone, Copy, Debug, PartialEq, Eq)]
@@ -35,5 +38,13 @@ impl Status {
             Status::WriteFault => 5,
             Status::NoMemory => 6,
         }
+    }
+}
+
+impl From<NoMemory> for Status {
+    ghost from_gives = { λ _ status. status ≡ statuses.NoMemory };
+
+    fn from(_memory: NoMemory) -> Status {
+        Status::NoMemory
     }
 }

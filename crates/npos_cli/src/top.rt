@@ -9,9 +9,9 @@ ghost use Rattle.npos_cli.specs.declared.top.Due.TheVariants as dues;
 ghost use Rattle.npos_cli.specs.Due.{due_text, due_status, IsDue};
 
 use crate::Status;
-use crate::edges::{deliver, read_all};
+use crate::edges::deliver;
 use crate::replaying::{Told, replay};
-use npos_base::{Failed, NoMemory, Sink, Source};
+use npos_base::{Failed, Sink, Source};
 use std::alloc::Global;
 
 /// What the program writes where the words have no form.
@@ -66,11 +66,7 @@ fn prepare<S: Source>(alloc: Global, words: &[String], source: &mut S) -> Result
     if !has_form(words) {
         return Ok(Due::Usage);
     }
-    let bytes = read_all(alloc, source)?;
-    match replay(alloc, bytes.as_slice()) {
-        Ok(told) => Ok(Due::Replay(told)),
-        Err(NoMemory) => Err(Status::NoMemory),
-    }
+    Ok(Due::Replay(replay(alloc, source)?))
 }
 
 /// Does all that the program does: finds the job that the words name, reads its input from the source, writes to the

@@ -1,28 +1,24 @@
-use Rattle.std.proofs.Common.{◌++◌, ap, subst, ◌∙◌}
-use Rattle.scale_wire.specs.Reading.{Place, IsRead, IsFault}
-use Rattle.scale_wire.specs.declared.fault.WireFault.{WireFault}
-use Rattle.npos_cli.specs.Texts.{fault_line}
-use Rattle.block_wire.specs.Genesis.{genesis_form}
+use Rattle.std.proofs.Common.{rules, ◌≡◌, ◌++◌, ℕ, List, Ok, Err, false, ap}
 use Rattle.npos_runtime.specs.Life.{Life}
+use Rattle.npos_cli.specs.Texts.{fault_line}
+use Rattle.npos_cli.specs.Ahead.{HasSeen, BeginsWith}
 use Rattle.npos_cli.proofs.StartLaws.{refused_replay, faulty_replay, started_replay}
 use Rattle.npos_cli.proofs.replaying.replay.Goals as goal
 
-pub returns-in-Err-Wire : goal.returns-in-Err-Wire
-returns-in-Err-Wire c = refused_replay c.args.bytes.now c.new-text.result.items c.tell_fault.new.text.items c.read.new.cursor c.in-Err-Wire.fault
-    c.new-text.ensures.items
-    (subst (λ (old : Place). IsFault genesis_form old c.in-Err-Wire.fault c.read.new.cursor) c.new-cursor.ensures (rw c.in-Err-Wire.field-0-is at c.in-Err-Wire.ensures))
-    (c.in_ok-tell_fault-in-Err-Wire.ensures
-    ∙ ap (λ (fault : WireFault). c.new-text.result.items ++ fault_line fault.at fault.why) c.in-Err-Wire.fault-is)
+pub returns-in-Err-clause-found : goal.returns-in-Err-clause-found
+returns-in-Err-clause-found g c =
+    let begins : (seen : List ℕ) × HasSeen (g.S.Source.left c.args.source.now) (g.S.Source.left c.take_genesis.new.source) seen false c.take_genesis.new.held.ended × BeginsWith seen (Err c.in-Err.fault) c.take_genesis.new.held = search rules in
+    let told : c.tell_fault.new.text.items ≡ c.new-text.result.items ++ fault_line c.in-Err.fault.at c.in-Err.fault.why = search rules in
+    refused_replay _ _ begins.0 c.new-text.result.items c.tell_fault.new.text.items c.take_genesis.new.held c.in-Err.fault begins.1 begins.2 c.new-text.ensures.items told
 
-pub returns-in-Err : goal.returns-in-Err
-returns-in-Err c = faulty_replay c.args.bytes.now c.new-text.result.items c.tell_genesis_fault.new.text.items c.read.new.cursor c.in-Ok.genesis c.in-Err.fault
-    c.new-text.ensures.items
-    (subst (λ (old : Place). IsRead genesis_form old c.in-Ok.genesis c.read.new.cursor) c.new-cursor.ensures c.in-Ok.ensures)
-    c.in-Err.ensures.refused c.in_ok-tell_genesis_fault-in-Err.ensures.memory c.in_ok-tell_genesis_fault-in-Err.ensures.line
+pub returns-in-Err-start-clause-found : goal.returns-in-Err-start-clause-found
+returns-in-Err-start-clause-found g c =
+    let begins : (seen : List ℕ) × HasSeen (g.S.Source.left c.args.source.now) (g.S.Source.left c.take_genesis.new.source) seen false c.take_genesis.new.held.ended × BeginsWith seen (Ok c.in-Ok.genesis) c.take_genesis.new.held = search rules in
+    faulty_replay _ _ begins.0 c.new-text.result.items c.tell_genesis_fault.new.text.items c.take_genesis.new.held c.in-Ok.genesis c.in-Err-start.fault begins.1 begins.2 c.new-text.ensures.items
+    c.in-Err-start.ensures.refused c.in_ok-tell_genesis_fault-in-Err-start.ensures.memory c.in_ok-tell_genesis_fault-in-Err-start.ensures.line
 
-pub returns : goal.returns
-returns c = started_replay c.args.bytes.now c.new-text.result.items c.take_turns.new.text.items c.read.new.cursor c.in-Ok.genesis c.in-Ok-start.runtime.state c.in_ok-faulty.faulty
-    c.new-text.ensures.items
-    (subst (λ (old : Place). IsRead genesis_form old c.in-Ok.genesis c.read.new.cursor) c.new-cursor.ensures c.in-Ok.ensures)
-    c.in-Ok-start.ensures.ok.0 (ap (λ (life : Life). life.state) c.in-Ok-start.ensures.ok.1)
-    c.in_ok-faulty.ensures
+pub returns-clause-found : goal.returns-clause-found
+returns-clause-found g c =
+    let begins : (seen : List ℕ) × HasSeen (g.S.Source.left c.args.source.now) (g.S.Source.left c.take_genesis.new.source) seen false c.take_genesis.new.held.ended × BeginsWith seen (Ok c.in-Ok.genesis) c.take_genesis.new.held = search rules in
+    started_replay _ _ _ begins.0 c.new-text.result.items c.take_all.new.text.items c.take_genesis.new.held c.in-Ok.genesis c.in-Ok-start.runtime.state c.in_ok-faulty.faulty begins.1 begins.2 c.new-text.ensures.items
+    c.in-Ok-start.ensures.ok.0 (ap (λ (life : Life). life.state) c.in-Ok-start.ensures.ok.1) c.in_ok-faulty.ensures.runs
