@@ -105,13 +105,6 @@ impl Held {
         self.ended
     }
 
-    /// How many bytes are held.
-    pub fn len(&self) -> usize
-        ensures { result ≡ length self.now.bytes }
-    {
-        self.bytes.len()
-    }
-
     /// Lets go of the bytes before this place.
     pub fn pass(&mut self, at: u64) -> Result<(), NoMemory>
         requires { (self.old.at ≤ at) × (at ≤ self.old.at + length self.old.bytes) }
@@ -124,8 +117,8 @@ impl Held {
         Ok(())
     }
 
-    /// Reads once. Places are below 2^64, and an input that would pass that is taken for want of memory. The status of
-    /// an Err is ReadFault or NoMemory.
+    /// Reads once. Places are numbers below 2^64: a read that could pass them, which no chain comes near, ends as want of
+    /// memory does. The status of an Err is ReadFault or NoMemory.
     fn read_once<S: Source>(&mut self, source: &mut S) -> Result<(), Status>
         ensures more { OnOk result (ReadsOn (S.left source.old) (S.left source.new) self.old self.new) }
         ensures further { OnOk result (self.new.ended ≡ false → length self.old.bytes < length self.new.bytes) }
@@ -140,8 +133,9 @@ impl Held {
         Ok(())
     }
 
-    /// Reads on until twice as many bytes are held, or the input has ended: whoever reads a long value anew each time
-    /// reads all its bytes twice at most. The status of an Err is ReadFault or NoMemory.
+    /// Reads on until twice as many bytes are held, or the input has ended. So whoever begins a long value anew after
+    /// each call goes over it about twice in all, however small the reads are. The status of an Err is ReadFault or
+    /// NoMemory.
     pub fn read_on<S: Source>(&mut self, source: &mut S) -> Result<(), Status>
         ensures more { OnOk result (ReadsOn (S.left source.old) (S.left source.new) self.old self.new) }
         ensures further { OnOk result (self.new.ended ≡ false → length self.old.bytes < length self.new.bytes) }
