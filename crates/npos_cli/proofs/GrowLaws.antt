@@ -19,7 +19,7 @@ read_grows form old new value more is = record {
   at_is = is.at_is;
 }
 
-is_short : (why : Why) → (why ≡ Short) ⊎ (why ≢ Short)
+pub is_short : (why : Why) → (why ≡ Short) ⊎ (why ≢ Short)
 is_short Short = inl refl
 is_short NotShortest = inr (λ e. cc)
 is_short TooWide = inr (λ e. cc)

@@ -8,3 +8,4 @@ pub mod StartLaws
 pub mod BookLaws
 pub mod RunLaws
 pub mod WholeLaws
+pub mod FaultLaws

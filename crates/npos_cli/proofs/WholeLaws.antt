@@ -26,7 +26,7 @@ module _ {G B S : Type 0} (m : Machine G B S) (genesis_laws : IsWire m.genesis) 
     passes.4,
   )
 
-  start_grows : (more bytes : List ℕ) (p : Spot S) → Starts m bytes p → Starts m (bytes ++ more) (grown more p)
+  pub start_grows : (more bytes : List ℕ) (p : Spot S) → Starts m bytes p → Starts m (bytes ++ more) (grown more p)
   start_grows more bytes p start = record {
     genesis = start.genesis;
     in_range = start.in_range;

@@ -1,7 +1,8 @@
 -- What follows for the replays of all bytes.
-use Rattle.std.specs.Prelude.{◌≡◌, ℕ, List, ◌++◌}
+use Rattle.std.specs.Prelude.{◌≡◌, ℕ, true, List, ◌++◌}
+use Rattle.scale_wire.specs.declared.fault.Why.TheVariants.{Short}
 use Rattle.scale_wire.specs.Form.{IsBytes}
-use Rattle.npos_cli.specs.Replay.{Machine, Outcome, IsReplay, IsWhole, IsFront}
+use Rattle.npos_cli.specs.Replay.{Machine, Spot, turn, Starts, Reaches, Outcome, IsReplay, IsWhole, IsFront}
 
 -- each byte list has at most one replay
 abbrev pub IsReplayedOnce : {G B S : Type 0} → Machine G B S → Type 0
@@ -26,3 +27,13 @@ BeginsWithWhole {G} {B} {S} m = (bytes text : List ℕ) (out : Outcome S) → Is
 -- More bytes leave what the whole blocks before them write: the text only grows.
 abbrev pub WholeGrows : {G B S : Type 0} → Machine G B S → Type 0
 WholeGrows m = (bytes more text longer : List ℕ) → IsWhole m bytes text → IsWhole m (bytes ++ more) longer → IsFront text longer
+
+-- bytes are missing: the input ends within its genesis, or within the block behind the whole ones
+pub data IsCut {G B S : Type 0} (m : Machine G B S) (bytes : List ℕ) : Type 0 where
+  CutGenesis : (at : ℕ) → m.genesis.bad bytes at Short → IsCut m bytes
+  CutBlock : (p q : Spot S) (text : List ℕ) (at : ℕ) → Starts m bytes p → Reaches m p q text → (turn m).bad q.rest at Short → IsCut m bytes
+
+-- A replay that ends with a fault line stands whatever follows the bytes, unless some are missing.
+abbrev pub FaultsStand : {G B S : Type 0} → Machine G B S → Type 0
+FaultsStand {G} {B} {S} m =
+    (bytes more : List ℕ) (out : Outcome S) → IsBytes bytes → (IsCut m bytes → ⊥) → IsReplay m bytes out → out.faulty ≡ true → IsReplay m (bytes ++ more) out

@@ -1,6 +1,6 @@
 //! What follows for the replays of all bytes. Each law is the clause of a function that does nothing.
 ghost use Rattle.npos_cli.specs.Chain.{npos_machine};
-ghost use Rattle.npos_cli.specs.Laws.{IsReplayedOnce, IsAlwaysReplayed, IsWholeOnce, IsAlwaysWhole, BeginsWithWhole, WholeGrows};
+ghost use Rattle.npos_cli.specs.Laws.{IsReplayedOnce, IsAlwaysReplayed, IsWholeOnce, IsAlwaysWhole, BeginsWithWhole, WholeGrows, FaultsStand};
 
 /// No bytes have two replays: text, end and last state are determined by them.
 pub fn one_replay()
@@ -22,4 +22,9 @@ pub fn whole_blocks_have_one_text()
 /// Where an input goes on, the text of its whole blocks goes on too: nothing that they wrote is taken back.
 pub fn whole_text_grows()
     ensures { WholeGrows npos_machine }
+{}
+
+/// A fault line stands whatever follows the input, unless it says that bytes are missing.
+pub fn faults_stand()
+    ensures { FaultsStand npos_machine }
 {}

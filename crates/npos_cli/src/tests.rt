@@ -292,4 +292,5 @@ fn laws_are_called() {
     laws::every_input_has_a_replay();
     laws::whole_blocks_have_one_text();
     laws::whole_text_grows();
+    laws::faults_stand();
 }

@@ -58,48 +58,79 @@ fn params(alloc: Global) -> Params {
     }
 }
 
-/// Takes a block of the first account's calls.
-fn apply(
+/// What a call of a table asks.
+#[derive(Clone, Copy)]
+enum Asked {
+    Transfer(AccountId, u64),
+    Bond(u64),
+    Unbond(u64),
+    Rebond(u64),
+    Withdraw,
+    Nominate(&'static [AccountId]),
+    Validate(u32),
+    Chill,
+    Rebag(AccountId),
+    PutInFront(AccountId),
+}
+
+fn kind(alloc: Global, asked: Asked) -> Result<CallKind, BlockFault> {
+    Ok(match asked {
+        Asked::Transfer(to, value) => CallKind::Transfer { to, value },
+        Asked::Bond(value) => CallKind::Bond { value },
+        Asked::Unbond(value) => CallKind::Unbond { value },
+        Asked::Rebond(value) => CallKind::Rebond { value },
+        Asked::Withdraw => CallKind::Withdraw,
+        Asked::Nominate(targets) => {
+            let targets = Vec::from_slice(alloc, targets).map_err(|_| BlockFault::NoMemory)?;
+            CallKind::Nominate {
+                targets: List::from_vec(targets),
+            }
+        }
+        Asked::Validate(commission) => CallKind::Validate { commission },
+        Asked::Chill => CallKind::Chill,
+        Asked::Rebag(whom) => CallKind::Rebag { whom },
+        Asked::PutInFront(lighter) => CallKind::PutInFront { lighter },
+    })
+}
+
+/// Takes a block of at most 64 calls.
+fn take(
     alloc: Global,
     runtime: &mut Runtime,
     number: u32,
-    kinds: List<CallKind>,
+    asked: &[(AccountId, Asked)],
 ) -> Result<Receipt, BlockFault> {
     let mut calls = List::new(alloc);
-    for kind in kinds.into_vec() {
+    for (who, asked) in asked {
+        let kind = kind(alloc, *asked)?;
         calls
-            .push(Call { who: FIRST, kind })
+            .push(Call { who: *who, kind })
             .map_err(|_| BlockFault::NoMemory)?;
     }
-    take(runtime, number, calls)
-}
-
-/// Takes a block of these calls.
-fn take(runtime: &mut Runtime, number: u32, calls: List<Call>) -> Result<Receipt, BlockFault> {
     if calls.len() > 64 {
         return Err(BlockFault::NoMemory);
     }
     runtime.apply(Block { number, calls })
 }
 
-/// The worked chunks: 100 bonded, 30 unbonded twice, nothing to withdraw yet; then 70 rebonded.
+/// The worked chunks: 100 bonded, 30 unbonded twice, and nothing to withdraw yet.
+const CHUNKS: [(AccountId, Asked); 5] = [
+    (FIRST, Asked::Bond(100)),
+    (FIRST, Asked::Unbond(30)),
+    (FIRST, Asked::Unbond(30)),
+    (FIRST, Asked::Withdraw),
+    (FIRST, Asked::Chill),
+];
+
+/// The worked chunks, and then 70 rebonded.
 fn worked_chunks(alloc: Global) -> Result<(Receipt, Totals, Totals), BlockFault> {
     let genesis = Genesis::Plain {
         endowments: endowments(alloc)?,
     };
     let mut runtime = start(alloc, genesis).map_err(|_| BlockFault::NoMemory)?;
-    let kinds = vec![in alloc;
-        CallKind::Bond { value: 100 },
-        CallKind::Unbond { value: 30 },
-        CallKind::Unbond { value: 30 },
-        CallKind::Withdraw,
-        CallKind::Chill,
-    ]
-    .map_err(|_| BlockFault::NoMemory)?;
-    let receipt = apply(alloc, &mut runtime, 1, List::from_vec(kinds))?;
+    let receipt = take(alloc, &mut runtime, 1, &CHUNKS)?;
     let before = runtime.totals();
-    let kinds = vec![in alloc; CallKind::Rebond { value: 70 }].map_err(|_| BlockFault::NoMemory)?;
-    let _ = apply(alloc, &mut runtime, 2, List::from_vec(kinds))?;
+    let _ = take(alloc, &mut runtime, 2, &[(FIRST, Asked::Rebond(70))])?;
     Ok((receipt, before, runtime.totals()))
 }
 
@@ -138,20 +169,13 @@ fn last_chunk(alloc: Global) -> Result<Receipt, BlockFault> {
         params: params(alloc),
     };
     let mut runtime = start(alloc, genesis).map_err(|_| BlockFault::NoMemory)?;
-    for number in 1..97 {
-        let kinds = match number % 3 {
-            1 if number == 1 => vec![in alloc;
-                CallKind::Bond { value: 100 },
-                CallKind::Unbond { value: 1 },
-            ]
-            .map_err(|_| BlockFault::NoMemory)?,
-            1 => vec![in alloc; CallKind::Unbond { value: 1 }].map_err(|_| BlockFault::NoMemory)?,
-            _ => Vec::new(alloc),
-        };
-        let _ = apply(alloc, &mut runtime, number, List::from_vec(kinds))?;
+    let one = [(FIRST, Asked::Unbond(1))];
+    let _ = take(alloc, &mut runtime, 1, &[(FIRST, Asked::Bond(100)), one[0]])?;
+    for number in 2..97 {
+        let asked: &[(AccountId, Asked)] = if number % 3 == 1 { &one } else { &[] };
+        let _ = take(alloc, &mut runtime, number, asked)?;
     }
-    let kinds = vec![in alloc; CallKind::Unbond { value: 1 }].map_err(|_| BlockFault::NoMemory)?;
-    apply(alloc, &mut runtime, 97, List::from_vec(kinds))
+    take(alloc, &mut runtime, 97, &one)
 }
 
 #[test]
@@ -172,7 +196,7 @@ fn wrong_number(alloc: Global) -> Result<(Option<BlockFault>, u64), BlockFault> 
         endowments: endowments(alloc)?,
     };
     let mut runtime = start(alloc, genesis).map_err(|_| BlockFault::NoMemory)?;
-    let fault = match apply(alloc, &mut runtime, 2, List::new(alloc)) {
+    let fault = match take(alloc, &mut runtime, 2, &[]) {
         Ok(_) => None,
         Err(fault) => Some(fault),
     };
@@ -187,92 +211,54 @@ fn another_number_is_not_due(rt: HostRuntime) -> Result<(), Fail> {
     Ok(())
 }
 
-/// The fault of parameters that were changed.
-fn fault_of(alloc: Global, params: Params) -> Result<Option<GenesisFault>, GenesisFault> {
+/// Parameters with the fault of this number.
+fn with_fault(alloc: Global, number: u32) -> Result<Params, GenesisFault> {
+    let mut params = params(alloc);
+    match number {
+        3 => params.seats = 513,
+        4 => params.signed = 2,
+        5 => params.bonding_eras = 85,
+        6 => params.least_bond = 0,
+        7 => {
+            for threshold in [7, 7] {
+                params
+                    .thresholds
+                    .push(threshold)
+                    .map_err(|_| GenesisFault::NoMemory)?;
+            }
+        }
+        8 => params.queue = 17,
+        9 => params.solution_max = 2_097_153,
+        _ => {}
+    }
+    Ok(params)
+}
+
+/// The fault that a genesis with these parameters has.
+fn fault_of(alloc: Global, number: u32) -> Result<Option<GenesisFault>, GenesisFault> {
     let genesis = Genesis::Full {
         endowments: endowments(alloc)?,
-        params,
+        params: with_fault(alloc, number)?,
     };
     Ok(start(alloc, genesis).err())
 }
 
-/// Two thresholds, the second not above the first.
-fn flat_thresholds(alloc: Global) -> Result<Params, GenesisFault> {
-    let mut params = params(alloc);
-    params
-        .thresholds
-        .push(7)
-        .map_err(|_| GenesisFault::NoMemory)?;
-    params
-        .thresholds
-        .push(7)
-        .map_err(|_| GenesisFault::NoMemory)?;
-    Ok(params)
-}
-
-/// One genesis for each fault of the parameters, by number.
-fn faults(alloc: Global) -> Result<[Option<GenesisFault>; 8], GenesisFault> {
-    Ok([
-        fault_of(alloc, params(alloc))?,
-        fault_of(
-            alloc,
-            Params {
-                seats: 513,
-                ..params(alloc)
-            },
-        )?,
-        fault_of(
-            alloc,
-            Params {
-                signed: 2,
-                ..params(alloc)
-            },
-        )?,
-        fault_of(
-            alloc,
-            Params {
-                bonding_eras: 85,
-                ..params(alloc)
-            },
-        )?,
-        fault_of(
-            alloc,
-            Params {
-                least_bond: 0,
-                ..params(alloc)
-            },
-        )?,
-        fault_of(alloc, flat_thresholds(alloc)?)?,
-        fault_of(
-            alloc,
-            Params {
-                queue: 17,
-                ..params(alloc)
-            },
-        )?,
-        fault_of(
-            alloc,
-            Params {
-                solution_max: 2_097_153,
-                ..params(alloc)
-            },
-        )?,
-    ])
-}
-
 #[test]
 fn parameters_are_at_fault(rt: HostRuntime) -> Result<(), Fail> {
-    let wanted = [
-        None,
-        Some(GenesisFault::BadSeats(513)),
-        Some(GenesisFault::BadPhases(3)),
-        Some(GenesisFault::BadBonding(85)),
-        Some(GenesisFault::BadMinimum),
-        Some(GenesisFault::BadThreshold(1)),
-        Some(GenesisFault::BadQueue(17)),
-        Some(GenesisFault::BadSolutionMax(2_097_153)),
+    let table = [
+        (0, None),
+        (3, Some(GenesisFault::BadSeats(513))),
+        (4, Some(GenesisFault::BadPhases(3))),
+        (5, Some(GenesisFault::BadBonding(85))),
+        (6, Some(GenesisFault::BadMinimum)),
+        (7, Some(GenesisFault::BadThreshold(1))),
+        (8, Some(GenesisFault::BadQueue(17))),
+        (9, Some(GenesisFault::BadSolutionMax(2_097_153))),
     ];
-    assert!(rt; faults(rt.alloc())? == wanted);
+    for (number, wanted) in table {
+        let fault = fault_of(rt.alloc(), number)?;
+        assert_eq!(rt; fault, wanted);
+    }
     Ok(())
 }
 
@@ -301,32 +287,39 @@ fn five_accounts(alloc: Global) -> Result<Runtime, BlockFault> {
     start(alloc, Genesis::Full { endowments, params }).map_err(|_| BlockFault::NoMemory)
 }
 
-/// The lines of the third block, where these accounts bonded so much and validate since the first.
-fn third_block(alloc: Global, stakes: &[(AccountId, u64)]) -> Result<Receipt, BlockFault> {
+/// The lines of the third block, after these calls in the first.
+fn third_block(alloc: Global, asked: &[(AccountId, Asked)]) -> Result<Receipt, BlockFault> {
     let mut runtime = five_accounts(alloc)?;
-    let mut calls = List::new(alloc);
-    for (who, value) in stakes {
-        for kind in [
-            CallKind::Bond { value: *value },
-            CallKind::Validate { commission: 0 },
-        ] {
-            calls
-                .push(Call { who: *who, kind })
-                .map_err(|_| BlockFault::NoMemory)?;
-        }
-    }
-    let _ = take(&mut runtime, 1, calls)?;
-    let _ = take(&mut runtime, 2, List::new(alloc))?;
-    take(&mut runtime, 3, List::new(alloc))
+    let _ = take(alloc, &mut runtime, 1, asked)?;
+    let _ = take(alloc, &mut runtime, 2, &[])?;
+    take(alloc, &mut runtime, 3, &[])
 }
+
+/// Two validators with 1 and 2 units.
+const POOR: [(AccountId, Asked); 4] = [
+    (FIRST, Asked::Bond(1)),
+    (FIRST, Asked::Validate(0)),
+    (SECOND, Asked::Bond(2)),
+    (SECOND, Asked::Validate(0)),
+];
+
+/// Three validators with 60, 40 and 30 units.
+const RICH: [(AccountId, Asked); 6] = [
+    (FIRST, Asked::Bond(60)),
+    (FIRST, Asked::Validate(0)),
+    (SECOND, Asked::Bond(40)),
+    (SECOND, Asked::Validate(0)),
+    (THIRD, Asked::Bond(30)),
+    (THIRD, Asked::Validate(0)),
+];
 
 #[test]
 fn a_round_begins_with_its_snapshot(rt: HostRuntime) -> Result<(), Fail> {
-    let table: [(&[(AccountId, u64)], Line); 3] = [
+    let table: [(&[(AccountId, Asked)], Line); 3] = [
         (&[], Line::VoidFew { round: 1 }),
-        (&[(FIRST, 1), (SECOND, 2)], Line::VoidPoor { round: 1 }),
+        (&POOR, Line::VoidPoor { round: 1 }),
         (
-            &[(FIRST, 60), (SECOND, 40), (THIRD, 30)],
+            &RICH,
             Line::Snapshot {
                 round: 1,
                 targets: 3,
@@ -335,8 +328,8 @@ fn a_round_begins_with_its_snapshot(rt: HostRuntime) -> Result<(), Fail> {
             },
         ),
     ];
-    for (stakes, line) in table {
-        let receipt = third_block(rt.alloc(), stakes)?;
+    for (asked, line) in table {
+        let receipt = third_block(rt.alloc(), asked)?;
         assert_eq!(rt;
             receipt.lines.as_slice(),
             [Line::Block { number: 3 }, line].as_slice()
@@ -345,107 +338,37 @@ fn a_round_begins_with_its_snapshot(rt: HostRuntime) -> Result<(), Fail> {
     Ok(())
 }
 
-fn nominate(alloc: Global, who: AccountId, targets: &[AccountId]) -> Result<Call, BlockFault> {
-    let targets = Vec::from_slice(alloc, targets).map_err(|_| BlockFault::NoMemory)?;
-    Ok(Call {
-        who,
-        kind: CallKind::Nominate {
-            targets: List::from_vec(targets),
-        },
-    })
-}
-
 /// Calls on roles and bags: two validators with 60 and 40, one with 150, and then one call for each refusal.
-fn calls_on_lists(alloc: Global) -> Result<List<Call>, BlockFault> {
-    let calls = vec![in alloc;
-        Call {
-            who: FIRST,
-            kind: CallKind::Bond { value: 60 }
-        },
-        Call {
-            who: FIRST,
-            kind: CallKind::Validate { commission: 0 }
-        },
-        Call {
-            who: SECOND,
-            kind: CallKind::Bond { value: 40 }
-        },
-        Call {
-            who: SECOND,
-            kind: CallKind::Validate { commission: 7 }
-        },
-        Call {
-            who: EIGHTH,
-            kind: CallKind::Transfer {
-                to: SEVENTH,
-                value: 50
-            }
-        },
-        Call {
-            who: SEVENTH,
-            kind: CallKind::Bond { value: 150 }
-        },
-        Call {
-            who: SEVENTH,
-            kind: CallKind::Validate { commission: 0 }
-        },
-        nominate(alloc, THIRD, &[FIRST])?,
-        Call {
-            who: THIRD,
-            kind: CallKind::Bond { value: 30 }
-        },
-        nominate(alloc, THIRD, &[])?,
-        nominate(alloc, THIRD, &[FIRST; 17])?,
-        nominate(alloc, THIRD, &[FIRST, FIRST])?,
-        nominate(alloc, THIRD, &[FIRST, EIGHTH])?,
-        nominate(alloc, THIRD, &[FIRST])?,
-        Call {
-            who: THIRD,
-            kind: CallKind::Validate {
-                commission: 1_000_000_001
-            }
-        },
-        Call {
-            who: EIGHTH,
-            kind: CallKind::Chill
-        },
-        Call {
-            who: THIRD,
-            kind: CallKind::Rebag { whom: FIRST }
-        },
-        Call {
-            who: SEVENTH,
-            kind: CallKind::PutInFront { lighter: FIRST }
-        },
-        Call {
-            who: SECOND,
-            kind: CallKind::PutInFront { lighter: FIRST }
-        },
-        Call {
-            who: FIRST,
-            kind: CallKind::PutInFront { lighter: SECOND }
-        },
-        Call {
-            who: FIRST,
-            kind: CallKind::Unbond { value: 60 }
-        },
-        Call {
-            who: FIRST,
-            kind: CallKind::Chill
-        },
-        Call {
-            who: FIRST,
-            kind: CallKind::Unbond { value: 60 }
-        },
-    ]
-    .map_err(|_| BlockFault::NoMemory)?;
-    Ok(List::from_vec(calls))
-}
+const ON_LISTS: [(AccountId, Asked); 23] = [
+    (FIRST, Asked::Bond(60)),
+    (FIRST, Asked::Validate(0)),
+    (SECOND, Asked::Bond(40)),
+    (SECOND, Asked::Validate(7)),
+    (EIGHTH, Asked::Transfer(SEVENTH, 50)),
+    (SEVENTH, Asked::Bond(150)),
+    (SEVENTH, Asked::Validate(0)),
+    (THIRD, Asked::Nominate(&[FIRST])),
+    (THIRD, Asked::Bond(30)),
+    (THIRD, Asked::Nominate(&[])),
+    (THIRD, Asked::Nominate(&[FIRST; 17])),
+    (THIRD, Asked::Nominate(&[FIRST, FIRST])),
+    (THIRD, Asked::Nominate(&[FIRST, EIGHTH])),
+    (THIRD, Asked::Nominate(&[FIRST])),
+    (THIRD, Asked::Validate(1_000_000_001)),
+    (EIGHTH, Asked::Chill),
+    (THIRD, Asked::Rebag(FIRST)),
+    (SEVENTH, Asked::PutInFront(FIRST)),
+    (SECOND, Asked::PutInFront(FIRST)),
+    (FIRST, Asked::PutInFront(SECOND)),
+    (FIRST, Asked::Unbond(60)),
+    (FIRST, Asked::Chill),
+    (FIRST, Asked::Unbond(60)),
+];
 
 /// The number of each call's refusal, and 0 where it was accepted.
 fn codes(alloc: Global) -> Result<Vec<u32>, BlockFault> {
     let mut runtime = five_accounts(alloc)?;
-    let receipt = take(&mut runtime, 1, calls_on_lists(alloc)?)?;
+    let receipt = take(alloc, &mut runtime, 1, &ON_LISTS)?;
     let mut codes = Vec::new(alloc);
     for line in receipt.lines.as_slice() {
         match line {
