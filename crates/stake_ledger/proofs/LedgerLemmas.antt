@@ -1,7 +1,7 @@
 -- The books' equation and the running totals, after one row is changed.
 use Rattle.std.proofs.Common.{◌≡◌, ◌≢◌, ◌∙◌, ℕ, ◌+◌, ◌-◌, ◌≤◌, false, List, [], ◌∷◌, refl, ap, sym, subst, arith, Option, Some, None, unwrap_or, option_map, sum_by, All, IfSome, nat_eq, ◌&&◌, true≢false}
 use Rattle.std.specs.BTreeMap.{insert_entry, is_at}
-use Rattle.std.specs.Map.{keys_of, values_of, lookup, set_value}
+use Rattle.std.specs.Map.{keys_of, values_of, lookup}
 use Rattle.std.specs.List.Sorted.{IsStrictlySortedBy}
 use Rattle.std.proofs.lemmas.List.Sums.{sum_by-cons}
 use Rattle.std.proofs.lemmas.Map.Entries.{sum_by-insert_entry}
@@ -14,12 +14,7 @@ use Rattle.stake_ledger.specs.declared.row.Row.{Row}
 use Rattle.stake_ledger.specs.Chunks.{chunk_sum, IsSchedule}
 use Rattle.stake_ledger.specs.Rows.{empty_row, worth, gained, paid}
 use Rattle.stake_ledger.specs.Ledger.{Ledger, row_in, row_of_entries, row_of, row_at, with_row, changed, total, OthersStay}
-use Rattle.stake_ledger.proofs.MapLemmas.{sorted_put, lookup_put, lookup_other, put_in_place, put_back}
-
--- a row that is there is changed in its place
-pub changed_in_place : (who : AccountId) (rows : List (AccountId × Row)) (row new : Row) → IsStrictlySortedBy account_cmp (keys_of rows)
-    → lookup (is_at (account_cmp who)) rows ≡ Some row → set_value (is_at (account_cmp who)) rows new ≡ insert_entry account_cmp rows who new
-changed_in_place who rows row new ordered found = put_in_place account_total who new rows row ordered found
+use Rattle.stake_ledger.proofs.MapLemmas.{sorted_put, lookup_put, lookup_other, put_back}
 
 -- no other row changes
 pub others_stay : (who : AccountId) (change : Row → Row) (ledger : Ledger) → OthersStay who ledger (changed who change ledger)

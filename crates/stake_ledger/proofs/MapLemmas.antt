@@ -4,7 +4,7 @@ use Rattle.std.specs.BTreeMap.{insert_entry, is_at}
 use Rattle.std.specs.Cmp.{IsTotalOrder}
 use Rattle.std.specs.List.{AllByRecursion}
 use Rattle.std.specs.List.Sorted.{IsStrictlySortedBy}
-use Rattle.std.specs.Map.{keys_of, lookup, set_value}
+use Rattle.std.specs.Map.{keys_of, lookup}
 use Rattle.std.specs.Ordering.{match_ordering, is_eq, ordering_reverse}
 use Rattle.std.specs.declared.cmp.Ordering.{Ordering}
 use Rattle.std.specs.declared.cmp.Ordering.TheVariants.{Less, Equal, Greater}
@@ -62,21 +62,6 @@ module _ {K X : Type 0} {R : K → K → Ordering} (o : IsTotalOrder R) (k : K) 
   pub lookup_other : (q : K) (es : List (K × X)) → is_eq (R q k) ≡ false → lookup (is_at (R q)) (insert_entry R es k v) ≡ lookup (is_at (R q)) es
   lookup_other q [] apart = rw apart refl
   lookup_other q (e ∷ es) apart = other_at q e es (R k e.0) apart refl (lookup_other q es apart)
-
-  in_place_at : (e : K × X) (es : List (K × X)) (row : X) (r : Ordering) → R k e.0 ≡ r → IsStrictlySortedBy R (keys_of (e ∷ es)) → lookup (is_at (R k)) (e ∷ es) ≡ Some row
-      → (lookup (is_at (R k)) es ≡ Some row → set_value (is_at (R k)) es v ≡ insert_entry R es k v)
-      → set_value (is_at (R k)) (e ∷ es) v ≡ match_ordering r ((k, v) ∷ e ∷ es) ((e.0, v) ∷ es) (e ∷ insert_entry R es k v)
-  in_place_at e es row Less is s found rest =
-      let none : lookup (is_at (R k)) (e ∷ es) ≡ None = lookup-none (is_at (R k)) (e ∷ es) (none_below_head o k e es s is) in cc
-  in_place_at e es row Equal is s found rest = rw is refl
-  in_place_at e es row Greater is s found rest = rw is (ap (λ l. e ∷ l) (rest (rw is at found)))
-
-  -- a row that is there is changed in its place
-  pub put_in_place : (es : List (K × X)) (row : X) → IsStrictlySortedBy R (keys_of es) → lookup (is_at (R k)) es ≡ Some row
-      → set_value (is_at (R k)) es v ≡ insert_entry R es k v
-  put_in_place [] row s found = cc
-  put_in_place (e ∷ es) row s found =
-      in_place_at e es row (R k e.0) refl s found (λ there. put_in_place es row (sorted_tail R e.0 (keys_of es) s) there)
 
   undone_at : (e : K × X) (es : List (K × X)) (row : X) (r : Ordering) → R k e.0 ≡ r → IsStrictlySortedBy R (keys_of (e ∷ es)) → lookup (is_at (R k)) (e ∷ es) ≡ Some row
       → (lookup (is_at (R k)) es ≡ Some row → insert_entry R (insert_entry R es k v) k row ≡ es)

@@ -8,7 +8,8 @@ use Rattle.std.specs.List.Sorted.{IsStrictlySortedBy}
 use Rattle.std.specs.Ordering.{match_ordering, is_eq}
 use Rattle.std.specs.declared.cmp.Ordering.{Ordering}
 use Rattle.std.specs.declared.cmp.Ordering.TheVariants.{Less, Equal, Greater}
-use Rattle.std.proofs.lemmas.List.{length-append, length-set, get_or-set_same, get_or-set_other, get_or_append_left}
+use Rattle.std.proofs.lemmas.List.{length-append, length-set, get_or-set_same, get_or-set_other, get_or_append_left, get_or_read}
+use Rattle.std.proofs.lemmas.Option.{same_Some}
 use Rattle.std.proofs.Math.Seq.{get_or-append_seam}
 use Rattle.std.proofs.lemmas.Map.{lookup-none}
 use Rattle.std.proofs.lemmas.Map.Entries.{none_below_head}
@@ -33,9 +34,6 @@ tied who other e = by_order (account_cmp who other) refl e where
 
 not_none : {A : Type 0} (x : A) → Some x ≢ None
 not_none x e = true≢false (ap is_some e)
-
-some_same : {A : Type 0} (x y : A) → Some x ≡ Some y → x ≡ y
-some_same x y e = ap (λ o. unwrap_or o x) e
 
 -- behind an account by rising account, it does not stand again
 not_again : (first : AccountId × ℕ) (later : List (AccountId × ℕ)) → IsStrictlySortedBy account_cmp (keys_of (first ∷ later)) → place_in later first.0 ≡ None
@@ -124,7 +122,7 @@ set_there rows (first ∷ later) who place row ordered alone there within =
       at Less is found more =
           absurd (not_none place (sym found ∙ lookup-none (is_at (account_cmp who)) later (none_below_head account_total who first later ordered is).1))
       at Equal is found more =
-          let same : first.1 ≡ place = some_same first.1 place found in
+          let same : first.1 ≡ place = same_Some first.1 place found in
           ap₂ (λ r rows. (first.0, r) ∷ rows)
           (ap (λ p. get_or (slice_set rows place row) p empty_row) same ∙ get_or-set_same rows place row empty_row within)
           (same_rows rows (slice_set rows place row) later rest (λ q p there. get_or-set_other rows place p row empty_row (elsewhere q p (sym (account_exact who first.0 is)) there)))
@@ -138,23 +136,16 @@ pub row_changed : (rows : List Row) (places : List (AccountId × ℕ)) (who : Ac
 row_changed rows places who place row placed there =
     set_there rows places who place row placed.ordered (λ other here. placed.apart who other place there here) there (placed.within who place there)
 
-same_there : (rows : List Row) (place : ℕ) (row : Row) → place < length rows → row ≡ get_or rows place row → row ≡ get_or rows place empty_row
-same_there rows place row within is = is ∙ any_default rows place row within where
-  any_default : (rows : List Row) (place : ℕ) (row : Row) → place < length rows → get_or rows place row ≡ get_or rows place empty_row
-  any_default [] place row within = absurd (omega (arith, within))
-  any_default (first ∷ rows) zero row within = refl
-  any_default (first ∷ rows) (suc place) row within = any_default rows place row (omega (arith, within))
-
 -- the row that stands at the place of an account is its row
 pub row_found : (rows : List Row) (places : List (AccountId × ℕ)) (entries : List (AccountId × Row)) (who : AccountId) (place : ℕ) (row : Row) → ArePlaced rows places → rows_placed rows places ≡ entries
     → place_in places who ≡ Some place → row ≡ get_or rows place row → row ≡ row_in entries who
 row_found rows places entries who place row placed view there is =
-    same_there rows place row (placed.within who place there) is ∙ sym (row_in_placed rows places who place there) ∙ ap (λ es. row_in es who) view
+    get_or_read rows place row (placed.within who place there) is empty_row ∙ sym (row_in_placed rows places who place there) ∙ ap (λ es. row_in es who) view
 
 pub row_found_there : (rows : List Row) (places : List (AccountId × ℕ)) (entries : List (AccountId × Row)) (who : AccountId) (place : ℕ) (row : Row) → ArePlaced rows places → rows_placed rows places ≡ entries
     → place_in places who ≡ Some place → row ≡ get_or rows place row → row_of_entries who entries ≡ Some row
 row_found_there rows places entries who place row placed view there is =
-    ap (row_of_entries who) (sym view) ∙ row_placed rows places who place there ∙ ap Some (sym (same_there rows place row (placed.within who place there) is))
+    ap (row_of_entries who) (sym view) ∙ row_placed rows places who place there ∙ ap Some (sym (get_or_read rows place row (placed.within who place there) is empty_row))
 
 pub row_missing : (rows : List Row) (places : List (AccountId × ℕ)) (entries : List (AccountId × Row)) (who : AccountId) → rows_placed rows places ≡ entries
     → place_in places who ≡ None → row_of_entries who entries ≡ None
@@ -233,7 +224,7 @@ put_cases places who other new place there P same differ = at (is_eq (account_cm
   at : (b : Bool) → is_eq (account_cmp other who) ≡ b → P
   at true e =
       let is : other ≡ who = tied other who e in
-      same is (some_same place new (sym there ∙ ap (place_in (insert_entry account_cmp places who new)) is ∙ lookup_put account_total who new places))
+      same is (same_Some place new (sym there ∙ ap (place_in (insert_entry account_cmp places who new)) is ∙ lookup_put account_total who new places))
   at false e =
       differ (λ is. true≢false (sym (ap is_eq (ap (account_cmp other) (sym is) ∙ tied_itself account_total other)) ∙ e))
       (sym (lookup_other account_total who new other places e) ∙ there)
@@ -266,7 +257,7 @@ slice_last [] y = refl
 slice_last (x ∷ xs) y = slice_last xs y
 
 slice_cases : {A : Type 0} (xs : List A) (y : A) (i : ℕ) (x : A) → slice_get (xs ++ y ∷ []) i ≡ Some x → (P : Type 0) → (slice_get xs i ≡ Some x → P) → (x ≡ y → i ≡ length xs → P) → P
-slice_cases [] y zero x e P before last = last (some_same x y (sym e)) refl
+slice_cases [] y zero x e P before last = last (same_Some x y (sym e)) refl
 slice_cases [] y (suc i) x e P before last = absurd (not_none x (sym e))
 slice_cases (z ∷ xs) y zero x e P before last = before e
 slice_cases (z ∷ xs) y (suc i) x e P before last = slice_cases xs y i x e P before (λ same is. last same (ap suc is))

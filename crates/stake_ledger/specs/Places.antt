@@ -1,4 +1,4 @@
--- Where accounts stand: each has a place of its own, numbered in the order in which they came.
+-- Where accounts stand: each has a place of its own.
 use Rattle.std.specs.Prelude.{◌≡◌, ℕ, ◌<◌, List, Option, Some, [], ◌∷◌, length, slice_get, get_or}
 use Rattle.std.specs.BTreeMap.{is_at}
 use Rattle.std.specs.List.Sorted.{IsStrictlySortedBy}
@@ -21,7 +21,7 @@ pub record Stand (accounts : List AccountId) (places : List (AccountId × ℕ)) 
 -- the rows by account, of rows that stand at the accounts' places
 abbrev pub rows_placed : List Row → List (AccountId × ℕ) → List (AccountId × Row)
 rows_placed rows [] = []
-rows_placed rows (account ∷ accounts) = (account.0, get_or rows account.1 empty_row) ∷ rows_placed rows accounts
+rows_placed rows (entry ∷ entries) = (entry.0, get_or rows entry.1 empty_row) ∷ rows_placed rows entries
 
 -- each account has a place of its own among the rows, and each row an account
 pub record ArePlaced (rows : List Row) (places : List (AccountId × ℕ)) : Type 0 where

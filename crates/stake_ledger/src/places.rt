@@ -1,5 +1,5 @@
 //! Where accounts stand: each account that comes has the next place.
-ghost use Rattle.std.specs.Prelude.{◌≡◌, [], None, Some, IfSome, OnErr, OnOk, IfOk, length, slice_get};
+ghost use Rattle.std.specs.Prelude.{◌≡◌, [], None, Some, IfSome, OnErr, OnOk, length, slice_get};
 ghost use Rattle.std.specs.BTreeMap.{insert_entry};
 ghost use Rattle.npos_base.specs.Account.{account_cmp};
 ghost use Rattle.stake_ledger.specs.Places.{place_in};
@@ -63,7 +63,7 @@ impl Places {
     {
         let place = self.accounts.len();
         self.accounts.reserve(1)?;
-        widen(self.alloc, &mut self.hints, self.accounts.as_slice())?;
+        widen(self.alloc, &mut self.hints, self.accounts.as_slice());
         self.order.insert(who, place)?;
         match self.accounts.push(who) {
             Ok(()) => {}
@@ -85,15 +85,17 @@ fn guessed(accounts: &[AccountId], hints: &Hints, who: AccountId) -> Option<usiz
     }
 }
 
-/// Notes all places in more slots, where the accounts crowd them.
-fn widen(alloc: Global, hints: &mut Hints, accounts: &[AccountId]) -> Result<(), NoMemory> {
+/// Notes all places in more slots, where the accounts crowd them. The slots stay as they are where there is no memory
+/// for more: then more guesses are wrong.
+fn widen(alloc: Global, hints: &mut Hints, accounts: &[AccountId]) {
     if !hints.is_crowded(accounts.len()) {
-        return Ok(());
+        return;
     }
-    let mut wider = hints.widened(alloc)?;
+    let Ok(mut wider) = hints.widened(alloc) else {
+        return;
+    };
     for (place, account) in accounts.iter().enumerate() {
         wider.note(*account, place);
     }
     *hints = wider;
-    Ok(())
 }

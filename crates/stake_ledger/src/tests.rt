@@ -114,3 +114,32 @@ fn stake_moves(rt: HostRuntime) -> Result<(), Fail> {
     );
     Ok(())
 }
+
+/// An account that shares its last bytes with another of the first hundred.
+fn twin(number: u32) -> AccountId {
+    AccountId {
+        hi: u128::from(number),
+        lo: u128::from(number % 50),
+    }
+}
+
+/// How many of a hundred accounts have what they were endowed with.
+fn right_rows(alloc: Global) -> Result<u32, LedgerRefusal> {
+    let mut book = Book::new(alloc);
+    for number in 0u32..100 {
+        endow(&mut book, twin(number), u64::from(number))?;
+    }
+    let mut right = 0u32;
+    for number in 0u32..100 {
+        if book.free(twin(number)) == u64::from(number) && right < 100 {
+            right += 1;
+        }
+    }
+    Ok(right)
+}
+
+#[test]
+fn accounts_with_the_same_last_bytes_have_their_own_rows(rt: HostRuntime) -> Result<(), Fail> {
+    assert_eq!(rt; right_rows(rt.alloc())?, 100);
+    Ok(())
+}
