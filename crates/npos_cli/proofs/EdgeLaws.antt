@@ -1,23 +1,18 @@
 -- How single reads add up to all that was left, and a write and a flush to a delivery.
-use Rattle.std.proofs.Common.{◌≡◌, ◌⊎◌, inl, inr, Bool, true, false, ℕ, List, [], ◌++◌, length, take, drop, Option, Some, None, refl, sym, ◌∙◌, ap, subst, append_assoc, arith}
-use Rattle.std.proofs.lemmas.List.{append-nil, take_all, take-append-drop}
-use Rattle.npos_base.specs.Outside.{Told, Takes, IsAtEnd, Appends, Flushes}
+use Rattle.std.proofs.Common.{◌≡◌, ◌⊎◌, inl, inr, Bool, true, false, ℕ, List, [], ◌++◌, length, take, Option, Some, None, refl, sym, ◌∙◌, ap, subst, append_assoc, arith}
+use Rattle.std.proofs.lemmas.List.{append-nil, take_all}
+use Rattle.npos_base.specs.Outside.{Told, IsAtEnd, Appends, Flushes}
 use Rattle.npos_cli.specs.Owed.{LeftAfter, IsDrained, TakesMore, Delivers, DeliversFront}
 use Rattle.npos_cli.specs.Ahead.{HasSeen}
 
-pub left_join : (old mid new : Option (List ℕ)) (bytes taken : List ℕ)
+left_join : (old mid new : Option (List ℕ)) (bytes taken : List ℕ)
     → LeftAfter old mid bytes → LeftAfter mid new taken → LeftAfter old new (bytes ++ taken)
 left_join None mid new bytes taken before more = tt
 left_join (Some left) mid new bytes taken before more =
     let t = subst (λ (m : Option (List ℕ)). LeftAfter m new taken) before.1 more in
     (t.0, t.1, before.2 ∙ (ap (λ back. bytes ++ back) t.2 ∙ sym (append_assoc bytes taken t.0)))
 
-pub left_taken : (old new : Option (List ℕ)) (n : ℕ) (taken : List ℕ) → Takes old new n taken → LeftAfter old new taken
-left_taken None new n taken takes = tt
-left_taken (Some left) new n taken takes =
-    (drop n left, takes.2, sym (take-append-drop n left) ∙ ap (λ front. front ++ drop n left) (sym takes.1))
-
-pub left_none : (old : Option (List ℕ)) (bytes : List ℕ) → bytes ≡ [] → LeftAfter old old bytes
+left_none : (old : Option (List ℕ)) (bytes : List ℕ) → bytes ≡ [] → LeftAfter old old bytes
 left_none None bytes empty = tt
 left_none (Some left) bytes empty = (left, refl, ap (λ front. front ++ left) (sym empty))
 

@@ -1,7 +1,8 @@
 -- What one turn of the reader comes to, by what was read and what was told; and how turns add up.
-use Rattle.std.proofs.Common.{◌≡◌, ◌<◌, ◌≤◌, ◌^◌, ◌+◌, ℕ, Bool, true, false, List, [], ◌∷◌, ◌++◌, length, Option, Some, None, refl, sym, ◌∙◌, ap, ap₂, subst, append_assoc, arith, length-append, ◌-◌, drop}
+use Rattle.std.proofs.Common.{◌≡◌, inl, inr, ◌<◌, ◌≤◌, ◌^◌, ◌+◌, ℕ, Bool, true, false, List, [], ◌∷◌, ◌++◌, length, Option, Some, None, refl, sym, ◌∙◌, ap, ap₂, subst, append_assoc, arith, length-append, ◌-◌, drop}
 use Rattle.std.proofs.lemmas.List.{append-nil}
 use Rattle.std.proofs.Math.Seq.{drop-append_seam}
+use Rattle.scale_wire.specs.declared.fault.Why.{Why}
 use Rattle.scale_wire.specs.declared.fault.Why.TheVariants.{Trailing}
 use Rattle.scale_wire.specs.declared.fault.WireFault.{WireFault}
 use Rattle.scale_wire.specs.Form.{IsBytes}
@@ -19,21 +20,17 @@ use Rattle.npos_cli.specs.Texts.{fault_line, number_line}
 use Rattle.npos_cli.specs.Replay.{Spot, Reaches, Passes, behind, turn, Refused, OtherNumber, Followed, Ended}
 use Rattle.npos_cli.specs.Chain.{npos_machine, end_line}
 use Rattle.npos_cli.specs.Ahead.{Ahead, place, HasSeen, ReadsOn}
-use Rattle.npos_cli.specs.Turning.{spot, grown, TakesTurn, HasReached, RunsOn, RunsThrough, StopsHere, RefusesHere}
+use Rattle.npos_cli.specs.Turning.{spot, grown, IsCutHere, TakesTurn, HasReached, RunsOn, RunsThrough, StopsHere, RefusesHere}
 use Rattle.npos_cli.proofs.EdgeLaws.{seen_nothing, seen_more}
 use Rattle.npos_cli.proofs.WholeLaws.{passes_grow}
 use Rattle.npos_cli.proofs.ReplayLaws.{reaches_itself, reaches_more, bytes_behind, shorter}
 use Rattle.npos_cli.proofs.ChainLaws.{genesis_laws, turn_laws}
 use Rattle.npos_cli.proofs.GrowLaws.{read_grows, bad_grows}
 
--- whatever was read, it took a byte at least
-pub turn_fits : (old new : Place) (read : Option Block) → IsRead (turn npos_machine) old read new → old.at + length old.rest < 2 ^ 64 → old.at + 1 < 2 ^ 64
-turn_fits old new None is fits = omega (arith, ap length is.whole, fits)
-turn_fits old new (Some block) is fits = omega (arith, ap length is.whole, fits, length-append (block_form.spelling block) new.rest)
-
 pub none_turn : (old here : Place) (chain : Chain) (ended : Bool) (before told : List ℕ) (stop : Stop) → IsRead (turn npos_machine) old None here
     → StopsHere here ended (totals_of chain.book) before told stop → TakesTurn npos_machine ended (spot old chain) (spot old chain) before told (Stopped stop)
-none_turn old here chain ended before told More is stops = ([], stops.1 ∙ sym (append-nil before), (stops.0, refl, refl))
+none_turn old here chain ended before told More is stops =
+    ([], stops.2 ∙ sym (append-nil before), (stops.0, inr (is.whole ∙ ap (λ rest. (turn npos_machine).spelling None ++ rest) stops.1), refl, refl))
 none_turn old here chain ended before told (Last true) is stops = (
   fault_line here.at Trailing,
   stops.1,
@@ -47,7 +44,8 @@ none_turn old here chain ended before told (Last false) is stops = (
 
 pub fault_turn : (old new : Place) (chain : Chain) (ended : Bool) (before told : List ℕ) (fault : WireFault) (stop : Stop) → IsFault (turn npos_machine) old fault new → IsBytes old.rest
     → RefusesHere fault ended before told stop → TakesTurn npos_machine ended (spot old chain) (spot old chain) before told (Stopped stop)
-fault_turn old new chain ended before told fault More is bytes refuses = ([], refuses.1 ∙ sym (append-nil before), (refuses.0, refl, refl))
+fault_turn old new chain ended before told fault More is bytes refuses =
+    ([], refuses.2 ∙ sym (append-nil before), (refuses.0, inl (is.place, subst (λ (why : Why). (turn npos_machine).bad old.rest is.place why) refuses.1 is.bad), refl, refl))
 fault_turn old new chain ended before told fault (Last true) is bytes refuses = (
   fault_line fault.at fault.why,
   refuses.1,
@@ -85,8 +83,9 @@ pub reached_stop : (p q r : Spot Chain) (ended : Bool) (before mid told : List �
     → TakesTurn npos_machine ended q r mid told (Stopped stop) → RunsOn npos_machine ended p r before told stop
 reached_stop p q r ended before mid told More reached turns = (
   turns.2.0,
-  subst (λ (s : Spot Chain). HasReached npos_machine p s before told) (sym turns.2.1)
-      (subst (λ (all : List ℕ). HasReached npos_machine p q before all) (sym (turns.1 ∙ (ap (λ back. mid ++ back) turns.2.2 ∙ append-nil mid))) reached),
+  subst (λ (s : Spot Chain). IsCutHere npos_machine s) (sym turns.2.2) turns.2.1,
+  subst (λ (s : Spot Chain). HasReached npos_machine p s before told) (sym turns.2.2)
+      (subst (λ (all : List ℕ). HasReached npos_machine p q before all) (sym (turns.1 ∙ (ap (λ back. mid ++ back) turns.2.3 ∙ append-nil mid))) reached),
 )
 reached_stop p q r ended before mid told (Last faulty) reached turns = (
   q,
@@ -116,7 +115,7 @@ bytes_more q r ended mid told turns bytes =
     bytes_behind ((turn npos_machine).spelling (Some turns.2.0)) r.rest (subst IsBytes turns.2.1.whole bytes)
 
 -- blocks that lead on take the bytes between
-pub bytes_between : (blocks : List Block) (p q : Spot Chain) (text : List ℕ) → Passes npos_machine blocks p q text
+bytes_between : (blocks : List Block) (p q : Spot Chain) (text : List ℕ) → Passes npos_machine blocks p q text
     → (passed : List ℕ) × (p.rest ≡ passed ++ q.rest) × (q.at ≡ p.at + length passed)
 bytes_between [] p q text passes = ([], ap (λ (s : Spot Chain). s.rest) (sym passes.0), omega (arith, ap (λ (s : Spot Chain). s.at) passes.0))
 bytes_between (block ∷ blocks) p q text passes =
@@ -195,7 +194,7 @@ come_on left mid now before start held turned read state after old text told com
     let unended : HasSeen mid now more held.ended read.ended = subst (λ (b : Bool). HasSeen mid now more b read.ended) (sym runs.0) reads.3 in
     let there : grown more (spot (place turned) after) ≡ spot (place read) after = λ i. record { at = sym reads.2 i; state = after; rest = sym reads.1 i } in
     let here : grown more (grown seen start) ≡ grown (seen ++ more) start = λ i. record { at = start.at; state = start.state; rest = append_assoc start.rest seen more i } in
-    let all = reached_grows more (grown seen start) (spot (place turned) after) old told (reached_join (grown seen start) (spot (place held) state) (spot (place turned) after) old text told come.2 runs.1) in (
+    let all = reached_grows more (grown seen start) (spot (place turned) after) old told (reached_join (grown seen start) (spot (place held) state) (spot (place turned) after) old text told come.2 runs.2) in (
       seen ++ more,
       seen_more left mid now seen more before held.ended read.ended come.1 unended,
       subst (λ (p : Spot Chain). HasReached npos_machine p (spot (place read) after) old told) here
@@ -231,7 +230,7 @@ pub nearer_end : (held turned read : Ahead) (p q : Chain) (mid now : Option (Lis
     → 2 ^ 64 - (read.at + length read.bytes) + one_if_open read.ended < 2 ^ 64 - (held.at + length held.bytes) + one_if_open held.ended
 nearer_end held turned read p q mid now text told runs reads longer fits =
     at read.ended refl longer
-    (held_between (spot (place held) p) (spot (place turned) q) text told runs.1).3
+    (held_between (spot (place held) p) (spot (place turned) q) text told runs.2).3
     (ap length reads.1 ∙ length-append turned.bytes reads.0)
     (ap one_if_open runs.0) where
       at : (b : Bool) → read.ended ≡ b → (read.ended ≡ false → length turned.bytes < length read.bytes) → turned.at + length turned.bytes ≡ held.at + length held.bytes

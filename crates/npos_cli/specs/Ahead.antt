@@ -32,12 +32,12 @@ abbrev pub MayFollow : Bool → List ℕ → Type 0
 MayFollow ended more = ended ≡ true → more ≡ []
 
 -- All of this was taken from what was left. Where the input has ended, it had ended before and nothing was read since,
--- or nothing is left now.
+-- or nothing is left now. Nothing is said of a source that does not tell its bytes.
 pub record HasSeen (old now : Option (List ℕ)) (seen : List ℕ) (before ended : Bool) : Type 0 where
   pub taken : LeftAfter old now seen
   pub at_end : ended ≡ true → ((before ≡ true) × (now ≡ old)) ⊎ IsDrained old now
 
--- more of the input was read
+-- what was read, if anything, stands behind the bytes before
 abbrev pub ReadsOn : Option (List ℕ) → Option (List ℕ) → Ahead → Ahead → Type 0
 ReadsOn old now before after =
     (taken : List ℕ) × (after.bytes ≡ before.bytes ++ taken) × (after.at ≡ before.at) × HasSeen old now taken false after.ended
@@ -46,9 +46,9 @@ ReadsOn old now before after =
 abbrev pub IsSure : Bool → Why → Type 0
 IsSure ended why = why ≡ Short → ended ≡ true
 
--- what an input begins with: a genesis, or bytes are missing, or a refusal that stands whatever may follow
+-- what the bytes begin with: a genesis, or one that is cut and may go on, or a refusal that stands whatever may follow
 abbrev pub Opens : Ahead → Ahead → Opening → Type 0
-Opens old new More = (old.ended ≡ false) × (new ≡ old)
+Opens old new More = (old.ended ≡ false) × ((at : ℕ) × genesis_form.bad old.bytes at Short) × (new ≡ old)
 Opens old new (Begun genesis) = IsRead genesis_form (place old) genesis (place new) × (new.ended ≡ old.ended)
 Opens old new (Refused fault) = IsBytes old.bytes × IsFault genesis_form (place old) fault (place old) × IsSure old.ended fault.why × (new ≡ old)
 

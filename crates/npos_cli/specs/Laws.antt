@@ -28,7 +28,7 @@ BeginsWithWhole {G} {B} {S} m = (bytes text : List ℕ) (out : Outcome S) → Is
 abbrev pub WholeGrows : {G B S : Type 0} → Machine G B S → Type 0
 WholeGrows m = (bytes more text longer : List ℕ) → IsWhole m bytes text → IsWhole m (bytes ++ more) longer → IsFront text longer
 
--- bytes are missing: the input ends within its genesis, or within the block behind the whole ones
+-- bytes are missing: the input ends within its genesis, or where the next block or the None should stand whole
 pub data IsCut {G B S : Type 0} (m : Machine G B S) (bytes : List ℕ) : Type 0 where
   CutGenesis : (at : ℕ) → m.genesis.bad bytes at Short → IsCut m bytes
   CutBlock : (p q : Spot S) (text : List ℕ) (at : ℕ) → Starts m bytes p → Reaches m p q text → (turn m).bad q.rest at Short → IsCut m bytes

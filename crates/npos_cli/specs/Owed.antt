@@ -17,12 +17,12 @@ abbrev pub DeliversFront : Option Told → Option Told → List ℕ → Type 0
 DeliversFront old None text = ⊤
 DeliversFront old (Some now) text = (before : Told) × (n : ℕ) × (old ≡ Some before) × (now.written ≡ before.written ++ take n text)
 
--- the bytes are all that was left
+-- the bytes are all that was left; nothing is said of a source that does not tell its bytes
 abbrev pub IsAll : Option (List ℕ) → List ℕ → Type 0
 IsAll None bytes = ⊤
 IsAll (Some left) bytes = bytes ≡ left
 
--- nothing is left now
+-- nothing is left now; nothing is said of a source that does not tell its bytes
 abbrev pub IsDrained : Option (List ℕ) → Option (List ℕ) → Type 0
 IsDrained None now = ⊤
 IsDrained (Some left) now = now ≡ Some []
@@ -67,7 +67,8 @@ TakesMore old new before after ended =
 abbrev pub Replays : {G B S : Type 0} → Machine G B S → List ℕ → List ℕ → Bool → Type 0
 Replays {G} {B} {S} m bytes text faulty = (last : Option S) × IsReplay m bytes (record { text = text; faulty = faulty; last = last })
 
--- The text is that of the replay of all that was left; one that ends with its end line leaves nothing.
+-- The text is that of the replay of all that was left; one that ends with its end line leaves nothing. For a source
+-- that does not tell its bytes it is the replay of some bytes.
 abbrev pub FindsReplay : {G B S : Type 0} → Machine G B S → Option (List ℕ) → Option (List ℕ) → List ℕ → Bool → Type 0
 FindsReplay m old now text faulty =
     (bytes : List ℕ) × IsAll old bytes × Replays m bytes text faulty × (faulty ≡ false → IsDrained old now)

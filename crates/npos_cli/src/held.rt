@@ -110,6 +110,9 @@ impl Held {
         requires { (self.old.at ≤ at) × (at ≤ self.old.at + length self.old.bytes) }
         ensures { OnOk result (self.new ≡ passed at self.old) }
     {
+        if at == self.at {
+            return Ok(());
+        }
         let mut rest = Vec::new(self.alloc);
         rest.extend_from_slice(&self.bytes.as_slice()[(at - self.at) as usize..])?;
         self.bytes = rest;
@@ -134,7 +137,7 @@ impl Held {
     }
 
     /// Reads on until twice as many bytes are held, or the input has ended. So whoever begins a long value anew after
-    /// each call goes over it about twice in all, however small the reads are. The status of an Err is ReadFault or
+    /// each call goes over fewer than three times its bytes, however small the reads are. The status of an Err is ReadFault or
     /// NoMemory.
     pub fn read_on<S: Source>(&mut self, source: &mut S) -> Result<(), Status>
         ensures more { OnOk result (ReadsOn (S.left source.old) (S.left source.new) self.old self.new) }

@@ -24,7 +24,7 @@ pub fn whole_text_grows()
     ensures { WholeGrows npos_machine }
 {}
 
-/// A fault line stands whatever follows the input, unless it says that bytes are missing.
+/// A fault line stands whatever follows the input, unless the input ends where bytes are missing.
 pub fn faults_stand()
     ensures { FaultsStand npos_machine }
 {}

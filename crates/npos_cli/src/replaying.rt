@@ -3,7 +3,6 @@
 ghost use Rattle.std.specs.Prelude.{◌≡◌, ◌+◌, ◌<◌, ◌^◌, ℕ, List, true, false, length, IfOk};
 ghost use Rattle.stake_ledger.specs.Ledger.{totals_of};
 ghost use Rattle.scale_wire.specs.Form.{IsBytes};
-ghost use Rattle.npos_cli.specs.declared.replaying.Turn.TheVariants as turns;
 ghost use Rattle.npos_cli.specs.declared.replaying.Stop.TheVariants as stops;
 ghost use Rattle.npos_cli.specs.Chain.{npos_machine};
 ghost use Rattle.npos_cli.specs.Ahead.{BeginsWith, Opens, HasSeen, nothing_read, place};
@@ -29,7 +28,7 @@ pub struct Told {
 }
 
 /// Where the reader of what is held stops.
-pub enum Stop {
+enum Stop {
     /// Bytes are missing, and more may come.
     More,
     /// The replay ended, with a fault line or not.
@@ -188,10 +187,9 @@ fn take_all<S: Source>(
     ensures halts { HaltsWell (S.faults source.old) (S.faults source.new) result }
 {
     'pieces: loop {
-        match take_held(alloc, held, runtime, text) {
-            Ok(Stop::Last { faulty }) => return Ok(faulty),
-            Ok(Stop::More) => held.read_on(source)?,
-            Err(NoMemory) => return Err(Status::NoMemory),
+        match take_held(alloc, held, runtime, text)? {
+            Stop::Last { faulty } => return Ok(faulty),
+            Stop::More => held.read_on(source)?,
         }
     }
 }
@@ -225,11 +223,10 @@ fn take_genesis<S: Source>(
     ensures halts { HaltsWell (S.faults source.old) (S.faults source.new) result }
 {
     'pieces: loop {
-        match open_held(alloc, held) {
-            Ok(Opening::Begun(genesis)) => return Ok(Ok(genesis)),
-            Ok(Opening::Refused(fault)) => return Ok(Err(fault)),
-            Ok(Opening::More) => held.read_on(source)?,
-            Err(NoMemory) => return Err(Status::NoMemory),
+        match open_held(alloc, held)? {
+            Opening::Begun(genesis) => return Ok(Ok(genesis)),
+            Opening::Refused(fault) => return Ok(Err(fault)),
+            Opening::More => held.read_on(source)?,
         }
     }
 }

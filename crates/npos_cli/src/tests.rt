@@ -219,7 +219,9 @@ fn sound_streams_end_with_the_end_line(rt: HostRuntime) -> Result<(), Fail> {
 #[test]
 fn damaged_streams_end_with_a_fault_line(rt: HostRuntime) -> Result<(), Fail> {
     for (parts, text) in DAMAGED {
-        delivered(&rt, &replay_parts(rt.alloc(), parts, calm(4096))?, 3, text);
+        for piece in [1, 7, 4096] {
+            delivered(&rt, &replay_parts(rt.alloc(), parts, calm(piece))?, 3, text);
+        }
     }
     Ok(())
 }
