@@ -3,6 +3,7 @@ pub mod Pieces
 pub mod Replay
 pub mod Status
 pub mod Words
+pub mod Report
 pub mod Owed
 pub mod Ahead
 pub mod Chain

@@ -3,7 +3,9 @@
 
 mod edges;
 mod held;
+mod job;
 pub mod laws;
+pub mod promises;
 mod replaying;
 mod status;
 mod telling;
