@@ -1,5 +1,8 @@
 pub mod Account
 pub mod Kept
+pub mod Limits
 pub mod Memory
 pub mod Outside
+pub mod Refusal
 pub mod Room
+pub mod Score
