@@ -1,6 +1,5 @@
 pub mod Account
 pub mod Kept
-pub mod Limits
 pub mod Memory
 pub mod Outside
 pub mod Refusal

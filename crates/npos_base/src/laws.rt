@@ -1,15 +1,10 @@
-//! What holds of accounts, scores and limits. Each law is the contract of a function that does nothing.
-ghost use Rattle.std.specs.Prelude.{◌≡◌, ◌↔◌, [], ◌∷◌, IsTrue, true, false};
+//! What holds of accounts and scores. Each law is the contract of a function that does nothing.
+ghost use Rattle.std.specs.Prelude.{◌≡◌, ◌↔◌, IsTrue, true, false};
 ghost use Rattle.std.specs.Ordering.{nat_cmp, is_eq};
 ghost use Rattle.std.specs.Cmp.Lexicographic.{slice_cmp};
 ghost use Rattle.npos_base.specs.Account.{account_bytes, account_of, account_cmp, same_account};
-ghost use Rattle.npos_base.specs.Limits.{most_nominations, most_targets, most_voters, most_seats, most_thresholds, most_endowments, most_solution_bytes, most_queued, most_past_eras, whole_fraction};
 ghost use Rattle.npos_base.specs.Score.{is_better};
 
-use crate::limits::{
-    MOST_ENDOWMENTS, MOST_NOMINATIONS, MOST_PAST_ERAS, MOST_QUEUED, MOST_SEATS,
-    MOST_SOLUTION_BYTES, MOST_TARGETS, MOST_THRESHOLDS, MOST_VOTERS, WHOLE_FRACTION,
-};
 use crate::{AccountId, Score};
 
 /// Reading an account from bytes and writing it gives the bytes back.
@@ -72,22 +67,4 @@ pub fn scores_that_tie_are_equal(a: &Score, b: &Score)
 {
     let _a = *a;
     let _b = *b;
-}
-
-/// The limits that code keeps are those that contracts cite.
-pub fn limits_are_what_contracts_cite() -> [u64; 10]
-    ensures { result ≡ most_nominations ∷ most_targets ∷ most_voters ∷ most_seats ∷ most_thresholds ∷ most_endowments ∷ most_solution_bytes ∷ most_queued ∷ most_past_eras ∷ whole_fraction ∷ [] }
-{
-    [
-        MOST_NOMINATIONS as u64,
-        MOST_TARGETS as u64,
-        MOST_VOTERS as u64,
-        u64::from(MOST_SEATS),
-        u64::from(MOST_THRESHOLDS),
-        u64::from(MOST_ENDOWMENTS),
-        u64::from(MOST_SOLUTION_BYTES),
-        u64::from(MOST_QUEUED),
-        u64::from(MOST_PAST_ERAS),
-        u64::from(WHOLE_FRACTION),
-    ]
 }

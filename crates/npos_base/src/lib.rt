@@ -17,7 +17,8 @@ pub use account::AccountId;
 pub use figures::{Edge, Score, part_of};
 pub use limits::{
     MOST_ENDOWMENTS, MOST_NOMINATIONS, MOST_PAST_ERAS, MOST_QUEUED, MOST_SEATS,
-    MOST_SOLUTION_BYTES, MOST_TARGETS, MOST_THRESHOLDS, MOST_VOTERS, WHOLE_FRACTION,
+    MOST_SOLUTION_BYTES, MOST_TARGETS, MOST_THRESHOLDS, MOST_VALIDATORS, MOST_VOTERS,
+    WHOLE_FRACTION,
 };
 pub use list::List;
 pub use memory::{MemorySink, MemorySource};

@@ -1,10 +1,13 @@
-//! The limits that several crates keep. The law `limits_are_what_contracts_cite` ties each to its word in contracts.
+//! The limits that several crates keep, each named once. Contracts and definitions cite them by these names.
 
 /// Validators that one nominator names, and votes of one voter.
 pub const MOST_NOMINATIONS: usize = 16;
 
-/// Validators, and targets of a snapshot.
-pub const MOST_TARGETS: usize = 2048;
+/// Validators that there are at a time.
+pub const MOST_VALIDATORS: usize = 2048;
+
+/// Targets of a snapshot. Each validator can be one.
+pub const MOST_TARGETS: usize = MOST_VALIDATORS;
 
 /// Voters of a snapshot.
 pub const MOST_VOTERS: usize = 16_384;

@@ -48,7 +48,6 @@ fn each_law_is_called(_rt: HostRuntime) {
     laws::no_score_is_better_than_itself(&score);
     laws::better_than_a_better_score_is_better(&score, &score, &score);
     laws::scores_that_tie_are_equal(&score, &score);
-    let _limits = laws::limits_are_what_contracts_cite();
 }
 
 #[test]

@@ -1,5 +1,6 @@
 //! The bags, after Substrate's bags-list pallet: accounts by coarse score, so that no list is ever sorted.
 ghost use Rattle.std.specs.Prelude.{◌≡◌, ◌≢◌, ◌≤◌, [], ◌∷◌, length, IsTrue, Some, None, Ok, IfOk, OnOk, OnErr, not, true, false, slice_get};
+ghost use Rattle.npos_base.specs.declared.limits.TheConstants.{MOST_THRESHOLDS};
 ghost use Rattle.npos_base.specs.Refusal.{Meets};
 ghost use Rattle.voter_lists.specs.declared.refusal.ListRefusal.TheVariants as refusals;
 ghost use Rattle.voter_lists.specs.Bags.{Listing, IsRisingFrom, bag_of, is_listed, walk, account_after, inserted, removed, moved, updated, is_at_home, rebag_refusal, put_in_front, put_in_front_refusal};
@@ -37,7 +38,7 @@ impl Model for Bags {
 impl Bags {
     /// Empty bags, one more than there are thresholds.
     pub fn new(alloc: Global, thresholds: List<u64>) -> Result<Bags, NoMemory>
-        requires few { length thresholds ≤ 200 }
+        requires few { length thresholds ≤ MOST_THRESHOLDS }
         requires rising { IsRisingFrom 0 thresholds }
         ensures { IfOk result (λ bags. bags ≡ record { thresholds = thresholds; order = [] }) }
     {

@@ -2,6 +2,7 @@
 ghost use Rattle.std.specs.Prelude.{◌≡◌, ◌≢◌, ◌<◌, ◌≤◌, [], ◌∷◌, length, Some, slice_get};
 ghost use Rattle.std.specs.List.{list_any};
 ghost use Rattle.npos_base.specs.Account.{account_cmp};
+ghost use Rattle.npos_base.specs.declared.limits.TheConstants.{MOST_VALIDATORS};
 ghost use Rattle.npos_base.specs.Refusal.{Meets, answer_of};
 ghost use Rattle.voter_lists.specs.declared.refusal.ListRefusal.TheVariants as refusals;
 ghost use Rattle.voter_lists.specs.Roles.{role_of, nominated_by, validators_of, is_validator, KeepsOthers, has_repeat, is_no_target, nominate_refusal, nominated, validate_refusal, validating, chill_refusal, without_role};
@@ -9,17 +10,10 @@ ghost use Rattle.voter_lists.specs.Roles.{role_of, nominated_by, validators_of, 
 use crate::ListRefusal;
 use crate::ranks::{enter, leave};
 use crate::standing::{Role, Standing};
-use npos_base::{AccountId, List};
+use npos_base::{AccountId, List, MOST_NOMINATIONS, MOST_VALIDATORS, WHOLE_FRACTION};
 use std::alloc::Global;
 use std::collections::BTreeMap;
 use std::marker::Model;
-
-/// The most validators that there are at a time.
-const MOST_VALIDATORS: usize = 2048;
-/// The most targets of one nominator.
-const MOST_TARGETS: usize = 16;
-/// The whole, in billionths.
-const BILLION: u32 = 1_000_000_000;
 
 /// Who is a validator and who a nominator. Contracts see the list of accounts with their standings, by rising account.
 #[derive(Drop)]
@@ -67,7 +61,7 @@ impl Roles {
         ensures meets { Meets refusals.NoMemory (validate_refusal self.old who commission) (validating self.old who commission) self.old self.new result }
         ensures others { KeepsOthers self.old self.new who }
     {
-        if commission > BILLION {
+        if commission > WHOLE_FRACTION {
             return Err(ListRefusal::BadFraction);
         }
         if !self.is_validator(who) && self.validators.len() >= MOST_VALIDATORS {
@@ -120,7 +114,7 @@ impl Roles {
     /// How many validators there are, at most 2,048.
     pub fn validator_count(&self) -> usize
         ensures count { result ≡ length (validators_of self.now) }
-        ensures most { result ≤ 2048 }
+        ensures most { result ≤ MOST_VALIDATORS }
     {
         self.validators.len()
     }
@@ -146,7 +140,7 @@ impl Roles {
         if targets.is_empty() {
             return Err(ListRefusal::NoTargets);
         }
-        if targets.len() > MOST_TARGETS {
+        if targets.len() > MOST_NOMINATIONS {
             return Err(ListRefusal::TooManyTargets);
         }
         if repeats(targets) {
