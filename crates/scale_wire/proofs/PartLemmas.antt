@@ -15,7 +15,7 @@ use Rattle.npos_base.specs.Account.{account_bytes, account_of}
 use Rattle.npos_base.specs.declared.account.AccountId.{AccountId}
 use Rattle.scale_wire.specs.AccountLaws.{fits_account, account_is}
 use Rattle.scale_wire.specs.PartLaws.{passed, applied, not_lacking}
-use Rattle.scale_wire.specs.CompactWriting.{Suits}
+use Rattle.scale_wire.specs.CompactRange.{Suits}
 use Rattle.scale_wire.specs.CompactLaws.{compact_part, too_many}
 
 -- the bytes that were taken are a number

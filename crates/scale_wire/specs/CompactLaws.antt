@@ -12,9 +12,10 @@ use Rattle.scale_wire.specs.Refusal.{first_reason, lacks}
 use Rattle.scale_wire.specs.Compact.{Mode, OneByte, TwoBytes, FourBytes, Big, mode_of, announced, bytes_in, number_in, announces_over, is_longer_in, least_bytes, compact_bytes, compact_reasons, compact_refusal}
 use Rattle.scale_wire.specs.Parts.{compact_form, length_form, length_refusal, compact_u16, compact_u32, compact_u64}
 use Rattle.scale_wire.specs.PartLaws.{IsHead, IsPart, part_laws, none_applies, one_applies, passed, applied, not_lacking}
-use Rattle.scale_wire.specs.CompactSpelling.{compact_one, compact_two, compact_four, compact_big, least_bytes_is}
-use Rattle.scale_wire.specs.CompactReading.{from_width, from_shortest, from_whole, from_announced, kept_from, kept_to, spelled_in}
-use Rattle.scale_wire.specs.CompactWriting.{Suits, gives_back}
+use Rattle.scale_wire.specs.CompactSpellingLaws.{compact_one, compact_two, compact_four, compact_big, least_bytes_is}
+use Rattle.scale_wire.specs.CompactReadingLaws.{from_width, from_shortest, from_whole, from_announced, kept_from, kept_to, spelled_in}
+use Rattle.scale_wire.specs.CompactWritingLaws.{gives_back}
+use Rattle.scale_wire.specs.CompactRange.{Suits}
 
 -- ## More bytes behind
 

@@ -3,7 +3,7 @@ ghost use Rattle.std.specs.Prelude.{◌≡◌, ◌≢◌, ℕ, ◌+◌, ◌^◌,
 ghost use Rattle.scale_wire.specs.Form.{IsBytes};
 ghost use Rattle.scale_wire.specs.Reading.{Takes, IsRead, IsFault};
 ghost use Rattle.scale_wire.specs.Parts.{fixed_u8, fixed_u32, fixed_u128, byte_string, tag_form, compact_form, compact_u16, compact_u32, compact_u64, length_form, account_form};
-ghost use Rattle.scale_wire.specs.CompactWriting.{Suits};
+ghost use Rattle.scale_wire.specs.CompactRange.{Suits};
 
 use crate::compact::read_compact;
 use crate::fault::{Why, WireFault};

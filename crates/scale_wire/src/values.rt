@@ -100,7 +100,8 @@ impl Wire for Fixed {
 
 /// The fields in order: the minimal support and the sum as compact integers, the squares in sixteen bytes.
 impl Wire for Score {
-    ghost use Rattle.scale_wire.specs.Values.{score_form, score_laws};
+    ghost use Rattle.scale_wire.specs.Values.{score_form};
+    ghost use Rattle.scale_wire.specs.ValueLaws.{score_laws};
 
     ghost form = { score_form };
 
@@ -122,7 +123,8 @@ impl Wire for Score {
 
 /// The fields in order, all as compact integers.
 impl Wire for Edge {
-    ghost use Rattle.scale_wire.specs.Values.{edge_form, edge_laws};
+    ghost use Rattle.scale_wire.specs.Values.{edge_form};
+    ghost use Rattle.scale_wire.specs.ValueLaws.{edge_laws};
 
     ghost form = { edge_form };
 

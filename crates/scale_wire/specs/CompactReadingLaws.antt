@@ -12,7 +12,7 @@ use Rattle.scale_wire.specs.LittleEndianLaws.{little_endian-number_from, number_
 use Rattle.scale_wire.specs.Refusal.{first_reason, lacks}
 use Rattle.scale_wire.specs.Compact.{Mode, OneByte, TwoBytes, FourBytes, Big, mode_numbered, mode_of, bytes_in, number_in, announces_over, is_longer_in, least_bytes, compact_bytes, compact_reasons}
 use Rattle.scale_wire.specs.PartLaws.{none_applies, passed, not_lacking}
-use Rattle.scale_wire.specs.CompactSpelling.{compact_one, compact_two, compact_four, compact_big, least_is}
+use Rattle.scale_wire.specs.CompactSpellingLaws.{compact_one, compact_two, compact_four, compact_big, least_is}
 
 -- ## What bytes are that no reason refuses
 
