@@ -32,12 +32,12 @@ behind_fault head bad old mid new first fault read refused = record {
 -- the second of a pair was refused
 pub pair_err : {A B : Type 0} (a : Form A) (b : Form B) (old mid new : Place) (first : A) (fault : ReadFault) → IsRead a old first mid → Reads b mid (Err fault) new → Reads (pair a b) old (Err fault) old
 pair_err a b old mid new first (Wire fault) read refused = behind_fault a (λ _. b.bad) old mid new first fault read refused
-pair_err a b old mid new first NoMemory read refused = tt
+pair_err a b old mid new first NoMemory read refused = refl
 
 -- what follows the first of a triple was refused
 pub triple_err : {A B C : Type 0} (a : Form A) (b : Form B) (c : Form C) (old mid new : Place) (first : A) (fault : ReadFault) → IsRead a old first mid → Reads (pair b c) mid (Err fault) new → Reads (triple a b c) old (Err fault) old
 triple_err a b c old mid new first (Wire fault) read refused = behind_fault a (λ _. (pair b c).bad) old mid new first fault read refused
-triple_err a b c old mid new first NoMemory read refused = tt
+triple_err a b c old mid new first NoMemory read refused = refl
 
 -- a byte follows the value that was read
 pub bad_whole : {V : Type 0} (form : Form V) (bytes : List ℕ) (value : V) (end : Place) → IsRead form (record { at = 0; rest = bytes }) value end → 0 < length end.rest → BadWhole form bytes end.at Trailing
@@ -87,7 +87,7 @@ optional_err value old here mid new tag (Wire fault) same not_none read refused 
       at_is = refused.at_is;
       unchanged = refused.unchanged;
     })
-optional_err value old here mid new tag NoMemory same not_none read refused = tt
+optional_err value old here mid new tag NoMemory same not_none read refused = refl
 
 -- the first of three was appended, and a front of the second
 pub second_front : (first second third old mid new : List ℕ) → mid ≡ old ++ first → HasFront second mid new → HasFront (first ++ (second ++ third)) old new
@@ -106,7 +106,7 @@ module _ {W : Type 0} (tag_of : W → ℕ) (variants : List (Form W)) where
   tagged_err old here mid new tag (Wire fault) same read refused =
       subst (λ (o : Place). IsFault (tagged tag_of variants) o fault o) same
       (behind_fault (tag_form (length variants)) (λ t. (variant_at variants t).bad) here mid new tag fault read refused)
-  tagged_err old here mid new tag NoMemory same read refused = tt
+  tagged_err old here mid new tag NoMemory same read refused = refl
 
   -- the tag was read, and the fields behind it
   pub tagged_ok : AreVariants tag_of 0 variants → (old here mid new : Place) (tag : ℕ) (value : W) → here ≡ old → IsRead (tag_form (length variants)) here tag mid → IsRead (variant_at variants tag) mid value new → IsRead (tagged tag_of variants) old value new

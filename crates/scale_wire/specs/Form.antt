@@ -3,7 +3,7 @@
 use Rattle.std.specs.Prelude.{◌≡◌, ◌≢◌, ◌⊎◌, ℕ, ◌<◌, ◌≤◌, List, ◌++◌, length, Option, Some}
 use Rattle.std.specs.List.{AllByRecursion}
 use Rattle.scale_wire.specs.declared.fault.Why.{Why}
-use Rattle.scale_wire.specs.declared.fault.Why.TheVariants.{Short}
+use Rattle.scale_wire.specs.declared.fault.Why.TheVariants.{Short, Trailing}
 
 -- a list of bytes
 abbrev pub IsBytes : List ℕ → Type 0
@@ -37,6 +37,7 @@ pub record IsRefused {V : Type 0} (form : Form V) (bytes : List ℕ) : Type 0 wh
 --   covers, exclusive: bytes begin with a spelling or are refused, and never both
 --   one_fault: bytes are refused at one place and for one reason
 --   persists: a refusal stands whatever follows, unless bytes are missing
+--   no_trailing: no part is refused as Trailing; that is for bytes behind a whole value alone
 --   bounded, short: a spelling has at most `longest` bytes, and where bytes are missing there are fewer
 pub record IsWire {V : Type 0} (form : Form V) : Type 0 where
   pub one_reading : (x y : V) (rest more : List ℕ) → form.in_range x → form.in_range y
@@ -44,10 +45,13 @@ pub record IsWire {V : Type 0} (form : Form V) : Type 0 where
   pub covers : (bytes : List ℕ) → IsBytes bytes → Begins form bytes ⊎ IsRefused form bytes
   pub exclusive : (x : V) (rest : List ℕ) (at : ℕ) (why : Why) → form.in_range x
       → form.bad (form.spelling x ++ rest) at why → ⊥
-  pub one_fault : (bytes : List ℕ) (at at' : ℕ) (why why' : Why) → form.bad bytes at why → form.bad bytes at' why'
+  pub one_fault : (bytes : List ℕ) (at at' : ℕ) (why why' : Why)
+      → form.bad bytes at why → form.bad bytes at' why'
       → (at ≡ at') × (why ≡ why')
-  pub persists : (bytes more : List ℕ) (at : ℕ) (why : Why) → IsBytes bytes → why ≢ Short → form.bad bytes at why
+  pub persists : (bytes more : List ℕ) (at : ℕ) (why : Why)
+      → IsBytes bytes → why ≢ Short → form.bad bytes at why
       → form.bad (bytes ++ more) at why
+  pub no_trailing : (bytes : List ℕ) (at : ℕ) → form.bad bytes at Trailing → ⊥
   pub bounded : (x : V) → form.in_range x → length (form.spelling x) ≤ form.longest
   pub short : (bytes : List ℕ) (at : ℕ) → form.bad bytes at Short → length bytes < form.longest
 

@@ -3,7 +3,7 @@ use Rattle.std.specs.Prelude.{◌≡◌, ◌≢◌, ◌⊎◌, ℕ, zero, suc, �
 use Rattle.std.proofs.Common.{sym, ◌∙◌, ap, ap₂, subst, inl, inr, arith, lit<, append_assoc, length-append}
 use Rattle.std.proofs.Math.Nat.{mul-le-mul_right, mod-lt}
 use Rattle.scale_wire.specs.declared.fault.Why.{Why}
-use Rattle.scale_wire.specs.declared.fault.Why.TheVariants.{Short}
+use Rattle.scale_wire.specs.declared.fault.Why.TheVariants.{Short, Trailing}
 use Rattle.scale_wire.specs.Form.{Form, Begins, IsRefused, IsWire, IsBytes}
 use Rattle.scale_wire.specs.Parts.{byte_string, length_form, tag_form}
 use Rattle.scale_wire.specs.Composite.{BadThen, pair, triple, seen, nothing, items, row, IsRow, list, byte_list, optional, optional_bytes, BadOptional, variant, variant_bytes, variant_at, longest_variant, tagged}
@@ -71,6 +71,7 @@ module _ {V W : Type 0} (form : Form V) (of : Form W) (make : W → V) (made : I
         laws.one_fault bytes at at' why why' (made.bad_from bytes at why bad) (made.bad_from bytes at' why' bad');
     persists = λ bytes more at why are_bytes not_short bad.
         made.bad_to (bytes ++ more) at why (laws.persists bytes more at why are_bytes not_short (made.bad_from bytes at why bad));
+    no_trailing = λ bytes at bad. laws.no_trailing bytes at (made.bad_from bytes at Trailing bad);
     bounded = λ x x_fits.
         let from = made.comes x x_fits in
         let bound : length (of.spelling from.0) ≤ of.longest = laws.bounded from.0 from.1 in
@@ -90,6 +91,7 @@ nothing_laws = record {
   exclusive = λ x rest at why x_fits bad. bad;
   one_fault = λ bytes at at' why why' bad bad'. absurd bad;
   persists = λ bytes more at why are_bytes not_short bad. bad;
+  no_trailing = λ bytes at bad. bad;
   bounded = λ x x_fits. omega arith;
   short = λ bytes at bad. absurd bad;
 }
@@ -200,6 +202,13 @@ module _ {A W : Type 0} (head : Form A) (first_of : W → A) (tail : A → Form 
         }
       ]
 
+  followed_no_trailing : (bytes : List ℕ) (at : ℕ) → (followed head first_of tail most).bad bytes at Trailing → ⊥
+  followed_no_trailing bytes at bad =
+      elim bad [
+        | inl here ↦ head_laws.no_trailing bytes at here
+        | inr there ↦ (tail_laws there.first there.in_range).no_trailing there.rest there.place there.refused
+      ]
+
   followed_bounded : (x : W) → (followed head first_of tail most).in_range x → length ((followed head first_of tail most).spelling x) ≤ head.longest + most
   followed_bounded x x_fits =
       let here : length (head.spelling (first_of x)) ≤ head.longest = head_laws.bounded (first_of x) x_fits.0 in
@@ -227,6 +236,7 @@ module _ {A W : Type 0} (head : Form A) (first_of : W → A) (tail : A → Form 
     exclusive = followed_exclusive;
     one_fault = followed_one_fault;
     persists = followed_persists;
+    no_trailing = followed_no_trailing;
     bounded = followed_bounded;
     short = followed_short;
   }

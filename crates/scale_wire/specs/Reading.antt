@@ -37,11 +37,11 @@ abbrev pub Takes : {V : Type 0} → Form V → Place → Result V WireFault → 
 Takes form old (Ok value) new = IsRead form old value new
 Takes form old (Err fault) new = IsFault form old fault new
 
--- a reader that takes memory: want of memory is no fault of the bytes
+-- a reader that takes memory: want of memory is no fault of the bytes, and leaves the cursor where it stood
 abbrev pub Reads : {V : Type 0} → Form V → Place → Result V ReadFault → Place → Type 0
 Reads form old (Ok value) new = IsRead form old value new
 Reads form old (Err (faults.Wire fault)) new = IsFault form old fault new
-Reads form old (Err faults.NoMemory) new = Unit {0}
+Reads form old (Err faults.NoMemory) new = new ≡ old
 
 -- a front of the spelling was appended
 pub record HasFront (spelling old new : List ℕ) : Type 0 where
