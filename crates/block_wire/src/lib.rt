@@ -7,8 +7,10 @@ mod bundle;
 mod call;
 mod genesis;
 pub mod laws;
+mod limits;
 #[cfg(test)]
 mod tests;
+mod writing;
 
 pub use block::Block;
 pub use bundle::{Bundle, BundleVoter, Work};

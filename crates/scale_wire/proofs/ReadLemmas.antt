@@ -1,5 +1,5 @@
 -- What readers and writers answer, where one part stands behind another.
-use Rattle.std.proofs.Common.{◌≡◌, ◌≢◌, ℕ, ◌+◌, ◌<◌, List, [], ◌∷◌, ◌++◌, length, refl, sym, ◌∙◌, ap, ap₂, subst, inr, arith, append_assoc}
+use Rattle.std.proofs.Common.{◌≡◌, ◌≢◌, ℕ, ◌+◌, ◌<◌, List, [], ◌∷◌, ◌++◌, length, refl, sym, ◌∙◌, ap, ap₂, subst, inr, arith, append_assoc, append-nil}
 use Rattle.std.specs.Prelude.{Result, Ok, Err}
 use Rattle.scale_wire.specs.declared.fault.Why.{Why}
 use Rattle.scale_wire.specs.declared.fault.Why.TheVariants.{Trailing}
@@ -96,6 +96,9 @@ second_front first second third old mid new first_is has = front_behind first (s
 pub third_written : {E : Type 0} (first second third old mid next : List ℕ) (result : Result Unit E) (new : List ℕ) → mid ≡ old ++ first → next ≡ mid ++ second → Writes third next result new → Writes (first ++ (second ++ third)) old result new
 third_written first second third old mid next result new first_is second_is written =
     writes_behind first (second ++ third) old mid result new first_is (writes_behind second third mid next result new second_is written)
+
+pub nothing_written : (old : List ℕ) → old ≡ old ++ []
+nothing_written old = sym (append-nil old)
 
 -- ## Enums
 

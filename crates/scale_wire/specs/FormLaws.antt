@@ -504,12 +504,32 @@ module _ (variants : List Fields) (tag_laws : IsWire (tag_form (length variants)
   } (followed_laws (tag_form (length variants)) (λ chosen. chosen.tag) choice_tail (longest_variant variants) tag_laws
       choice_tail_laws (λ tag chosen fits. fits.0) (λ tag below. variant_at_within variants tag))
 
--- An enum whose values and choices are the same by two: `chosen` gives the value of a choice, and `back` says that no
--- other has that choice.
-pub enum_laws : {W : Type 0} (variants : List Fields) (choose : W → Choice variants)
-    → (chosen : (tag : ℕ) (values : (variant_at variants tag).Values) → (w : W) × (choose w ≡ record { tag = tag; values = values }))
-    → ((w : W) → (chosen (choose w).tag (choose w).values).0 ≡ w)
-    → IsWire (tag_form (length variants)) → AreLawful variants → IsWire (seen (choice variants) choose)
-enum_laws variants choose chosen back tag_laws lawful =
-    seen_laws (choice variants) choose (λ c. (chosen c.tag c.values).0) back (λ c. (chosen c.tag c.values).1)
-    (choice_laws variants tag_laws lawful)
+-- Each variant keeps the laws, and each choice of it is given by something.
+abbrev pub AreVariants : (variants : List Fields) → ((tag : ℕ) → (variant_at variants tag).Values → Type 0) → Type 0
+AreVariants [] Given = Unit {0}
+AreVariants (variant ∷ variants) Given =
+    IsWire variant.form × ((values : variant.Values) → Given 0 values) × AreVariants variants (λ tag. Given (suc tag))
+
+variants_lawful : (variants : List Fields) (Given : (tag : ℕ) → (variant_at variants tag).Values → Type 0)
+    → AreVariants variants Given → AreLawful variants
+variants_lawful [] Given are = tt
+variants_lawful (variant ∷ variants) Given are = (are.0, variants_lawful variants (λ tag. Given (suc tag)) are.2)
+
+abbrev pub given_at : (variants : List Fields) (Given : (tag : ℕ) → (variant_at variants tag).Values → Type 0)
+    → AreVariants variants Given → (tag : ℕ) (values : (variant_at variants tag).Values) → Given tag values
+given_at [] Given are tag values = absurd values
+given_at (variant ∷ variants) Given are zero values = are.1 values
+given_at (variant ∷ variants) Given are (suc tag) values = given_at variants (λ t. Given (suc t)) are.2 tag values
+
+-- the value whose choice this is
+abbrev pub HasChoice : {W : Type 0} (variants : List Fields) → (W → Choice variants) → (tag : ℕ) → (variant_at variants tag).Values → Type 0
+HasChoice {W} variants choose tag values = (w : W) × (choose w ≡ record { tag = tag; values = values })
+
+-- An enum has one value for each choice: the one that `are` gives, and by `back` no other.
+pub enum_laws : {W : Type 0} (variants : List Fields) (choose : W → Choice variants) (are : AreVariants variants (HasChoice variants choose))
+    → ((w : W) → (given_at variants (HasChoice variants choose) are (choose w).tag (choose w).values).0 ≡ w)
+    → IsWire (tag_form (length variants)) → IsWire (seen (choice variants) choose)
+enum_laws variants choose are back tag_laws =
+    let given = given_at variants (HasChoice variants choose) are in
+    seen_laws (choice variants) choose (λ c. (given c.tag c.values).0) back (λ c. (given c.tag c.values).1)
+    (choice_laws variants tag_laws (variants_lawful variants (HasChoice variants choose) are))

@@ -6,6 +6,25 @@ use crate::{Cursor, Pen, Wire};
 use npos_base::{AccountId, Edge, NoMemory, Score};
 use std::alloc::Global;
 
+/// Nothing: no byte spells it.
+impl Wire for () {
+    ghost use Rattle.scale_wire.specs.Composite.{nothing};
+    ghost use Rattle.scale_wire.specs.FormLaws.{nothing_laws};
+
+    ghost form = { nothing };
+
+    ghost laws = { nothing_laws };
+
+    #[tactic(auto, using(crate::proofs::ReadLemmas::nothing_written))]
+    fn write(&self, _pen: &mut Pen) -> Result<(), NoMemory> {
+        Ok(())
+    }
+
+    fn read(_alloc: Global, _cursor: &mut Cursor<'_>) -> Result<(), ReadFault> {
+        Ok(())
+    }
+}
+
 impl Wire for u16 {
     ghost use Rattle.scale_wire.specs.Parts.{compact_u16};
     ghost use Rattle.scale_wire.specs.CompactLaws.{compact_u16_laws};
