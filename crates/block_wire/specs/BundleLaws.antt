@@ -26,14 +26,20 @@ voter_laws =
 
 abbrev works_are : AreVariants works (HasChoice works work_choice)
 works_are = (
-  nothing_laws, (λ values. (Nothing, refl)),
-  (pair_laws score_form (byte_list most_solution_bytes) score_laws
-      (byte_list_laws most_solution_bytes (length_laws most_solution_bytes (lit< tt)) byte_string_laws),
-      (λ values. (Packed values.0 values.1, refl)),
-  (pair_laws (list compact_u16 most_targets) (list edge_form most_edges)
-      (list_laws compact_u16 most_targets (length_laws most_targets (lit< tt)) compact_u16_laws)
-      (list_laws edge_form most_edges (length_laws most_edges (lit< tt)) edge_laws),
-      (λ values. (Plain values.0 values.1, refl)), tt)),
+  nothing_laws,
+  (λ values. (Nothing, refl)),
+  (
+    pair_laws score_form (byte_list most_solution_bytes) score_laws
+        (byte_list_laws most_solution_bytes (length_laws most_solution_bytes (lit< tt)) byte_string_laws),
+    (λ values. (Packed values.0 values.1, refl)),
+    (
+      pair_laws (list compact_u16 most_targets) (list edge_form most_edges)
+          (list_laws compact_u16 most_targets (length_laws most_targets (lit< tt)) compact_u16_laws)
+          (list_laws edge_form most_edges (length_laws most_edges (lit< tt)) edge_laws),
+      (λ values. (Plain values.0 values.1, refl)),
+      tt,
+    ),
+  ),
 )
 
 work_back : (work : Work) → (given_at works (HasChoice works work_choice) works_are (work_choice work).tag (work_choice work).values).0 ≡ work

@@ -1,6 +1,7 @@
 -- Bundles: an election, and the work that was done on it.
 use Rattle.std.specs.Prelude.{ℕ, List, [], ◌∷◌}
 use Rattle.npos_base.specs.declared.account.AccountId.{AccountId}
+use Rattle.npos_base.specs.declared.figures.Edge.{Edge}
 use Rattle.scale_wire.specs.Form.{Form}
 use Rattle.scale_wire.specs.Parts.{account_form, compact_u16, compact_u32, compact_u64}
 use Rattle.scale_wire.specs.Values.{edge_form, score_form}
@@ -12,17 +13,22 @@ use Rattle.block_wire.specs.declared.bundle.Work.{Work}
 use Rattle.block_wire.specs.declared.bundle.Work.TheVariants.{Nothing, Packed, Plain}
 
 abbrev pub voter_form : Form BundleVoter
-voter_form =
-    seen (triple account_form compact_u64 (list compact_u16 most_votes)) (λ voter. (voter.account, voter.stake, voter.votes))
+voter_form = seen
+    (triple account_form compact_u64 (list compact_u16 most_votes))
+    (λ voter. (voter.account, voter.stake, voter.votes))
 
 -- ## Work
+
+-- a committee, as positions of targets, and its edges
+abbrev pub plain_form : Form (List ℕ × List Edge)
+plain_form = pair (list compact_u16 most_targets) (list edge_form most_edges)
 
 -- the fields of each kind of work, in the order of the tags from 0
 abbrev pub works : List Fields
 works =
     fields nothing
     ∷ fields (pair score_form (byte_list most_solution_bytes))
-    ∷ fields (pair (list compact_u16 most_targets) (list edge_form most_edges))
+    ∷ fields plain_form
     ∷ []
 
 abbrev pub work_choice : Work → Choice works
@@ -40,4 +46,6 @@ abbrev pub election_form : Form (List AccountId × List BundleVoter × Work)
 election_form = triple (list account_form most_targets) (list voter_form most_voters) work_form
 
 abbrev pub bundle_form : Form Bundle
-bundle_form = seen (pair compact_u32 election_form) (λ bundle. (bundle.seats, (bundle.targets, bundle.voters, bundle.work)))
+bundle_form = seen
+    (pair compact_u32 election_form)
+    (λ bundle. (bundle.seats, (bundle.targets, bundle.voters, bundle.work)))

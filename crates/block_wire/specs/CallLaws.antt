@@ -31,23 +31,65 @@ solution_laws = byte_list_laws most_solution_bytes (length_laws most_solution_by
 -- Each kind keeps the laws, and is given by its tag and its fields.
 abbrev kinds_are : AreVariants kinds (HasChoice kinds kind_choice)
 kinds_are = (
-  pair_laws account_form compact_u64 account_laws compact_u64_laws, (λ values. (Transfer values.0 values.1, refl)),
-  (compact_u64_laws, (λ values. (Bond values, refl)),
-  (compact_u64_laws, (λ values. (BondExtra values, refl)),
-  (compact_u64_laws, (λ values. (Unbond values, refl)),
-  (compact_u64_laws, (λ values. (Rebond values, refl)),
-  (nothing_laws, (λ values. (Withdraw, refl)),
-  (named_laws, (λ values. (Nominate values, refl)),
-  (compact_u32_laws, (λ values. (Validate values, refl)),
-  (nothing_laws, (λ values. (Chill, refl)),
-  (account_laws, (λ values. (Rebag values, refl)),
-  (account_laws, (λ values. (PutInFront values, refl)),
-  (triple_laws compact_u32 score_form (byte_list most_solution_bytes) compact_u32_laws score_laws solution_laws,
-      (λ values. (Submit values.0 values.1 values.2, refl)),
-  (points_laws, (λ values. (Points values, refl)),
-  (pair_laws compact_u32 account_form compact_u32_laws account_laws, (λ values. (Payout values.0 values.1, refl)),
-  (triple_laws compact_u32 account_form compact_u32 compact_u32_laws account_laws compact_u32_laws,
-      (λ values. (Offence values.0 values.1 values.2, refl)), tt)))))))))))))),
+  pair_laws account_form compact_u64 account_laws compact_u64_laws,
+  (λ values. (Transfer values.0 values.1, refl)),
+  (
+    compact_u64_laws,
+    (λ values. (Bond values, refl)),
+    (
+      compact_u64_laws,
+      (λ values. (BondExtra values, refl)),
+      (
+        compact_u64_laws,
+        (λ values. (Unbond values, refl)),
+        (
+          compact_u64_laws,
+          (λ values. (Rebond values, refl)),
+          (
+            nothing_laws,
+            (λ values. (Withdraw, refl)),
+            (
+              named_laws,
+              (λ values. (Nominate values, refl)),
+              (
+                compact_u32_laws,
+                (λ values. (Validate values, refl)),
+                (
+                  nothing_laws,
+                  (λ values. (Chill, refl)),
+                  (
+                    account_laws,
+                    (λ values. (Rebag values, refl)),
+                    (
+                      account_laws,
+                      (λ values. (PutInFront values, refl)),
+                      (
+                        triple_laws compact_u32 score_form (byte_list most_solution_bytes) compact_u32_laws score_laws solution_laws,
+                        (λ values. (Submit values.0 values.1 values.2, refl)),
+                        (
+                          points_laws,
+                          (λ values. (Points values, refl)),
+                          (
+                            pair_laws compact_u32 account_form compact_u32_laws account_laws,
+                            (λ values. (Payout values.0 values.1, refl)),
+                            (
+                              triple_laws compact_u32 account_form compact_u32 compact_u32_laws account_laws compact_u32_laws,
+                              (λ values. (Offence values.0 values.1 values.2, refl)),
+                              tt,
+                            ),
+                          ),
+                        ),
+                      ),
+                    ),
+                  ),
+                ),
+              ),
+            ),
+          ),
+        ),
+      ),
+    ),
+  ),
 )
 
 -- no other kind has that tag and these fields

@@ -48,7 +48,8 @@ kind_choice (PutInFront lighter) = record { tag = 10; values = lighter }
 kind_choice (Submit round claim bytes) = record { tag = 11; values = (round, claim, bytes) }
 kind_choice (Points items) = record { tag = 12; values = items }
 kind_choice (Payout era validator) = record { tag = 13; values = (era, validator) }
-kind_choice (Offence era validator fraction) = record { tag = 14; values = (era, validator, fraction) }
+kind_choice (Offence era validator fraction) =
+    record { tag = 14; values = (era, validator, fraction) }
 
 abbrev pub kind_form : Form CallKind
 kind_form = seen (choice kinds) kind_choice
@@ -59,4 +60,5 @@ abbrev pub call_form : Form Call
 call_form = seen (pair account_form kind_form) (λ call. (call.who, call.kind))
 
 abbrev pub block_form : Form Block
-block_form = seen (pair compact_u32 (list call_form most_calls)) (λ block. (block.number, block.calls))
+block_form =
+    seen (pair compact_u32 (list call_form most_calls)) (λ block. (block.number, block.calls))

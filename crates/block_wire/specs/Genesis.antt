@@ -11,17 +11,22 @@ use Rattle.block_wire.specs.declared.genesis.Genesis.{Genesis}
 use Rattle.block_wire.specs.declared.genesis.Genesis.TheVariants.{Plain, Full}
 
 abbrev pub endowment_form : Form Endowment
-endowment_form = seen (pair account_form compact_u64) (λ endowment. (endowment.who, endowment.value))
+endowment_form =
+    seen (pair account_form compact_u64) (λ endowment. (endowment.who, endowment.value))
 
 -- ## The parameters
 
--- The fields in order. Up to the thresholds: the root and the seats, the phases of an era, and bonding.
+-- The fields in order. Up to the thresholds: the root and the seats, the phases of an era, and
+-- bonding.
 abbrev pub Head : Type 0
 Head = (AccountId × ℕ) × (ℕ × ℕ × ℕ) × (ℕ × ℕ)
 
 abbrev pub head_form : Form Head
 head_form =
-    triple (pair account_form compact_u32) (triple compact_u32 compact_u32 compact_u32) (pair compact_u32 compact_u64)
+    triple
+    (pair account_form compact_u32)
+    (triple compact_u32 compact_u32 compact_u32)
+    (pair compact_u32 compact_u64)
 
 -- behind the thresholds: submissions, and what is paid
 abbrev pub Tail : Type 0
@@ -49,9 +54,12 @@ params_form = seen (triple head_form (list compact_u64 most_thresholds) tail_for
 abbrev pub endowments_form : Form (List Endowment)
 endowments_form = list endowment_form most_endowments
 
+abbrev pub full_form : Form (List Endowment × Params)
+full_form = pair endowments_form params_form
+
 -- the fields of the two kinds of genesis: without elections, and with them
 abbrev pub geneses : List Fields
-geneses = fields endowments_form ∷ fields (pair endowments_form params_form) ∷ []
+geneses = fields endowments_form ∷ fields full_form ∷ []
 
 abbrev pub genesis_choice : Genesis → Choice geneses
 genesis_choice (Plain endowments) = record { tag = 0; values = endowments }

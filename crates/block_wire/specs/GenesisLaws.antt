@@ -59,7 +59,8 @@ endowments_laws = list_laws endowment_form most_endowments (length_laws most_end
 
 abbrev geneses_are : AreVariants geneses (HasChoice geneses genesis_choice)
 geneses_are = (
-  endowments_laws, (λ values. (Plain values, refl)),
+  endowments_laws,
+  (λ values. (Plain values, refl)),
   (pair_laws endowments_form params_form endowments_laws params_laws, (λ values. (Full values.0 values.1, refl)), tt),
 )
 

@@ -1,4 +1,5 @@
--- How long the lists of a stream and of a bundle are at most. `limits.rt` names the same numbers for code.
+-- How long the lists of a stream and of a bundle are at most. `limits.rt` names the same numbers
+-- for code.
 use Rattle.std.specs.Prelude.{ℕ}
 
 -- calls of a block

@@ -1,16 +1,13 @@
 //! Bundles: an election as one value, with the work that was done on it.
 ghost use Rattle.std.specs.Prelude.{◌<◌, ◌∷◌};
 ghost use Rattle.scale_wire.specs.Reading.{Reads, Writes};
-ghost use Rattle.scale_wire.specs.Values.{edge_form};
-ghost use Rattle.scale_wire.specs.Parts.{compact_u16};
-ghost use Rattle.scale_wire.specs.Composite.{pair, list, behind_tag};
-ghost use Rattle.block_wire.specs.Limits.{most_targets, most_edges};
-ghost use Rattle.block_wire.specs.Bundles.{works, work_choice, work_form};
+ghost use Rattle.scale_wire.specs.Composite.{behind_tag};
+ghost use Rattle.block_wire.specs.Bundles.{plain_form, works, work_choice, work_form};
 
-use npos_base::{AccountId, Edge, List, NoMemory, Score};
-use scale_wire::fault::ReadFault;
 use crate::limits::{MOST_EDGES, MOST_SOLUTION_BYTES, MOST_TARGETS, MOST_VOTERS, MOST_VOTES};
 use crate::writing::{write_fields, write_listed, write_packed};
+use npos_base::{AccountId, Edge, List, NoMemory, Score};
+use scale_wire::fault::ReadFault;
 use scale_wire::{BytesUpTo, Cursor, Pen, UpTo, Wire, write_list};
 use std::alloc::Global;
 
@@ -37,7 +34,9 @@ impl Wire for BundleVoter {
     }
 
     fn read(alloc: Global, cursor: &mut Cursor<'_>) -> Result<BundleVoter, ReadFault> {
-        let (account, stake, votes) = <(AccountId, u64, UpTo<u16, MOST_VOTES>)>::read(alloc, cursor)?;
+        let (account, stake, votes) = <(AccountId, u64, UpTo<u16, MOST_VOTES>)>::read(
+            alloc, cursor,
+        )?;
         Ok(BundleVoter {
             account,
             stake,
@@ -122,16 +121,17 @@ type Committee = UpTo<u16, MOST_TARGETS>;
 
 type Edges = UpTo<Edge, MOST_EDGES>;
 
-#[tactic(auto, using(scale_wire::proofs::ReadLemmas::front_more, scale_wire::proofs::ReadLemmas::writes_behind))]
+#[tactic(auto, using(scale_wire::proofs::ReadLemmas::writes_behind))]
 fn write_plain(committee: &List<u16>, edges: &List<Edge>, pen: &mut Pen) -> Result<(), NoMemory>
-    requires { (pair (list compact_u16 most_targets) (list edge_form most_edges)).in_range (committee.now, edges.now) }
-    ensures { Writes (2 ∷ (pair (list compact_u16 most_targets) (list edge_form most_edges)).spelling (committee.now, edges.now)) pen.old result pen.new }
+    requires { plain_form.in_range (committee.now, edges.now) }
+    ensures { Writes (2 ∷ plain_form.spelling (committee.now, edges.now)) pen.old result pen.new }
 {
     write_listed(2, committee, pen)?;
     write_list(edges, pen)
 }
 
-/// An election: how many seats there are, the targets, the voters, and the work that was done on it.
+/// An election: how many seats there are, the targets, the voters, and the work that was done on
+/// it.
 #[derive(Debug, Drop)]
 pub struct Bundle {
     pub seats: u32,
@@ -141,7 +141,11 @@ pub struct Bundle {
 }
 
 // The targets, the voters and the work.
-type Election = (UpTo<AccountId, MOST_TARGETS>, UpTo<BundleVoter, MOST_VOTERS>, Work);
+type Election = (
+    UpTo<AccountId, MOST_TARGETS>,
+    UpTo<BundleVoter, MOST_VOTERS>,
+    Work,
+);
 
 impl Wire for Bundle {
     ghost use Rattle.block_wire.specs.Bundles.{bundle_form};

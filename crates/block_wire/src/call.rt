@@ -4,10 +4,10 @@ ghost use Rattle.scale_wire.specs.Reading.{Reads, Writes};
 ghost use Rattle.scale_wire.specs.Composite.{behind_tag};
 ghost use Rattle.block_wire.specs.Calls.{kinds, kind_choice, kind_form};
 
-use npos_base::{AccountId, List, NoMemory, Score};
-use scale_wire::fault::ReadFault;
 use crate::limits::{MOST_NAMED, MOST_POINTS, MOST_SOLUTION_BYTES};
 use crate::writing::{write_fields, write_listed, write_packed};
+use npos_base::{AccountId, List, NoMemory, Score};
+use scale_wire::fault::ReadFault;
 use scale_wire::{BytesUpTo, Cursor, Pen, UpTo, Wire, write_both};
 use std::alloc::Global;
 
@@ -36,7 +36,8 @@ impl Wire for Call {
     }
 }
 
-/// What is asked, after the calls of Substrate's staking, bags list and election pallets. Amounts are in units.
+/// What is asked, after the calls of Substrate's staking, bags list and election pallets. Amounts
+/// are in units.
 #[derive(Debug, Drop)]
 pub enum CallKind {
     /// Moves free units to another account.
@@ -95,7 +96,8 @@ pub enum CallKind {
         era: u32,
         validator: AccountId,
     },
-    /// Reports a member of an era, for a part of its exposure in parts of a billion; for the root alone.
+    /// Reports a member of an era, for a part of its exposure in parts of a billion; for the root
+    /// alone.
     Offence {
         era: u32,
         validator: AccountId,
@@ -203,7 +205,11 @@ fn read_fields(alloc: Global, tag: u8, cursor: &mut Cursor<'_>) -> Result<CallKi
         11 => {
             let (round, claim, bytes) = <(u32, Score, Solution)>::read(alloc, cursor)?;
             let bytes = bytes.into_list();
-            Ok(CallKind::Submit { round, claim, bytes })
+            Ok(CallKind::Submit {
+                round,
+                claim,
+                bytes,
+            })
         }
         12 => {
             let items = <UpTo<(AccountId, u32), MOST_POINTS>>::read(alloc, cursor)?.into_list();
@@ -215,7 +221,11 @@ fn read_fields(alloc: Global, tag: u8, cursor: &mut Cursor<'_>) -> Result<CallKi
         }
         _ => {
             let (era, validator, fraction) = <(u32, AccountId, u32)>::read(alloc, cursor)?;
-            Ok(CallKind::Offence { era, validator, fraction })
+            Ok(CallKind::Offence {
+                era,
+                validator,
+                fraction,
+            })
         }
     }
 }

@@ -1,13 +1,13 @@
 //! How a chain begins: the endowments, and the parameters of its elections.
 ghost use Rattle.std.specs.Prelude.{◌<◌, ◌∷◌};
 ghost use Rattle.scale_wire.specs.Reading.{Reads, Writes};
-ghost use Rattle.scale_wire.specs.Composite.{pair, behind_tag};
-ghost use Rattle.block_wire.specs.Genesis.{endowments_form, params_form, geneses, genesis_choice, genesis_form};
+ghost use Rattle.scale_wire.specs.Composite.{behind_tag};
+ghost use Rattle.block_wire.specs.Genesis.{full_form, geneses, genesis_choice, genesis_form};
 
-use npos_base::{AccountId, List, NoMemory};
-use scale_wire::fault::ReadFault;
 use crate::limits::{MOST_ENDOWMENTS, MOST_THRESHOLDS};
 use crate::writing::write_listed;
+use npos_base::{AccountId, List, NoMemory};
+use scale_wire::fault::ReadFault;
 use scale_wire::{Cursor, Pen, UpTo, Wire, write_list};
 use std::alloc::Global;
 
@@ -36,7 +36,8 @@ impl Wire for Endowment {
     }
 }
 
-/// The parameters of the elections, as the staking and election pallets of Substrate take them at genesis.
+/// The parameters of the elections, as the staking and election pallets of Substrate take them at
+/// genesis.
 #[derive(Debug, Drop)]
 pub struct Params {
     /// The account that gives points and reports offences.
@@ -91,7 +92,9 @@ impl Wire for Params {
     }
 
     fn read(alloc: Global, cursor: &mut Cursor<'_>) -> Result<Params, ReadFault> {
-        let (head, thresholds, tail) = <(Head, UpTo<u64, MOST_THRESHOLDS>, Tail)>::read(alloc, cursor)?;
+        let (head, thresholds, tail) = <(Head, UpTo<u64, MOST_THRESHOLDS>, Tail)>::read(
+            alloc, cursor,
+        )?;
         let ((root, seats), (era_blocks, offset, signed), (bonding_eras, least_bond)) = head;
         let ((queue, solution_max, deposit), (reward, era_reward)) = tail;
         Ok(Params {
@@ -175,10 +178,10 @@ fn read_fields(alloc: Global, tag: u8, cursor: &mut Cursor<'_>) -> Result<Genesi
     }
 }
 
-#[tactic(auto, using(scale_wire::proofs::ReadLemmas::front_more, scale_wire::proofs::ReadLemmas::writes_behind))]
+#[tactic(auto, using(scale_wire::proofs::ReadLemmas::writes_behind))]
 fn write_full(endowments: &List<Endowment>, params: &Params, pen: &mut Pen) -> Result<(), NoMemory>
-    requires { (pair endowments_form params_form).in_range (endowments.now, params.now) }
-    ensures { Writes (1 ∷ (pair endowments_form params_form).spelling (endowments.now, params.now)) pen.old result pen.new }
+    requires { full_form.in_range (endowments.now, params.now) }
+    ensures { Writes (1 ∷ full_form.spelling (endowments.now, params.now)) pen.old result pen.new }
 {
     write_listed(1, endowments, pen)?;
     params.write(pen)

@@ -1,5 +1,5 @@
-//! What a stream of blocks is made of: the genesis, the blocks and their calls, each as a type with its one spelling in
-//! SCALE.
+//! What a stream of blocks is made of: the genesis, the blocks and their calls, each as a type with
+//! its one spelling in SCALE.
 #![tactic(auto)]
 
 mod block;

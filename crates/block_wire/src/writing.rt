@@ -9,7 +9,7 @@ use npos_base::{List, NoMemory};
 use scale_wire::{Pen, Wire, write_bytes, write_list, write_tag};
 
 // A variant with these fields.
-#[tactic(auto, using(scale_wire::proofs::ReadLemmas::front_more, scale_wire::proofs::ReadLemmas::writes_behind))]
+#[tactic(auto, using(scale_wire::proofs::ReadLemmas::writes_behind))]
 pub(crate) fn write_fields<T: Wire>(tag: u8, fields: &T, pen: &mut Pen) -> Result<(), NoMemory>
     requires { T.form.in_range fields.now }
     ensures { Writes (tag ∷ T.form.spelling fields.now) pen.old result pen.new }
@@ -19,7 +19,7 @@ pub(crate) fn write_fields<T: Wire>(tag: u8, fields: &T, pen: &mut Pen) -> Resul
 }
 
 // A variant with one field, a list.
-#[tactic(auto, using(scale_wire::proofs::ReadLemmas::front_more, scale_wire::proofs::ReadLemmas::writes_behind))]
+#[tactic(auto, using(scale_wire::proofs::ReadLemmas::writes_behind))]
 pub(crate) fn write_listed<T: Wire>(tag: u8, items: &List<T>, pen: &mut Pen) -> Result<(), NoMemory>
     requires { AllByRecursion T.form.in_range items.now }
     ensures { Writes (tag ∷ list_bytes T.form items.now) pen.old result pen.new }
@@ -29,7 +29,7 @@ pub(crate) fn write_listed<T: Wire>(tag: u8, items: &List<T>, pen: &mut Pen) -> 
 }
 
 // A variant whose last field is a list of bytes.
-#[tactic(auto, using(scale_wire::proofs::ReadLemmas::front_more, scale_wire::proofs::ReadLemmas::writes_behind))]
+#[tactic(auto, using(scale_wire::proofs::ReadLemmas::writes_behind))]
 pub(crate) fn write_packed<T: Wire>(
     tag: u8,
     fields: &T,
@@ -37,7 +37,9 @@ pub(crate) fn write_packed<T: Wire>(
     pen: &mut Pen,
 ) -> Result<(), NoMemory>
     requires { T.form.in_range fields.now }
-    ensures { Writes (tag ∷ (T.form.spelling fields.now ++ (compact_bytes (length bytes.now) ++ bytes.now))) pen.old result pen.new }
+    ensures { Writes
+        (tag ∷ (T.form.spelling fields.now ++ (compact_bytes (length bytes.now) ++ bytes.now)))
+        pen.old result pen.new }
 {
     write_fields(tag, fields, pen)?;
     write_bytes(bytes, pen)

@@ -75,24 +75,25 @@ persists_in most limit mode byte rest more tail why not_short =
         (λ over is. rw (some_left byte (rest ++ more), same_announced most mode byte rest more ∙ over) is),
         (λ announced_fits. (
           (λ lacking is. absurd (not_short cc)),
-          (λ whole. 
-            let whole : bytes_in mode (byte ∷ rest) ≤ length (byte ∷ rest) = ltb-false (length (byte ∷ rest)) (bytes_in mode (byte ∷ rest)) whole in
-            let size_is : bytes_in mode (byte ∷ (rest ++ more)) ≡ bytes_in mode (byte ∷ rest) = same_size mode byte rest more in
-            let same = same_in mode byte rest more whole in
-            let more_whole = not_lacking (bytes_in mode (byte ∷ (rest ++ more))) (byte ∷ (rest ++ more)) (omega (arith, length-append rest more)) in (
-            (λ longer is. rw (some_left byte (rest ++ more), same_announced most mode byte rest more ∙ announced_fits, more_whole, same.longer_is ∙ longer) is),
-            (λ shortest. (
-              (λ wide is. rw (some_left byte (rest ++ more), same_announced most mode byte rest more ∙ announced_fits, more_whole, same.longer_is ∙ shortest, same.number_is, wide) is),
-              (λ below is. rw (some_left byte (rest ++ more), same_announced most mode byte rest more ∙ announced_fits, more_whole, same.longer_is ∙ shortest, same.number_is, below) is),
-            )),
-          )),
+          (λ whole.
+              let whole : bytes_in mode (byte ∷ rest) ≤ length (byte ∷ rest) = ltb-false (length (byte ∷ rest)) (bytes_in mode (byte ∷ rest)) whole in
+              let size_is : bytes_in mode (byte ∷ (rest ++ more)) ≡ bytes_in mode (byte ∷ rest) = same_size mode byte rest more in
+              let same = same_in mode byte rest more whole in
+              let more_whole = not_lacking (bytes_in mode (byte ∷ (rest ++ more))) (byte ∷ (rest ++ more)) (omega (arith, length-append rest more)) in (
+                (λ longer is. rw (some_left byte (rest ++ more), same_announced most mode byte rest more ∙ announced_fits, more_whole, same.longer_is ∙ longer) is),
+                (λ shortest. (
+                  (λ wide is. rw (some_left byte (rest ++ more), same_announced most mode byte rest more ∙ announced_fits, more_whole, same.longer_is ∙ shortest, same.number_is, wide) is),
+                  (λ below is. rw (some_left byte (rest ++ more), same_announced most mode byte rest more ∙ announced_fits, more_whole, same.longer_is ∙ shortest, same.number_is, below) is),
+                )),
+              )),
         )),
       )),
     )
 
 -- ## A compact integer, with whatever is asked of its number besides
 
--- `tail` has the further reasons to refuse a number below `limit`, none of which is that bytes are missing or left.
+-- `tail` has the further reasons to refuse a number below `limit`, none of which is that bytes are
+-- missing or left.
 pub record HasTail (limit : ℕ) (fits : ℕ → Type 0) (tail : ℕ → List (Bool × Why)) : Type 0 where
   pub enters : (number : ℕ) → number < limit → first_reason (tail number) ≡ None → fits number
   pub below : (number : ℕ) → fits number → number < limit
@@ -152,9 +153,9 @@ module _ (most limit longest : ℕ) (fits : ℕ → Type 0) (tail : ℕ → List
           (λ _ is. cc),
           (λ announced_fits. (
             (λ lacking is.
-              let less : length bytes < bytes_in mode bytes = ltb-true (length bytes) (bytes_in mode bytes) lacking in
-              let bound : bytes_in mode bytes ≤ longest = size_bound most limit longest mode bytes suits announced_fits in
-              omega arith),
+                let less : length bytes < bytes_in mode bytes = ltb-true (length bytes) (bytes_in mode bytes) lacking in
+                let bound : bytes_in mode bytes ≤ longest = size_bound most limit longest mode bytes suits announced_fits in
+                omega arith),
             (λ whole. ((λ _ is. cc), (λ shortest. ((λ _ is. cc), (λ below is. absurd (tails.not_short (number_in mode bytes) is)))))),
           )),
         )),

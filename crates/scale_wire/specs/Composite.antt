@@ -1,6 +1,6 @@
--- Types that are made of parts: pairs, triples, structs, rows of items, and one part behind another. Their
--- spellings stand one behind the other, and bytes are refused where the first part is refused that the parts
--- before it leave due.
+-- Types that are made of parts: pairs, triples, structs, rows of items, and one part behind
+-- another. Their spellings stand one behind the other, and bytes are refused where the first part
+-- is refused that the parts before it leave due.
 use Rattle.std.specs.Prelude.{◌≡◌, ◌⊎◌, ℕ, zero, suc, ◌+◌, ◌*◌, ◌<◌, ◌≤◌, max, List, [], ◌∷◌, ◌++◌, length, Option, Some, None, IfSome, IsSomeAnd}
 use Rattle.std.specs.List.{AllByRecursion, flat_map}
 use Rattle.scale_wire.specs.declared.fault.Why.{Why}
@@ -8,9 +8,10 @@ use Rattle.scale_wire.specs.Form.{IsBytes, Form}
 use Rattle.scale_wire.specs.Compact.{compact_bytes}
 use Rattle.scale_wire.specs.Parts.{byte_string, length_form, tag_form}
 
--- The first bytes spell a value of the head, whole, and those behind it are refused as what that value leaves
--- due.
-pub record Behind {A : Type 0} (head : Form A) (bad : A → List ℕ → ℕ → Why → Type 0) (bytes : List ℕ) (at : ℕ) (why : Why) : Type 0 where
+-- The first bytes spell a value of the head, whole, and those behind it are refused as what that
+-- value leaves due.
+pub record Behind {A : Type 0} (head : Form A) (bad : A → List ℕ → ℕ → Why → Type 0)
+    (bytes : List ℕ) (at : ℕ) (why : Why) : Type 0 where
   pub first : A
   pub in_range : head.in_range first
   pub rest : List ℕ
@@ -20,7 +21,8 @@ pub record Behind {A : Type 0} (head : Form A) (bad : A → List ℕ → ℕ →
   pub refused : bad first rest place why
 
 -- refused as the head, or behind it
-abbrev pub BadThen : {A : Type 0} → Form A → (A → List ℕ → ℕ → Why → Type 0) → List ℕ → ℕ → Why → Type 0
+abbrev pub BadThen : {A : Type 0}
+    → Form A → (A → List ℕ → ℕ → Why → Type 0) → List ℕ → ℕ → Why → Type 0
 BadThen head bad bytes at why = head.bad bytes at why ⊎ Behind head bad bytes at why
 
 -- ## Pairs and triples
@@ -89,7 +91,8 @@ IsRow item first _ _ = ⊥
 
 abbrev pub BadRow : {A : Type 0} → (ℕ → Form A) → ℕ → ℕ → List ℕ → ℕ → Why → Type 0
 BadRow item first zero bytes at why = ⊥
-BadRow item first (suc more) bytes at why = BadThen (item first) (λ _. BadRow item (suc first) more) bytes at why
+BadRow item first (suc more) bytes at why =
+    BadThen (item first) (λ _. BadRow item (suc first) more) bytes at why
 
 abbrev pub longest_row : {A : Type 0} → (ℕ → Form A) → ℕ → ℕ → ℕ
 longest_row item first zero = 0
@@ -186,7 +189,8 @@ choice variants = record {
 abbrev pub behind_tag : {W : Type 0} (variants : List Fields) → (W → Choice variants) → ℕ → Form W
 behind_tag variants choose tag = record {
   spelling = λ w. (variant_at variants (choose w).tag).form.spelling (choose w).values;
-  in_range = λ w. ((choose w).tag ≡ tag) × (variant_at variants (choose w).tag).form.in_range (choose w).values;
+  in_range = λ w.
+      ((choose w).tag ≡ tag) × (variant_at variants (choose w).tag).form.in_range (choose w).values;
   bad = (variant_at variants tag).form.bad;
   longest = (variant_at variants tag).form.longest;
 }

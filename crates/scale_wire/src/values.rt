@@ -106,7 +106,8 @@ impl Wire for Fixed {
 
     ghost form = { seen fixed_u128 (λ number. number.0) };
 
-    ghost laws = { seen_laws fixed_u128 (λ number. number.0) (λ n. record { 0 = n }) (λ _. refl) (λ _. refl) (fixed_laws 16) };
+    ghost laws = { seen_laws fixed_u128 (λ number. number.0)
+        (λ n. record { 0 = n }) (λ _. refl) (λ _. refl) (fixed_laws 16) };
 
     fn write(&self, pen: &mut Pen) -> Result<(), NoMemory> {
         pen.put_u128(self.0)
@@ -117,7 +118,8 @@ impl Wire for Fixed {
     }
 }
 
-/// The fields in order: the minimal support and the sum as compact integers, the squares in sixteen bytes.
+/// The fields in order: the minimal support and the sum as compact integers, the squares in sixteen
+/// bytes.
 impl Wire for Score {
     ghost use Rattle.scale_wire.specs.Values.{score_form};
     ghost use Rattle.scale_wire.specs.ValueLaws.{score_laws};
