@@ -1,3 +1,4 @@
+pub mod Limits
 pub mod Genesis
 pub mod GenesisLaws
 pub mod Calls

@@ -5,7 +5,7 @@ use Rattle.scale_wire.specs.declared.fault.Why.{Why}
 use Rattle.scale_wire.specs.declared.fault.Why.TheVariants.{Trailing}
 use Rattle.scale_wire.specs.Form.{IsBytes, Form, Begins, IsRefused, IsWire}
 use Rattle.scale_wire.specs.Reading.{HasRest, BadWhole}
-use Rattle.scale_wire.specs.Laws.{IsReadBack, IsDecided, IsWhole, IsRefusedWhole, IsDecidedWhole, FaultsPersist, IsBounded}
+use Rattle.scale_wire.specs.Laws.{IsReadBack, IsDecided, IsWhole, IsRefusedWhole, IsDecidedWhole, FaultsPersist, NeverTrails, IsBounded}
 
 module _ {V : Type 0} (form : Form V) (laws : IsWire form) where
   never_both : (bytes : List ℕ) → Begins form bytes → IsRefused form bytes → ⊥
@@ -95,6 +95,9 @@ module _ {V : Type 0} (form : Form V) (laws : IsWire form) where
 
   pub persist : FaultsPersist form
   persist = laws.persists
+
+  pub never_trails : NeverTrails form
+  never_trails = laws.no_trailing
 
   pub bounds : IsBounded form
   bounds = record { spelling = laws.bounded; missing = laws.short }

@@ -19,7 +19,7 @@ use Rattle.scale_wire.proofs.ReadLemmas.{behind_fault, front_more, front_behind}
 pub list_err : {A : Type 0} (item : Form A) (limit : ℕ) (old here mid new : Place) (count : ℕ) (fault : ReadFault) → here ≡ old → IsRead (length_form limit) here count mid → Reads (items item count) mid (Err fault) new → Reads (list item limit) old (Err fault) old
 list_err item limit old here mid new count (Wire fault) same read refused =
     subst (λ (o : Place). IsFault (list item limit) o fault o) same (behind_fault (length_form limit) (BadItems item) here mid new count fault read refused)
-list_err item limit old here mid new count NoMemory same read refused = tt
+list_err item limit old here mid new count NoMemory same read refused = refl
 
 -- fewer bytes are left than their length says
 pub byte_list_err : (limit : ℕ) (old here mid new : Place) (count : ℕ) (fault : WireFault) → here ≡ old → IsRead (length_form limit) here count mid → IsFault (byte_string count) mid fault new → Reads (byte_list limit) old (Err (Wire fault)) old
@@ -53,7 +53,7 @@ module _ {A : Type 0} (item : Form A) where
   pub items_err : (count done : ℕ) (old here mid new : Place) (xs : List A) (fault : ReadFault) → here ≡ old → done < count → IsRead (items item done) here xs mid → Reads item mid (Err fault) new → Reads (items item count) old (Err fault) old
   items_err count done old here mid new xs (Wire fault) same below read refused =
       subst (λ (o : Place). IsFault (items item count) o fault o) same (items_fault count done here mid new xs fault below read refused)
-  items_err count done old here mid new xs NoMemory same below read refused = tt
+  items_err count done old here mid new xs NoMemory same below read refused = refl
 
   all_more : (xs : List A) (x : A) → AllByRecursion item.in_range xs → item.in_range x → AllByRecursion item.in_range (xs ++ x ∷ [])
   all_more [] x fits here = (here, tt)

@@ -14,8 +14,8 @@ use Rattle.scale_wire.specs.Parts.{account_form, fixed, fixed_u8, byte_string, t
 use Rattle.npos_base.specs.Account.{account_bytes, account_of}
 use Rattle.npos_base.specs.declared.account.AccountId.{AccountId}
 use Rattle.scale_wire.specs.AccountLaws.{fits_account, account_is}
-use Rattle.scale_wire.specs.PartLaws.{passed, applied, not_lacking}
-use Rattle.scale_wire.specs.CompactWriting.{Suits}
+use Rattle.scale_wire.specs.CompactRange.{Suits}
+use Rattle.scale_wire.specs.PartLaws.{some_left}
 use Rattle.scale_wire.specs.CompactLaws.{compact_part, too_many}
 
 -- the bytes that were taken are a number
@@ -48,9 +48,7 @@ tag_read below old new tag read fits =
     }
 
 bad_tag : (below tag : ℕ) (rest : List ℕ) → below ≤ tag → tag_refusal below (tag ∷ rest) ≡ Some BadTag
-bad_tag below tag rest over =
-    passed (lacks 1 (tag ∷ rest)) Short ((nat_le below tag, BadTag) ∷ []) (Some BadTag) (not_lacking 1 (tag ∷ rest) (omega arith))
-    (applied (nat_le below tag) BadTag [] (le-leb below tag over))
+bad_tag below tag rest over = rw (some_left tag rest, le-leb below tag over)
 
 pub tag_fault : (below : ℕ) (old new : Place) (tag : ℕ) (fault : WireFault) → IsRead fixed_u8 old tag new → below ≤ tag
     → fault ≡ record { at = old.at; why = BadTag } → IsFault (tag_form below) old fault old

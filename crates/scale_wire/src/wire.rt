@@ -14,8 +14,8 @@ use std::alloc::Global;
 
 /// A type whose values are spelled in SCALE, the byte format of Substrate.
 ///
-/// `form` says how a value is spelled, which values have a spelling, where and why other bytes are refused, and how
-/// long a spelling is at most; `laws` are what every such form keeps (`IsWire`).
+/// `form` says how a value is spelled, which values have a spelling, where and why other bytes are
+/// refused, and how long a spelling is at most; `laws` are what every such form keeps (`IsWire`).
 pub trait Wire: Drop {
     ghost form: { Form Self };
 
@@ -26,7 +26,8 @@ pub trait Wire: Drop {
         requires { form.in_range self.now }
         ensures { Writes (form.spelling self.now) pen.old result pen.new };
 
-    /// Reads a value at the cursor's place and moves the cursor behind it, or refuses the bytes there.
+    /// Reads a value at the cursor's place and moves the cursor behind it, or refuses the bytes
+    /// there.
     fn read(alloc: Global, cursor: &mut Cursor<'_>) -> Result<Self, ReadFault>
         ensures { Reads form cursor.old result cursor.new };
 }
@@ -119,7 +120,8 @@ pub fn write_tag(tag: u8, pen: &mut Pen) -> Result<(), NoMemory>
 /// Appends the first and then the second, as a pair of the two is spelled.
 pub fn write_both<A: Wire, B: Wire>(first: &A, second: &B, pen: &mut Pen) -> Result<(), NoMemory>
     requires { (pair A.form B.form).in_range (first.now, second.now) }
-    ensures { Writes ((pair A.form B.form).spelling (first.now, second.now)) pen.old result pen.new }
+    ensures { Writes
+        ((pair A.form B.form).spelling (first.now, second.now)) pen.old result pen.new }
 {
     first.write(pen)?;
     second.write(pen)

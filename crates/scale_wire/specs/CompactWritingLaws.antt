@@ -6,8 +6,9 @@ use Rattle.std.proofs.lemmas.List.{take_at, get_or_append_left}
 use Rattle.scale_wire.specs.LittleEndian.{little_endian, number_from}
 use Rattle.scale_wire.specs.LittleEndianLaws.{length-little_endian, number_from-little_endian, are_bytes-little_endian, last_zero}
 use Rattle.scale_wire.specs.Compact.{Mode, OneByte, TwoBytes, FourBytes, Big, mode_numbered, mode_of, number_in, least_bytes, compact_bytes}
-use Rattle.scale_wire.specs.CompactSpelling.{compact_one, compact_two, compact_four, compact_big, least_is, width_of}
-use Rattle.scale_wire.specs.CompactReading.{Kept, first_of_number}
+use Rattle.scale_wire.specs.CompactSpellingLaws.{compact_one, compact_two, compact_four, compact_big, least_is, width_of}
+use Rattle.scale_wire.specs.CompactReadingLaws.{Kept, first_of_number}
+use Rattle.scale_wire.specs.CompactRange.{Suits}
 
 -- ## From a number to its bytes and back
 
@@ -87,15 +88,6 @@ back_four most limit number rest fits above below =
       };
       number_is = same;
     }
-
--- What a type of compact integers is: the numbers below `limit` have at most `most` value bytes in the mode
--- `Big`, and at most `longest` bytes in all.
-pub record Suits (most limit longest : ℕ) : Type 0 where
-  pub few : most ≤ 8
-  pub bounded : limit ≤ 256 ^ 8
-  pub holds : (number : ℕ) → number < limit → 2 ^ 30 ≤ number → least_bytes number ≤ most
-  pub four : 4 ≤ longest
-  pub reaches : most + 1 ≤ longest
 
 not_last_zero : (more number : ℕ) → 2 ^ 30 ≤ number → number < 256 ^ (more + 4) → (more ≡ 0) ⊎ (256 ^ (more + 3) ≤ number)
     → slice_index (little_endian (more + 4) number) (more + 3) ≡ 0 → ⊥

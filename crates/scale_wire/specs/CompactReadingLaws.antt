@@ -1,4 +1,4 @@
--- From bytes to the compact integer that they spell.
+-- Proofs: from bytes to the compact integer that they spell.
 use Rattle.std.specs.Prelude.{◌≡◌, ℕ, zero, suc, ◌+◌, ◌-◌, ◌*◌, ◌/◌, ◌%◌, ◌^◌, ◌<◌, ◌≤◌, Bool, true, false, ◌||◌, List, [], ◌∷◌, ◌++◌, length, take, drop, slice_index, nat_lt, nat_le, nat_eq, Option, None, refl}
 use Rattle.std.proofs.Common.{sym, ◌∙◌, ap, ap₂, subst, inr, arith}
 use Rattle.std.proofs.lemmas.Bool.{ltb-false, leb-false, lt-leb, eqb-false}
@@ -11,8 +11,9 @@ use Rattle.scale_wire.specs.LittleEndian.{little_endian, number_from}
 use Rattle.scale_wire.specs.LittleEndianLaws.{little_endian-number_from, number_from-bound, last_not_zero}
 use Rattle.scale_wire.specs.Refusal.{first_reason, lacks}
 use Rattle.scale_wire.specs.Compact.{Mode, OneByte, TwoBytes, FourBytes, Big, mode_numbered, mode_of, bytes_in, number_in, announces_over, is_longer_in, least_bytes, compact_bytes, compact_reasons}
-use Rattle.scale_wire.specs.PartLaws.{none_applies, passed, not_lacking}
-use Rattle.scale_wire.specs.CompactSpelling.{compact_one, compact_two, compact_four, compact_big, least_is}
+use Rattle.scale_wire.specs.PartLaws.{not_lacking}
+use Rattle.scale_wire.specs.TableLaws.{by_reason}
+use Rattle.scale_wire.specs.CompactSpellingLaws.{compact_one, compact_two, compact_four, compact_big, least_is}
 
 -- ## What bytes are that no reason refuses
 
@@ -23,49 +24,48 @@ pub record Kept (most limit : ℕ) (mode : Mode) (bytes : List ℕ) : Type 0 whe
   pub shortest : is_longer_in mode bytes ≡ false
   pub below : number_in mode bytes < limit
 
--- the table from its fifth, fourth, third and second reason on
-abbrev pub from_width : ℕ → Mode → List ℕ → List (Bool × Why) → List (Bool × Why)
-from_width limit mode bytes tail = (nat_le limit (number_in mode bytes), TooWide) ∷ tail
-
-abbrev pub from_shortest : ℕ → Mode → List ℕ → List (Bool × Why) → List (Bool × Why)
-from_shortest limit mode bytes tail = (is_longer_in mode bytes, NotShortest) ∷ from_width limit mode bytes tail
-
-abbrev pub from_whole : ℕ → Mode → List ℕ → List (Bool × Why) → List (Bool × Why)
-from_whole limit mode bytes tail = (lacks (bytes_in mode bytes) bytes, Short) ∷ from_shortest limit mode bytes tail
-
-abbrev pub from_announced : ℕ → ℕ → Mode → List ℕ → List (Bool × Why) → List (Bool × Why)
-from_announced most limit mode bytes tail = (announces_over most mode bytes, TooWide) ∷ from_whole limit mode bytes tail
-
 pub kept_from : (most limit : ℕ) (mode : Mode) (bytes : List ℕ) (tail : List (Bool × Why))
     → first_reason (compact_reasons most limit mode bytes ++ tail) ≡ None
     → Kept most limit mode bytes × (first_reason tail ≡ None)
-kept_from most limit mode bytes tail none =
-    let one = none_applies (lacks 1 bytes) Short (from_announced most limit mode bytes tail) none in
-    let two = none_applies (announces_over most mode bytes) TooWide (from_whole limit mode bytes tail) one.1 in
-    let three = none_applies (lacks (bytes_in mode bytes) bytes) Short (from_shortest limit mode bytes tail) two.1 in
-    let four = none_applies (is_longer_in mode bytes) NotShortest (from_width limit mode bytes tail) three.1 in
-    let five = none_applies (nat_le limit (number_in mode bytes)) TooWide tail four.1 in (
-      record {
-        some = ltb-false (length bytes) 1 one.0;
-        announced_fits = two.0;
-        whole = ltb-false (length bytes) (bytes_in mode bytes) three.0;
-        shortest = four.0;
-        below = leb-false limit (number_in mode bytes) five.0;
-      },
-      five.1,
+kept_from most limit mode bytes tail =
+    by_reason (λ answer. answer ≡ None → Kept most limit mode bytes × (first_reason tail ≡ None))
+    (compact_reasons most limit mode bytes) tail (
+      (λ _ is. cc),
+      (λ some. (
+        (λ _ is. cc),
+        (λ announced_fits. (
+          (λ _ is. cc),
+          (λ whole. (
+            (λ _ is. cc),
+            (λ shortest. (
+              (λ _ is. cc),
+              (λ below none. (
+                record {
+                  some = ltb-false (length bytes) 1 some;
+                  announced_fits = announced_fits;
+                  whole = ltb-false (length bytes) (bytes_in mode bytes) whole;
+                  shortest = shortest;
+                  below = leb-false limit (number_in mode bytes) below;
+                },
+                none,
+              )),
+            )),
+          )),
+        )),
+      )),
     )
 
 pub kept_to : (most limit : ℕ) (mode : Mode) (bytes : List ℕ) (tail : List (Bool × Why)) (answer : Option Why)
     → Kept most limit mode bytes → first_reason tail ≡ answer
     → first_reason (compact_reasons most limit mode bytes ++ tail) ≡ answer
 kept_to most limit mode bytes tail answer kept rest =
-    passed (lacks 1 bytes) Short (from_announced most limit mode bytes tail) answer (not_lacking 1 bytes kept.some)
-    (passed (announces_over most mode bytes) TooWide (from_whole limit mode bytes tail) answer kept.announced_fits
-    (passed (lacks (bytes_in mode bytes) bytes) Short (from_shortest limit mode bytes tail) answer
-    (not_lacking (bytes_in mode bytes) bytes kept.whole)
-    (passed (is_longer_in mode bytes) NotShortest (from_width limit mode bytes tail) answer kept.shortest
-    (passed (nat_le limit (number_in mode bytes)) TooWide tail answer
-    (lt-leb limit (number_in mode bytes) kept.below) rest))))
+    rw (
+      not_lacking 1 bytes kept.some,
+      kept.announced_fits,
+      not_lacking (bytes_in mode bytes) bytes kept.whole,
+      kept.shortest,
+      lt-leb limit (number_in mode bytes) kept.below,
+    ) rest
 
 -- ## From bytes to their number and back
 
