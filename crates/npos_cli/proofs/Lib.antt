@@ -2,6 +2,7 @@ pub mod ReplayLaws
 pub mod EdgeLaws
 pub mod GrowLaws
 pub mod ChainLaws
+pub mod ElectionLaws
 pub mod TurnLaws
 pub mod StartLaws
 pub mod BookLaws

@@ -3,6 +3,7 @@ pub mod Pieces
 pub mod Replay
 pub mod Status
 pub mod Words
+pub mod Elections
 pub mod Report
 pub mod Owed
 pub mod Ahead

@@ -1,5 +1,5 @@
 -- How far a run goes with what it owes: which text reaches the sink, and what is left in the source.
-use Rattle.std.specs.Prelude.{◌≡◌, ◌⊎◌, ⊤, ℕ, ◌≤◌, Bool, true, false, List, [], ◌++◌, length, take, Option, Some, None, Result, Ok, Err}
+use Rattle.std.specs.Prelude.{◌≡◌, ◌⊎◌, ⊤, ℕ, ◌≤◌, ◌+◌, Bool, true, false, List, [], ◌++◌, length, take, Option, Some, None, Result, Ok, Err}
 use Rattle.npos_base.specs.Outside.{Told, Rose, IsAtEnd}
 use Rattle.npos_cli.specs.declared.status.Status.{Status}
 use Rattle.npos_cli.specs.declared.status.Status.TheVariants as statuses
@@ -95,3 +95,9 @@ IsOwed words left text status = (bytes : List ℕ) → IsAll left bytes → Owes
 -- a front of what is owed was delivered
 abbrev pub BeginsToAnswer : List (List ℕ) → Option (List ℕ) → Option Told → Option Told → Type 0
 BeginsToAnswer words left old new = (text : List ℕ) (status : Status) → IsOwed words left text status → DeliversFront old new text
+
+-- These bytes were taken, at most one more than the limit. Where the limit was kept they are all that was left.
+pub record ReadsUpTo (most : ℕ) (old now : Option (List ℕ)) (bytes : List ℕ) : Type 0 where
+  pub taken : LeftAfter old now bytes
+  pub few : length bytes ≤ most + 1
+  pub ended : length bytes ≤ most → IsDrained old now

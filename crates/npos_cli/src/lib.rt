@@ -2,7 +2,9 @@
 #![tactic(auto)]
 
 mod edges;
+mod election;
 mod held;
+mod input;
 mod job;
 pub mod laws;
 pub mod promises;
