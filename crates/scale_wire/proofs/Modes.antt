@@ -4,10 +4,10 @@ use Rattle.std.proofs.Common.{sym, ◌∙◌, ap, subst, arith, length-append, l
 use Rattle.std.specs.Int.{w16, w32, w64, from_le_bytes}
 use Rattle.std.proofs.lemmas.Bool.{lt-ltb, le-ltb}
 use Rattle.scale_wire.specs.declared.fault.Why.{Why}
-use Rattle.scale_wire.specs.declared.fault.Why.TheVariants.{Short, NotShortest, TooWide}
+use Rattle.scale_wire.specs.declared.fault.Why.TheVariants.{NotShortest, TooWide}
 use Rattle.scale_wire.specs.LittleEndian.{number_from}
 use Rattle.scale_wire.specs.LittleEndianLaws.{from_le_bytes-number_from}
-use Rattle.scale_wire.specs.Refusal.{first_reason, lacks}
+use Rattle.scale_wire.specs.Refusal.{first_reason}
 use Rattle.scale_wire.specs.Compact.{Mode, TwoBytes, FourBytes, Big, mode_numbered, compact_reasons, compact_refusal, bytes_in, number_in, announces_over, is_longer_in}
 use Rattle.scale_wire.specs.CompactSteps.{mode_reasons}
 use Rattle.scale_wire.specs.PartLaws.{not_lacking}

@@ -1,14 +1,13 @@
 -- What the cursor's calls answer, over plain bytes.
-use Rattle.std.specs.Prelude.{◌≡◌, ℕ, ◌+◌, ◌%◌, ◌^◌, ◌<◌, ◌≤◌, List, [], ◌∷◌, ◌++◌, length, slice_index, drop, nat_le, Some, None, refl}
+use Rattle.std.specs.Prelude.{◌≡◌, ℕ, ◌+◌, ◌%◌, ◌^◌, ◌<◌, ◌≤◌, List, [], ◌∷◌, ◌++◌, length, slice_index, drop, Some, None, refl}
 use Rattle.std.proofs.Common.{sym, ◌∙◌, ap, subst, arith}
 use Rattle.std.proofs.lemmas.Bool.{le-leb}
-use Rattle.scale_wire.specs.declared.fault.Why.TheVariants.{Short, BadTag, TooMany}
+use Rattle.scale_wire.specs.declared.fault.Why.TheVariants.{BadTag, TooMany}
 use Rattle.scale_wire.specs.declared.fault.WireFault.{WireFault}
 use Rattle.scale_wire.specs.Form.{IsBytes}
 use Rattle.scale_wire.specs.Reading.{Place, IsRead, IsFault}
 use Rattle.scale_wire.specs.LittleEndian.{little_endian, number_from}
 use Rattle.scale_wire.specs.LittleEndianLaws.{little_endian-number_from, number_from-bound}
-use Rattle.scale_wire.specs.Refusal.{lacks}
 use Rattle.scale_wire.specs.Compact.{mode_of, number_in, bytes_in, compact_bytes, compact_refusal}
 use Rattle.scale_wire.specs.Parts.{account_form, fixed, fixed_u8, byte_string, tag_form, tag_refusal, compact_form, compact_u32, length_form, length_refusal}
 use Rattle.npos_base.specs.Account.{account_bytes, account_of}

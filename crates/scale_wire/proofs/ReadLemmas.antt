@@ -1,5 +1,5 @@
 -- What readers and writers answer, where one part stands behind another.
-use Rattle.std.proofs.Common.{◌≡◌, ◌≢◌, ℕ, ◌+◌, ◌<◌, List, [], ◌∷◌, ◌++◌, length, refl, sym, ◌∙◌, ap, ap₂, subst, inr, arith, append_assoc, append-nil}
+use Rattle.std.proofs.Common.{◌≡◌, ◌≢◌, ℕ, ◌+◌, ◌<◌, List, [], ◌∷◌, ◌++◌, length, refl, sym, ◌∙◌, ap, subst, inr, arith, append_assoc, append-nil}
 use Rattle.std.specs.Prelude.{Result, Ok, Err}
 use Rattle.scale_wire.specs.declared.fault.Why.{Why}
 use Rattle.scale_wire.specs.declared.fault.Why.TheVariants.{Trailing}
@@ -9,7 +9,7 @@ use Rattle.scale_wire.specs.declared.fault.ReadFault.TheVariants.{Wire, NoMemory
 use Rattle.scale_wire.specs.Form.{Form}
 use Rattle.scale_wire.specs.Composite.{BadThen, pair, triple, seen, optional, BadOptional, Fields, variant_at, Choice, choice, behind_tag}
 use Rattle.scale_wire.specs.Parts.{tag_form}
-use Rattle.scale_wire.specs.Reading.{Place, Passes, Refuses, IsRead, IsFault, Reads, HasRest, BadWhole, HasFront, Writes}
+use Rattle.scale_wire.specs.Reading.{Place, Refuses, IsRead, IsFault, Reads, HasRest, BadWhole, HasFront, Writes}
 
 -- what is refused behind the head is refused as the whole
 pub behind_fault : {A : Type 0} (head : Form A) (bad : A → List ℕ → ℕ → Why → Type 0) (old mid new : Place) (first : A) (fault : WireFault) → IsRead head old first mid → Refuses (bad first) mid fault new → Refuses (BadThen head bad) old fault old
@@ -111,14 +111,3 @@ module _ {W : Type 0} (variants : List Fields) (choose : W → Choice variants) 
       subst (λ (o : Place). IsFault (seen (choice variants) choose) o fault o) same
       (behind_fault (tag_form (length variants)) (λ t. (variant_at variants t).form.bad) here mid new tag fault read refused)
   fields_err old here mid new tag NoMemory same read refused = refl
-
-  -- the tag was read, and the fields behind it
-  pub fields_ok : (old here mid new : Place) (tag : ℕ) (value : W) → here ≡ old
-      → IsRead (tag_form (length variants)) here tag mid → IsRead (behind_tag variants choose tag) mid value new
-      → IsRead (seen (choice variants) choose) old value new
-  fields_ok old here mid new tag value same read more =
-      subst (λ (o : Place). IsRead (seen (choice variants) choose) o value new) same record {
-        in_range = more.in_range.1;
-        whole = read.whole ∙ ap₂ (λ (t : ℕ) (s : List ℕ). t ∷ s) (sym more.in_range.0) more.whole;
-        at_is = omega (arith, read.at_is, more.at_is);
-      }

@@ -1,5 +1,5 @@
 -- Proofs: compact integers keep the laws of a form.
-use Rattle.std.specs.Prelude.{◌≡◌, ◌≢◌, ℕ, suc, ◌+◌, ◌*◌, ◌/◌, ◌^◌, ◌<◌, ◌≤◌, Bool, false, ◌||◌, List, [], ◌∷◌, ◌++◌, length, take, drop, slice_index, nat_lt, nat_le, nat_eq, Option, Some, None, refl}
+use Rattle.std.specs.Prelude.{◌≡◌, ◌≢◌, ℕ, suc, ◌+◌, ◌*◌, ◌/◌, ◌^◌, ◌<◌, ◌≤◌, Bool, false, ◌||◌, List, [], ◌∷◌, ◌++◌, length, take, drop, slice_index, nat_lt, nat_eq, Option, Some, None, refl}
 use Rattle.std.proofs.Common.{sym, ◌∙◌, ap, ap₂, subst, inl, inr, arith, length-append, lit≤}
 use Rattle.std.proofs.lemmas.Bool.{cases_lt, ltb-true, ltb-false, lt-ltb, le-ltb}
 use Rattle.std.proofs.lemmas.List.{take-append-drop, length-take-le, take-append-le, get_or_append_left}
@@ -8,7 +8,7 @@ use Rattle.scale_wire.specs.declared.fault.Why.TheVariants.{Short, TooMany, Trai
 use Rattle.scale_wire.specs.Form.{IsWire, IsBytes, part}
 use Rattle.scale_wire.specs.LittleEndian.{number_from}
 use Rattle.scale_wire.specs.LittleEndianLaws.{length-little_endian}
-use Rattle.scale_wire.specs.Refusal.{first_reason, lacks}
+use Rattle.scale_wire.specs.Refusal.{first_reason}
 use Rattle.scale_wire.specs.Compact.{Mode, OneByte, TwoBytes, FourBytes, Big, mode_of, announced, bytes_in, number_in, announces_over, is_longer_in, least_bytes, compact_bytes, compact_reasons, compact_refusal}
 use Rattle.scale_wire.specs.Parts.{compact_form, length_form, length_refusal, compact_u16, compact_u32, compact_u64}
 use Rattle.scale_wire.specs.PartLaws.{IsHead, IsPart, part_laws, not_lacking, some_left}

@@ -1,15 +1,14 @@
 -- Proofs: from bytes to the compact integer that they spell.
-use Rattle.std.specs.Prelude.{◌≡◌, ℕ, zero, suc, ◌+◌, ◌-◌, ◌*◌, ◌/◌, ◌%◌, ◌^◌, ◌<◌, ◌≤◌, Bool, true, false, ◌||◌, List, [], ◌∷◌, ◌++◌, length, take, drop, slice_index, nat_lt, nat_le, nat_eq, Option, None, refl}
+use Rattle.std.specs.Prelude.{◌≡◌, ℕ, zero, suc, ◌+◌, ◌-◌, ◌*◌, ◌/◌, ◌%◌, ◌^◌, ◌<◌, ◌≤◌, Bool, true, false, ◌||◌, List, [], ◌∷◌, ◌++◌, length, take, drop, slice_index, nat_lt, nat_eq, Option, None, refl}
 use Rattle.std.proofs.Common.{sym, ◌∙◌, ap, ap₂, subst, inr, arith}
 use Rattle.std.proofs.lemmas.Bool.{ltb-false, leb-false, lt-leb, eqb-false}
 use Rattle.std.proofs.lemmas.List.{take-append-drop, length-take-le, get_or-take}
 use Rattle.scale_wire.specs.declared.fault.Why.{Why}
-use Rattle.scale_wire.specs.declared.fault.Why.TheVariants.{Short, NotShortest, TooWide}
 use Rattle.scale_wire.specs.Form.{IsBytes}
 use Rattle.scale_wire.specs.FormLaws.{IsBytes-front}
 use Rattle.scale_wire.specs.LittleEndian.{little_endian, number_from}
 use Rattle.scale_wire.specs.LittleEndianLaws.{little_endian-number_from, number_from-bound, last_not_zero}
-use Rattle.scale_wire.specs.Refusal.{first_reason, lacks}
+use Rattle.scale_wire.specs.Refusal.{first_reason}
 use Rattle.scale_wire.specs.Compact.{Mode, OneByte, TwoBytes, FourBytes, Big, mode_numbered, mode_of, bytes_in, number_in, announces_over, is_longer_in, least_bytes, compact_bytes, compact_reasons}
 use Rattle.scale_wire.specs.PartLaws.{not_lacking}
 use Rattle.scale_wire.specs.TableLaws.{by_reason}

@@ -1,5 +1,5 @@
 -- Proofs: parts keep the laws of a form.
-use Rattle.std.specs.Prelude.{◌≡◌, ◌≢◌, ◌⊎◌, ℕ, ◌^◌, ◌<◌, ◌≤◌, Bool, true, false, List, [], ◌∷◌, ◌++◌, length, take, drop, slice_index, nat_le, Option, Some, None, refl}
+use Rattle.std.specs.Prelude.{◌≡◌, ◌≢◌, ◌⊎◌, ℕ, ◌^◌, ◌<◌, ◌≤◌, Bool, false, List, [], ◌∷◌, ◌++◌, length, take, drop, slice_index, nat_le, Option, Some, None, refl}
 use Rattle.std.proofs.Common.{sym, ◌∙◌, ap, subst, inl, inr, arith, length-append}
 use Rattle.std.proofs.lemmas.Bool.{ltb-true, ltb-false, le-ltb, leb-false, lt-leb}
 use Rattle.std.proofs.lemmas.List.{append_cancel_left, take-append-drop, length-take-le, take_at}
@@ -129,12 +129,6 @@ fixed_whole count = record {
 
 pub fixed_laws : (count : ℕ) → IsWire (fixed count)
 fixed_laws count = whole_laws count (little_endian count) (λ number. number < 256 ^ count) number_from (fixed_whole count)
-
-pub fixed_head : (count : ℕ) (bytes : List ℕ) → IsBytes bytes → count ≤ length bytes
-    → IsHead (fixed count) bytes (number_from (take count bytes)) count
-fixed_head count bytes are_bytes whole =
-    (whole_part count (little_endian count) (λ number. number < 256 ^ count) number_from (fixed_whole count)).head bytes are_bytes
-    (none_from_whole count bytes whole)
 
 string_whole : (count : ℕ) → IsFixedSize count (λ bytes. bytes) (λ bytes. (length bytes ≡ count) × IsBytes bytes) (λ bytes. bytes)
 string_whole count = record {
