@@ -69,6 +69,7 @@ impl<T> Room<T> {
         T: Ord,
         ensures sorted { IsSorted T.cmp self.new.items }
         ensures same { IsPermutation self.old.items self.new.items }
+        ensures count { length self.new.items ≡ length self.old.items }
         ensures spare { self.new.spare ≡ self.old.spare }
     {
         self.items.sort_unstable();

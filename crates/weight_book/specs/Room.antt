@@ -1,5 +1,5 @@
 -- Weights with room made beforehand.
-use Rattle.std.specs.Prelude.{ℕ, ◌+◌, ◌≤◌, List, length, sum_by}
+use Rattle.std.specs.Prelude.{ℕ, ◌+◌, ◌≤◌, length, sum_by}
 use Rattle.election_snapshot.specs.Snapshot.{Snapshot}
 use Rattle.weight_book.specs.Weights.{Weights}
 

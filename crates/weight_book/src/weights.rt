@@ -1,5 +1,5 @@
 //! Weights with room made beforehand.
-ghost use Rattle.std.specs.Prelude.{◌≡◌, ◌<◌, ◌≤◌, ◌^◌, ◌+◌, [], ◌∷◌, ◌++◌, length, nat_eq, IfOk, OnOk, IsPermutation};
+ghost use Rattle.std.specs.Prelude.{◌≡◌, ℕ, ◌<◌, ◌≤◌, ◌^◌, ◌+◌, [], ◌∷◌, ◌++◌, length, nat_eq, slice_index_or, IfOk, OnOk, IsPermutation};
 ghost use Rattle.std.specs.List.{IsDistinct};
 ghost use Rattle.std.specs.List.Sorted.{IsNonDecreasing};
 ghost use Rattle.weight_book.specs.Weights.{no_weights, support, spent, amount_sum};
@@ -47,7 +47,7 @@ impl Weights {
     {
         let members = Room::with_room(alloc, snapshot.target_count())?;
         let edges = Room::with_room(alloc, count_votes(snapshot))?;
-        let supports = vec![in alloc; 0; NAMES]?;
+        let supports = zeros(alloc, NAMES)?;
         Ok(Weights {
             members,
             edges,
@@ -159,7 +159,7 @@ impl Weights {
             sum: 0,
             squares: 0,
         };
-        for member in self.members.as_slice() {
+        for member in self.committee() {
             let support = self.support(*member) as u64;
             score.minimal = score.minimal.min(support);
             score.sum += support;
@@ -167,6 +167,15 @@ impl Weights {
         }
         score
     }
+}
+
+/// As many zeros.
+fn zeros(alloc: Global, count: usize) -> Result<Vec<u128>, NoMemory>
+    ensures count { IfOk result (λ zeros. length zeros.items ≡ count) }
+    ensures zero { IfOk result (λ zeros. (k : ℕ) → slice_index_or zeros.items k 0 ≡ 0) }
+{
+    let zeros = vec![in alloc; 0; count]?;
+    Ok(zeros)
 }
 
 /// How many nominations there are.
