@@ -1,6 +1,7 @@
 //! The checker of one snapshot's solutions.
-ghost use Rattle.std.specs.Prelude.{◌≡◌, ◌≢◌, IfOk, IfErr};
+ghost use Rattle.std.specs.Prelude.{◌≡◌, ◌≢◌, OnOk, IfOk, IfErr};
 ghost use Rattle.weight_book.specs.Weights.{IsFeasible};
+ghost use Rattle.election_check.specs.declared.verdict.Verdict.TheVariants.{Yes};
 ghost use Rattle.election_check.specs.First.{answer_of};
 ghost use Rattle.election_check.specs.Kept.{AreTablesOf};
 ghost use Rattle.election_check.specs.Plain.{plain_fault, verdict_plain};
@@ -80,7 +81,7 @@ impl Checker {
     /// Elects the members, where the verdict on these weights is Yes. Otherwise it hands both parts back as they were,
     /// with the verdict. It takes no memory.
     pub fn seal(self, weights: Weights) -> Result<Elected, (Checker, Weights, Verdict)>
-        ensures yes { IfOk result (λ elected. verdict_plain self weights.plain ≡ Yes) }
+        ensures yes { OnOk result (verdict_plain self weights.plain ≡ Yes) }
         ensures snapshot { IfOk result (λ elected. elected.snapshot ≡ self) }
         ensures weights { IfOk result (λ elected. IsReordered weights elected.weights) }
         ensures no { IfErr result (λ back. back.2 ≢ Yes) }

@@ -1,5 +1,5 @@
 //! The steps of a check of plain weights: members, edges, spending.
-ghost use Rattle.std.specs.Prelude.{◌≡◌, ◌<◌, ◌*◌, ℕ, [], length, nat_eq, position, OnOk, All, Contains};
+ghost use Rattle.std.specs.Prelude.{◌≡◌, ◌<◌, ◌*◌, false, [], length, nat_eq, position, slice_index_or, OnOk, All};
 ghost use Rattle.weight_book.specs.Weights.{IsFeasible};
 ghost use Rattle.election_check.specs.First.{answer_of};
 ghost use Rattle.election_check.specs.Kept.{AreMarks};

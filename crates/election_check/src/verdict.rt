@@ -3,7 +3,7 @@ ghost use Rattle.std.specs.Prelude.{◌≡◌};
 ghost use Rattle.election_check.specs.Number.{number_of};
 
 use npos_base::Score;
-use scale_wire::Why;
+use scale_wire::fault::Why;
 
 /// What a check finds: that weights pass, or the first fault in the order of the check.
 #[derive(Clone, Copy, Debug, PartialEq, Eq)]
