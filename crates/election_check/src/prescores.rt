@@ -99,7 +99,7 @@ fn fill_prescores(snapshot: &Snapshot, weights: &Weights, slacks: &[u64], presco
 fn add_to_all(votes: &[u16], slack: u64, prescores: &mut [u64])
     requires in_range { All (λ vote. vote < length prescores.old) votes.now }
     requires distinct { IsDistinct nat_eq votes.now }
-    requires fits { (target : ℕ) → slice_index_or prescores.old target 0 + slack < 2 ^ 64 }
+    requires fits { (target : ℕ) → target < length prescores.old → slice_index_or prescores.old target 0 + slack < 2 ^ 64 }
     ensures { (target : ℕ) → target < length prescores.old
         → slice_index_or prescores.new target 0 ≡ slice_index_or prescores.old target 0 + cond (has votes.now target) slack 0 }
 {

@@ -1,3 +1,4 @@
 pub mod AveragingLemmas
 pub mod ScoreLemmas
 pub mod SumLemmas
+pub mod StakeLemmas
