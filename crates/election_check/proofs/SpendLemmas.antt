@@ -1,27 +1,25 @@
 -- What the tables by voter and by target say once they are filled.
-use Rattle.std.proofs.Common.{◌≡◌, ℕ, ◌+◌, ◌-◌, ◌*◌, ◌/◌, ◌<◌, ◌≤◌, ◌^◌, min, Bool, true, false, cond, not, ◌&&◌, ◌||◌, nat_eq, nat_lt, nat_le, List, [], ◌∷◌, ◌++◌, length, take, get_or, set, filter, sum_by, find, option_map, Option, Some, None, Ok, Err, All, ◌⊎◌, inl, inr, refl, sym, ap, subst, ◌∙◌, arith}
-use Rattle.std.specs.List.{IsDistinct, list_any, range_with_len}
+use Rattle.std.proofs.Common.{◌≡◌, ℕ, ◌+◌, ◌-◌, ◌<◌, ◌≤◌, min, Bool, true, false, cond, not, ◌||◌, nat_eq, nat_le, List, length, take, get_or, set, filter, sum_by, option_map, Ok, Err, ◌⊎◌, inl, inr, refl, sym, ap, subst, ◌∙◌, arith}
+use Rattle.std.specs.List.{IsDistinct, range_with_len}
 use Rattle.std.proofs.Math.Nat.{div-le_of_le-mul, mul-le-mul_left, mul_comm}
 use Rattle.std.proofs.lemmas.List.{take_all, length-take, length-set, get_or-take, get_or_default, get_or-set_same, get_or-set_other}
 use Rattle.std.proofs.lemmas.List.Sums.{sum_by_push}
 use Rattle.std.proofs.lemmas.List.Folds.{list_any_more, list_any_none}
-use Rattle.std.proofs.lemmas.Bool.{cases_eq, cases_Bool, cond-true, cond-false, lt-ltb, le-ltb, le-leb, lt-leb, eq-eqb, ne_eqb, and_from, and_left, and_right, or_right, not_from_false}
+use Rattle.std.proofs.lemmas.Bool.{cases_eq, cond-true, cond-false, lt-ltb, le-ltb, le-leb, eq-eqb, ne_eqb, and_from, or_right, not_from_false}
 use Rattle.std.proofs.lemmas.Bool.Decides.{Decides-eqb}
 use Rattle.std.proofs.lemmas.Map.Made.{AllPairs-from_IsDistinct}
 use Rattle.npos_base.specs.declared.figures.Edge.{Edge}
 use Rattle.election_snapshot.specs.Snapshot.{Snapshot, has, nominates, stake_of, total_stake, threshold}
 use Rattle.weight_book.specs.Weights.{Weights, IsFeasible, edges_from, edges_to, support, spent, amount_sum}
-use Rattle.weight_book.specs.Passing.{pay, paid, slack}
+use Rattle.weight_book.specs.Passing.{pay, slack}
 use Rattle.weight_book.proofs.SumLemmas.{sum_filter_more, sum_filter_push, sum_filter-le, sum_filter-take-le, sum_le}
 use Rattle.weight_book.proofs.StakeLemmas.{range_more, stakes_before}
-use Rattle.election_check.specs.declared.verdict.Verdict.{Verdict}
 use Rattle.election_check.specs.declared.verdict.Verdict.TheVariants.{Outweighed, Overspent}
 use Rattle.election_check.specs.First.{answer_of}
-use Rattle.election_check.specs.Kept.{AreMarks}
 use Rattle.election_check.specs.Steps.{outweighed, outweighs, prescore_of}
 use Rattle.election_check.specs.Plain.{overspent, overspends}
 use Rattle.election_check.proofs.FirstLemmas.{lowest_found, none_found}
-use Rattle.election_check.proofs.StepLemmas.{AreSpent, ArePaid, distinct_places}
+use Rattle.election_check.proofs.StepLemmas.{AreSpent, ArePaid}
 
 -- ---- spending
 module _ (snapshot : Snapshot) (edges : List Edge) (i lowest : ℕ) (left : List ℕ) (so_far : AreSpent snapshot edges i lowest left) (ends : length edges ≤ i) where
@@ -40,8 +38,12 @@ module _ (snapshot : Snapshot) (edges : List Edge) (i lowest : ℕ) (left : List
 
 -- ---- pays
 pub within_support : (edges : List Edge) (i : ℕ) (d : Edge) → i < length edges → (get_or edges i d).amount ≤ support edges (get_or edges i d).target
-within_support edges i d h = omega (arith, sum_filter_more (λ (e : Edge). nat_eq e.target (get_or edges i d).target) (λ (e : Edge). e.amount) edges i d h,
-    cond-true (nat_eq (get_or edges i d).target (get_or edges i d).target) (get_or edges i d).amount 0 (eq-eqb (get_or edges i d).target (get_or edges i d).target refl), more)
+within_support edges i d h = omega (
+  arith,
+  sum_filter_more (λ (e : Edge). nat_eq e.target (get_or edges i d).target) (λ (e : Edge). e.amount) edges i d h,
+  cond-true (nat_eq (get_or edges i d).target (get_or edges i d).target) (get_or edges i d).amount 0 (eq-eqb (get_or edges i d).target (get_or edges i d).target refl),
+  more,
+)
   where
     more : amount_sum (edges_to (take (i + 1) edges) (get_or edges i d).target) ≤ support edges (get_or edges i d).target
     more = sum_filter-take-le (λ (e : Edge). nat_eq e.target (get_or edges i d).target) (λ (e : Edge). e.amount) edges (i + 1)
@@ -71,10 +73,16 @@ module _ (cap : ℕ) (snapshot : Snapshot) (weights : Weights) (feasible : IsFea
   pub pay_left : pay cap weights.edges edge ≤ get_or left edge.voter 0
   pay_left =
       let itself : cond (nat_eq edge.voter edge.voter) (pay cap weights.edges edge) 0 ≡ pay cap weights.edges edge
-            = cond-true (nat_eq edge.voter edge.voter) (pay cap weights.edges edge) 0 (eq-eqb edge.voter edge.voter refl) in
-      omega (arith, so_far.kept edge.voter in_range, paid_more edge.voter, itself,
+      = cond-true (nat_eq edge.voter edge.voter) (pay cap weights.edges edge) 0 (eq-eqb edge.voter edge.voter refl) in
+      omega (
+        arith,
+        so_far.kept edge.voter in_range,
+        paid_more edge.voter,
+        itself,
         sum_filter-take-le (λ (e : Edge). nat_eq e.voter edge.voter) (pay cap weights.edges) weights.edges (i + 1),
-        paid_within cap weights.edges weights.edges edge.voter, feasible.within_stakes edge.voter in_range)
+        paid_within cap weights.edges weights.edges edge.voter,
+        feasible.within_stakes edge.voter in_range,
+      )
 
   pub paid_next : ArePaid cap snapshot weights.edges (i + 1) (set left edge.voter (get_or left edge.voter 0 - pay cap weights.edges edge))
   paid_next = record {
@@ -85,7 +93,7 @@ module _ (cap : ℕ) (snapshot : Snapshot) (weights : Weights) (feasible : IsFea
         → get_or (set left edge.voter (get_or left edge.voter 0 - pay cap weights.edges edge)) voter 0 + paid_to (i + 1) voter ≡ stake_of snapshot voter
     at voter l (inl same) =
         let now = ap (λ n. get_or (set left n (get_or left n 0 - pay cap weights.edges edge)) voter 0) same
-              ∙ get_or-set_same left voter (get_or left voter 0 - pay cap weights.edges edge) 0 (omega (arith, l, so_far.size)) in
+        ∙ get_or-set_same left voter (get_or left voter 0 - pay cap weights.edges edge) 0 (omega (arith, l, so_far.size)) in
         let itself = cond-true (nat_eq edge.voter voter) (pay cap weights.edges edge) 0 (eq-eqb edge.voter voter same) in
         let enough : pay cap weights.edges edge ≤ get_or left voter 0 = subst (λ n. pay cap weights.edges edge ≤ get_or left n 0) same pay_left in
         omega (arith, now, paid_more voter, itself, so_far.kept voter l, enough)
@@ -129,7 +137,7 @@ module _ (votes : List ℕ) (distinct : IsDistinct nat_eq votes) (i d : ℕ) (h 
       at (inr differ) =
           let here = get_or-set_other now (get_or votes i d) target (get_or now (get_or votes i d) 0 + slack) 0 (λ e. differ (sym e)) in
           let still : has (take (i + 1) votes) target ≡ has (take i votes) target
-                = has_more target ∙ ap (λ b. has (take i votes) target || b) (ne_eqb (get_or votes i d) target differ) ∙ or_false (has (take i votes) target) in
+          = has_more target ∙ ap (λ b. has (take i votes) target || b) (ne_eqb (get_or votes i d) target differ) ∙ or_false (has (take i votes) target) in
           here ∙ adds target l ∙ ap (λ b. get_or old target 0 + cond b slack 0) (sym still)
 
 -- ---- prescores
@@ -147,17 +155,22 @@ module _ (snapshot : Snapshot) (weights : Weights) where
 
   -- it is no more than all stakes, also with one more
   pub left_fits : (voter target : ℕ) → voter < length snapshot.voters → left_before voter target + left_of voter ≤ total_stake snapshot
-  left_fits voter target h = omega (arith, sum_filter-le (λ n. nominates snapshot n target) left_of (range_with_len 0 voter),
-      sum_le left_of (stake_of snapshot) (range_with_len 0 voter) (λ k d l. omega arith),
-      stakes_before snapshot (voter + 1) (omega (arith, h)), ap (sum_by (stake_of snapshot)) (range_more voter), sum_by_push (stake_of snapshot) (range_with_len 0 voter) voter)
+  left_fits voter target h = omega (
+    arith,
+    sum_filter-le (λ n. nominates snapshot n target) left_of (range_with_len 0 voter),
+    sum_le left_of (stake_of snapshot) (range_with_len 0 voter) (λ k d l. omega arith),
+    stakes_before snapshot (voter + 1) (omega (arith, h)),
+    ap (sum_by (stake_of snapshot)) (range_more voter),
+    sum_by_push (stake_of snapshot) (range_with_len 0 voter) voter,
+  )
 
   module _ (target : ℕ) (below : (other : ℕ) → other < target → outweighs snapshot weights other ≡ false) where
     pub found : target < length snapshot.targets → has weights.committee target ≡ false → threshold snapshot ≤ prescore_of snapshot weights target
         → Err (Outweighed target (prescore_of snapshot weights target)) ≡ answer_of (outweighed snapshot weights)
     found h outside enough = sym (ap (λ o. answer_of (option_map (λ n. Outweighed n (prescore_of snapshot weights n)) o))
         (lowest_found (outweighs snapshot weights) (length snapshot.targets) target h
-          (and_from (not (has weights.committee target)) (nat_le (threshold snapshot) (prescore_of snapshot weights target))
-            (not_from_false (has weights.committee target) outside) (le-leb (threshold snapshot) (prescore_of snapshot weights target) enough)) below))
+        (and_from (not (has weights.committee target)) (nat_le (threshold snapshot) (prescore_of snapshot weights target))
+        (not_from_false (has weights.committee target) outside) (le-leb (threshold snapshot) (prescore_of snapshot weights target) enough)) below))
 
     pub nothing : length snapshot.targets ≤ target → Ok tt ≡ answer_of (outweighed snapshot weights)
     nothing h = sym (ap (λ o. answer_of (option_map (λ n. Outweighed n (prescore_of snapshot weights n)) o))

@@ -1,16 +1,16 @@
 -- What each step of a check has found so far.
-use Rattle.std.proofs.Common.{◌≡◌, ℕ, ◌+◌, ◌*◌, ◌<◌, ◌≤◌, Bool, true, false, ◌&&◌, ◌||◌, cond, nat_eq, List, [], ◌∷◌, length, take, drop, get_or, set, filter, sum_by, All, slice_index, slice_index_or, ◌⊎◌, inl, inr, refl, sym, ap, ap₂, subst, ◌∙◌, arith}
-use Rattle.std.specs.List.{list_any, IsDistinct, range_with_len}
-use Rattle.std.proofs.lemmas.List.{get_or-set_same, get_or-set_other, length-set, get_or-map}
+use Rattle.std.proofs.Common.{◌≡◌, ℕ, ◌+◌, ◌*◌, ◌<◌, ◌≤◌, Bool, true, false, ◌&&◌, ◌||◌, nat_eq, List, [], length, take, drop, get_or, set, sum_by, slice_index, slice_index_or, ◌⊎◌, inl, inr, refl, sym, ap, ap₂, subst, ◌∙◌, arith}
+use Rattle.std.specs.List.{list_any, IsDistinct}
+use Rattle.std.proofs.lemmas.List.{get_or-set_same, get_or-set_other, get_or-map}
 use Rattle.std.proofs.lemmas.List.Folds.{list_any_more}
 use Rattle.std.proofs.lemmas.Nat.{same_from_place}
 use Rattle.std.proofs.lemmas.Map.Made.{AllPairs-from_IsDistinct}
 use Rattle.std.proofs.lemmas.Bool.Decides.{Decides-eqb}
-use Rattle.std.proofs.lemmas.Bool.{cases_eq, cases_lt, cases_order, cases_Bool, eqb-true, eq-eqb, ne_eqb, or_right, and_from, and_left, and_right}
+use Rattle.std.proofs.lemmas.Bool.{cases_eq, cases_order, eq-eqb, ne_eqb, or_right, and_from, and_left, and_right}
 use Rattle.npos_base.specs.declared.figures.Edge.{Edge}
-use Rattle.election_snapshot.specs.Snapshot.{Snapshot, IsWellFormed, has, nominates, nobody, stake_of, stakes_of, votes_of}
+use Rattle.election_snapshot.specs.Snapshot.{Snapshot, IsWellFormed, nobody, stake_of, stakes_of, votes_of}
 use Rattle.weight_book.specs.Weights.{Weights, spent, edges_from}
-use Rattle.weight_book.specs.Passing.{pay, slack}
+use Rattle.weight_book.specs.Passing.{pay}
 use Rattle.election_check.specs.Kept.{AreMarks}
 use Rattle.election_check.specs.Plain.{members_fault, edges_fault}
 
@@ -62,16 +62,16 @@ module _ (snapshot : Snapshot) (formed : IsWellFormed snapshot) (edges : List Ed
   this_pair voter k p q same =
       let (voter_is, place_is) = same_from_place edge.voter place voter k 16 (omega (arith, few edge.voter in_range, in_votes)) (omega (arith, few voter p, q)) same in
       and_from (nat_eq edge.voter voter) (nat_eq edge.target (get_or (votes_of snapshot voter) k 0)) (eq-eqb edge.voter voter voter_is)
-        (eq-eqb edge.target (get_or (votes_of snapshot voter) k 0) (sym is ∙ ap (λ n. get_or (votes_of snapshot n) place 0) voter_is ∙ ap (λ n. get_or (votes_of snapshot voter) n 0) place_is))
+      (eq-eqb edge.target (get_or (votes_of snapshot voter) k 0) (sym is ∙ ap (λ n. get_or (votes_of snapshot n) place 0) voter_is ∙ ap (λ n. get_or (votes_of snapshot voter) n 0) place_is))
 
   other_pair : (voter k : ℕ) → voter < length snapshot.voters → k < length (votes_of snapshot voter) → (edge.voter * 16 + place ≡ voter * 16 + k → ⊥)
       → (nat_eq edge.voter voter && nat_eq edge.target (get_or (votes_of snapshot voter) k 0)) ≡ false
   other_pair voter k p q differ = elim (cases_eq edge.voter voter) [
     | inl same ↦ and_right (nat_eq edge.voter voter) (nat_eq edge.target (get_or (votes_of snapshot voter) k 0))
         (ne_eqb edge.target (get_or (votes_of snapshot voter) k 0) (λ e. differ (ap₂ (λ a b. a * 16 + b) same
-          (distinct_places (votes_of snapshot voter) (formed.voters.each_voter voter nobody p).votes_distinct place k
-            (subst (λ n. place < length (votes_of snapshot n)) same in_votes) q
-            (sym (ap (λ n. get_or (votes_of snapshot n) place 0) same) ∙ is ∙ e)))))
+        (distinct_places (votes_of snapshot voter) (formed.voters.each_voter voter nobody p).votes_distinct place k
+        (subst (λ n. place < length (votes_of snapshot n)) same in_votes) q
+        (sym (ap (λ n. get_or (votes_of snapshot n) place 0) same) ∙ is ∙ e)))))
     | inr apart ↦ and_left (nat_eq edge.voter voter) (nat_eq edge.target (get_or (votes_of snapshot voter) k 0)) (ne_eqb edge.voter voter apart)
   ]
 

@@ -16,11 +16,12 @@ use weight_book::Weights;
 
 /// Tells whether there is not one member for each seat.
 pub(crate) fn check_size(snapshot: &Snapshot, weights: &Weights) -> Result<(), Verdict>
-    requires { length weights.now.plain.committee ≤ 65536 }
+    requires { length weights.now.plain.committee ≤ length snapshot.now.targets }
     ensures { result ≡ answer_of (size_fault snapshot.now weights.now.plain) }
 {
+    let seats = snapshot.seats();
     let found = weights.committee().len() as u32;
-    if found == snapshot.seats() {
+    if found == seats {
         Ok(())
     } else {
         Err(Verdict::WrongSize(found))
@@ -90,7 +91,7 @@ fn fill_prescores(snapshot: &Snapshot, weights: &Weights, slacks: &[u64], presco
         → slice_index_or prescores.new target 0 ≡ prescore_of snapshot.now weights.now.plain target }
 {
     prescores.fill(0);
-    for voter in 0..slacks.len() {
+    for voter in 0..snapshot.voter_count() {
         add_to_all(snapshot.votes(voter as u32), slacks[voter], prescores);
     }
 }

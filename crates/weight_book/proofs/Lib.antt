@@ -2,3 +2,4 @@ pub mod AveragingLemmas
 pub mod ScoreLemmas
 pub mod SumLemmas
 pub mod StakeLemmas
+pub mod OrderLemmas

@@ -63,7 +63,7 @@ sum_le f g [] h = omega arith
 sum_le f g (x ∷ xs) h = rw (sum_by-cons f x xs, sum_by-cons g x xs)
     (omega (arith, All-head (λ x. f x ≤ g x) x xs h, sum_le f g xs (All-tail (λ x. f x ≤ g x) x xs h)))
 
-eqb_turned : (a b : ℕ) → nat_eq a b ≡ nat_eq b a
+pub eqb_turned : (a b : ℕ) → nat_eq a b ≡ nat_eq b a
 eqb_turned a b = elim (cases_Bool (nat_eq a b)) [
   | inl t ↦ t ∙ sym (eq-eqb b a (sym (eqb-true a b t)))
   | inr t ↦ t ∙ sym (ne_eqb b a (λ e. true≢false (sym (eq-eqb a b (sym e)) ∙ t)))

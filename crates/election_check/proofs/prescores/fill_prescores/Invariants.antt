@@ -7,5 +7,5 @@ use Rattle.election_check.proofs.prescores.fill_prescores.Given as goal
 -- what the voters so far have left
 abbrev pub invariant-loop-voter : goal.invariant-loop-voter
 invariant-loop-voter l = ((target : ℕ) → target < length l.snapshot.targets → slice_index_or l.prescores target 0
-      ≡ sum_by (slack (threshold l.snapshot) l.snapshot l.weights.plain.edges) (filter (λ voter. nominates l.snapshot voter target) (range_with_len 0 l.voter)))
+    ≡ sum_by (slack (threshold l.snapshot) l.snapshot l.weights.plain.edges) (filter (λ voter. nominates l.snapshot voter target) (range_with_len 0 l.voter)))
     × (length l.prescores ≡ length l.snapshot.targets)
