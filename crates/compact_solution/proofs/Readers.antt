@@ -1,5 +1,5 @@
 -- What the readers of a solution answer, where one part stands behind another.
-use Rattle.std.proofs.Common.{◌≡◌, ℕ, zero, suc, ◌+◌, ◌<◌, List, [], ◌∷◌, ◌++◌, length, refl, sym, ◌∙◌, ap, subst, inl, inr, arith, append_assoc, length-append, append-nil, zero-add}
+use Rattle.std.proofs.Common.{◌≡◌, ℕ, zero, suc, ◌+◌, ◌<◌, List, [], ◌∷◌, ◌++◌, length, get_or, refl, sym, ◌∙◌, ap, subst, inl, inr, arith, append_assoc, length-append, append-nil, zero-add}
 use Rattle.std.specs.Prelude.{Err}
 use Rattle.scale_wire.specs.declared.fault.Why.{Why}
 use Rattle.scale_wire.specs.declared.fault.WireFault.{WireFault}
@@ -9,6 +9,7 @@ use Rattle.scale_wire.specs.Form.{Form}
 use Rattle.scale_wire.specs.Composite.{pair, triple, items, row, row_bytes, IsRow, BadRow}
 use Rattle.scale_wire.specs.Reading.{Place, IsRead, IsFault, Reads}
 use Rattle.scale_wire.proofs.ReadLemmas.{behind_fault}
+use Rattle.scale_wire.proofs.ListLemmas.{items_err}
 
 -- the second of a pair was refused; `here` is a copy of the cursor as it was
 pub pair_fault : {A B : Type 0} (a : Form A) (b : Form B) (old here mid new : Place) (first : A) (fault : WireFault) → here ≡ old
@@ -35,7 +36,13 @@ module _ {A B C : Type 0} (a : Form A) (b : Form B) (c : Form C) where
   third_fault old here mid next new first second fault same read more refused =
       subst (λ (o : Place). IsFault (triple a b c) o fault o) same
       (behind_fault a (λ _. (pair b c).bad) here mid mid first fault read
-          (behind_fault b (λ _. c.bad) mid next new second fault more refused))
+      (behind_fault b (λ _. c.bad) mid next new second fault more refused))
+
+-- one of several was refused; `here` is a copy of the cursor as it was
+pub items_refused : {A : Type 0} (item : Form A) (count done : ℕ) (old here mid new : Place) (xs : List A) (fault : WireFault) → here ≡ old
+    → done < count → IsRead (items item done) here xs mid → IsFault item mid fault new → IsFault (items item count) old fault old
+items_refused item count done old here mid new xs fault same below read refused =
+    items_err item count done old here mid new xs (Wire fault) same below read refused
 
 -- ## Rows
 
@@ -75,7 +82,7 @@ module _ {A : Type 0} (item : ℕ → Form A) where
         place = length (row_bytes item 0 xs) + refused.place;
         bad = subst (λ (s : List ℕ). BadRow item 0 count s (length (row_bytes item 0 xs) + refused.place) fault.why) (sym read.whole)
             (bad_row xs 0 count (omega (arith, below, long)) (subst (λ (n : ℕ). IsRow item 0 n xs) (sym long) read.in_range) mid.rest refused.place fault.why
-                (subst (λ (n : ℕ). (item n).bad mid.rest refused.place fault.why) (sym place) refused.bad));
+            (subst (λ (n : ℕ). (item n).bad mid.rest refused.place fault.why) (sym place) refused.bad));
         at_is = omega (arith, refused.at_is, read.at_is);
         unchanged = refl;
       }
@@ -97,18 +104,19 @@ module _ {A : Type 0} (item : ℕ → Form A) where
       let at : first + suc count ≡ suc first + count = omega arith in
       (fits.0, row_more (suc first) count xs x fits.1 (subst (λ (n : ℕ). (item n).in_range x) at here))
 
-  row_bytes_more : (first count : ℕ) (xs : List A) (x : A) → IsRow item first count xs
-      → row_bytes item first (xs ++ x ∷ []) ≡ row_bytes item first xs ++ (item (first + count)).spelling x
-  row_bytes_more first zero [] x fits =
-      let at : first ≡ first + 0 = omega arith in
-      append-nil ((item first).spelling x) ∙ ap (λ (n : ℕ). (item n).spelling x) at
-  row_bytes_more first zero (y ∷ xs) x fits = absurd fits
-  row_bytes_more first (suc count) [] x fits = absurd fits
-  row_bytes_more first (suc count) (y ∷ xs) x fits =
-      let at : suc first + count ≡ first + suc count = omega arith in
-      ap (λ (s : List ℕ). (item first).spelling y ++ s) (row_bytes_more (suc first) count xs x fits.1)
-      ∙ (sym (append_assoc ((item first).spelling y) (row_bytes item (suc first) xs) ((item (suc first + count)).spelling x))
-      ∙ ap (λ (n : ℕ). ((item first).spelling y ++ row_bytes item (suc first) xs) ++ (item n).spelling x) at)
+  pub row_bytes-append : (first : ℕ) (xs ys : List A) → row_bytes item first (xs ++ ys) ≡ row_bytes item first xs ++ row_bytes item (first + length xs) ys
+  row_bytes-append first [] ys = let at : first ≡ first + 0 = omega arith in ap (λ (n : ℕ). row_bytes item n ys) at
+  row_bytes-append first (x ∷ xs) ys =
+      let at : suc first + length xs ≡ first + suc (length xs) = omega arith in
+      ap (λ (s : List ℕ). (item first).spelling x ++ s) (row_bytes-append (suc first) xs ys)
+      ∙ (sym (append_assoc ((item first).spelling x) (row_bytes item (suc first) xs) (row_bytes item (suc first + length xs) ys))
+      ∙ ap (λ (n : ℕ). ((item first).spelling x ++ row_bytes item (suc first) xs) ++ row_bytes item n ys) at)
+
+  pub row_bytes_more : (xs : List A) (x : A) (count : ℕ) → length xs ≡ count → row_bytes item 0 (xs ++ x ∷ []) ≡ row_bytes item 0 xs ++ (item count).spelling x
+  row_bytes_more xs x count long =
+      let at : 0 + length xs ≡ count = omega (arith, long) in
+      row_bytes-append 0 xs (x ∷ [])
+      ∙ ap (λ (s : List ℕ). row_bytes item 0 xs ++ s) (append-nil ((item (0 + length xs)).spelling x) ∙ ap (λ (n : ℕ). (item n).spelling x) at)
 
   -- one item more of a row was read
   pub row_read : (done : ℕ) (old mid new : Place) (xs : List A) (x : A) → IsRead (row item 0 done) old xs mid
@@ -117,7 +125,7 @@ module _ {A : Type 0} (item : ℕ → Form A) where
       let at : done ≡ 0 + done = omega arith in
       let next : suc done ≡ done + 1 = omega arith in
       let spelled : row_bytes item 0 (xs ++ x ∷ []) ≡ row_bytes item 0 xs ++ (item done).spelling x =
-      row_bytes_more 0 done xs x read.in_range ∙ ap (λ (n : ℕ). row_bytes item 0 xs ++ (item n).spelling x) (sym at) in
+      row_bytes_more xs x done (row_length 0 done xs read.in_range) in
       record {
         in_range = subst (λ (n : ℕ). IsRow item 0 n (xs ++ x ∷ [])) next
             (row_more 0 done xs x read.in_range (subst (λ (n : ℕ). (item n).in_range x) at more.in_range));
@@ -126,3 +134,22 @@ module _ {A : Type 0} (item : ℕ → Form A) where
             ∙ ap (λ (s : List ℕ). s ++ new.rest) (sym spelled)));
         at_is = omega (arith, read.at_is, more.at_is, ap length spelled, length-append (row_bytes item 0 xs) ((item done).spelling x));
       }
+
+-- a row of `count` items has that many
+pub row_count : {A : Type 0} (item : ℕ → Form A) (count : ℕ) (xs : List A) → IsRow item 0 count xs → length xs ≡ count
+row_count item count xs fits = row_length item 0 count xs fits
+
+-- one item of a row
+pub row_item : {A : Type 0} (item : ℕ → Form A) (count : ℕ) (xs : List A) (i : ℕ) (d : A) → IsRow item 0 count xs → i < count → (item i).in_range (get_or xs i d)
+row_item {A = A} item count xs i d fits below =
+    let at : 0 + i ≡ i = zero-add i in
+    subst (λ (n : ℕ). (item n).in_range (get_or xs i d)) at (item_at 0 count xs i fits below)
+  where
+    item_at : (first count : ℕ) (xs : List A) (i : ℕ) → IsRow item first count xs → i < count → (item (first + i)).in_range (get_or xs i d)
+    item_at first zero xs i fits below = absurd (omega (arith, below))
+    item_at first (suc count) [] i fits below = absurd fits
+    item_at first (suc count) (x ∷ xs) zero fits below =
+        let at : first ≡ first + 0 = omega arith in subst (λ (n : ℕ). (item n).in_range x) at fits.0
+    item_at first (suc count) (x ∷ xs) (suc i) fits below =
+        let at : suc first + i ≡ first + suc i = omega arith in
+        subst (λ (n : ℕ). (item n).in_range (get_or xs i d)) at (item_at (suc first) count xs i fits.1 (omega (arith, below)))

@@ -10,7 +10,7 @@ use Rattle.scale_wire.specs.declared.fault.WireFault.{WireFault}
 use Rattle.scale_wire.specs.declared.fault.ReadFault.{ReadFault}
 use Rattle.scale_wire.specs.declared.fault.ReadFault.TheVariants as faults
 use Rattle.scale_wire.specs.Form.{IsBytes, Form}
-use Rattle.scale_wire.specs.Reading.{BadWhole}
+use Rattle.scale_wire.specs.Reading.{BadWhole, ReadsWhole}
 use Rattle.scale_wire.specs.Laws.{IsWhole, IsRefusedWhole, IsDecidedWhole}
 use Rattle.scale_wire.proofs.LawLemmas.{decided_whole}
 use Rattle.compact_solution.specs.Solution.{Entry, solution_form}
@@ -76,14 +76,21 @@ IsDecoded bytes (Ok solution) = decoded bytes ≡ Ok solution
 IsDecoded bytes (Err (faults.Wire fault)) = decoded bytes ≡ Err fault
 IsDecoded bytes (Err faults.NoMemory) = Unit {0}
 
-pub decoded_is : (bytes : List ℕ) (solution : List (List Entry)) → IsBytes bytes → solution_form.in_range solution
+decoded_is : (bytes : List ℕ) (solution : List (List Entry)) → IsBytes bytes → solution_form.in_range solution
     → bytes ≡ solution_form.spelling solution → decoded bytes ≡ Ok solution
 unfolding decoded
 decoded_is bytes solution are_bytes fits whole =
     read_value solution_form (decided_whole solution_form solution_laws) bytes solution are_bytes fits whole
 
-pub refused_is : (bytes : List ℕ) (fault : WireFault) → IsBytes bytes → BadWhole solution_form bytes fault.at fault.why
+refused_is : (bytes : List ℕ) (fault : WireFault) → IsBytes bytes → BadWhole solution_form bytes fault.at fault.why
     → decoded bytes ≡ Err fault
 unfolding decoded
 refused_is bytes fault are_bytes bad =
     read_fault solution_form (decided_whole solution_form solution_laws) bytes fault are_bytes bad
+
+-- what reads a whole input by the grammar gives what the bytes decide
+pub read_is_decoded : (bytes : List ℕ) (result : Result (List (List Entry)) ReadFault) → IsBytes bytes → ReadsWhole solution_form bytes result
+    → IsDecoded bytes result
+read_is_decoded bytes (Ok solution) are_bytes read = decoded_is bytes solution are_bytes read.0 read.1
+read_is_decoded bytes (Err (faults.Wire fault)) are_bytes bad = refused_is bytes fault are_bytes bad
+read_is_decoded bytes (Err faults.NoMemory) are_bytes free = tt

@@ -18,7 +18,7 @@ entry_laws shares = seen_laws (triple compact_u32 (items share_form shares) comp
     (λ entry. (entry.voter, entry.shares, entry.last))
     (λ fields. record { voter = fields.0; shares = fields.1; last = fields.2 }) (λ _. refl) (λ _. refl)
     (triple_laws compact_u32 (items share_form shares) compact_u16
-        compact_u32_laws (items_laws share_form share_laws shares) compact_u16_laws)
+    compact_u32_laws (items_laws share_form share_laws shares) compact_u16_laws)
 
 pub group_laws : (shares : ℕ) → IsWire (group_form shares)
 group_laws shares =

@@ -24,14 +24,15 @@ pub(crate) struct Shares {
 }
 
 impl Model for Shares {
-    ghost use Rattle.std.specs.Prelude.{◌≡◌, ◌≤◌, List, length, take};
+    ghost use Rattle.std.specs.Prelude.{◌≡◌, ◌<◌, List, length, take};
+    ghost use Rattle.compact_solution.specs.declared.entry.TheConstants.{GROUPS, MOST_SHARES};
     ghost use Rattle.compact_solution.specs.declared.entry.Share.{Share};
 
     ghost Value = { List Share };
 
     ghost view = { λ s. take s.count s.kept };
 
-    ghost invariant = { λ s. (s.count ≤ 15) × (length s.kept ≡ 15) };
+    ghost invariant = { λ s. (s.count < GROUPS) × (length s.kept ≡ MOST_SHARES) };
 }
 
 impl Shares {
@@ -49,7 +50,7 @@ impl Shares {
     }
 
     pub(crate) fn push(&mut self, share: Share)
-        requires { length self.old < 15 }
+        requires { length self.old < MOST_SHARES }
         ensures { self.new ≡ self.old ++ share ∷ [] }
     {
         self.kept[usize::from(self.count)] = share;
@@ -58,7 +59,7 @@ impl Shares {
 
     pub(crate) fn as_slice(&self) -> &[Share]
         ensures shares { result.now ≡ self.now }
-        ensures most { length result.now ≤ 15 }
+        ensures most { length result.now < GROUPS }
     {
         &self.kept[..usize::from(self.count)]
     }

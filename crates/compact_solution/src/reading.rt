@@ -1,10 +1,10 @@
 //! Reading the groups of a solution.
-ghost use Rattle.std.specs.Prelude.{◌≡◌, ◌≤◌, ◌<◌};
+ghost use Rattle.std.specs.Prelude.{◌<◌};
 ghost use Rattle.scale_wire.specs.Composite.{items as items_of};
 ghost use Rattle.scale_wire.specs.Reading.{Takes, Reads};
 ghost use Rattle.compact_solution.specs.Solution.{share_form, entry_form, group_form};
 
-use crate::entry::{Entry, Share, Shares};
+use crate::entry::{Entry, GROUPS, Share, Shares};
 use npos_base::List;
 use scale_wire::Cursor;
 use scale_wire::fault::{ReadFault, WireFault};
@@ -18,7 +18,7 @@ pub(crate) fn read_group(
     cursor: &mut Cursor<'_>,
     shares: usize,
 ) -> Result<List<Entry>, ReadFault>
-    requires { shares ≤ 15 }
+    requires { shares < GROUPS }
     ensures { Reads (group_form shares) cursor.old result cursor.new }
 {
     let mut here = cursor.fork();
@@ -35,7 +35,7 @@ fn read_entries(
     shares: usize,
     count: u32,
 ) -> Result<List<Entry>, ReadFault>
-    requires { shares ≤ 15 }
+    requires { shares < GROUPS }
     ensures { Reads (items_of (entry_form shares) count) cursor.old result cursor.new }
 {
     let mut here = cursor.fork();
@@ -50,7 +50,7 @@ fn read_entries(
 
 // An entry with this many shares.
 fn take_entry(cursor: &mut Cursor<'_>, shares: usize) -> Result<Entry, WireFault>
-    requires { shares ≤ 15 }
+    requires { shares < GROUPS }
     ensures { Takes (entry_form shares) cursor.old result cursor.new }
 {
     let mut here = cursor.fork();
@@ -63,7 +63,7 @@ fn take_entry(cursor: &mut Cursor<'_>, shares: usize) -> Result<Entry, WireFault
 
 // This many shares.
 fn take_shares(cursor: &mut Cursor<'_>, count: usize) -> Result<Shares, WireFault>
-    requires { count ≤ 15 }
+    requires { count < GROUPS }
     ensures { Takes (items_of share_form count) cursor.old result cursor.new }
 {
     let mut here = cursor.fork();

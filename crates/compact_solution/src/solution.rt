@@ -6,7 +6,7 @@ ghost use Rattle.compact_solution.specs.Decoded.{IsDecoded};
 
 use crate::entry::{Entry, GROUPS};
 use crate::reading::read_group;
-use crate::writing::write_group;
+use crate::writing::write_groups;
 use npos_base::{List, NoMemory};
 use scale_wire::fault::ReadFault;
 use scale_wire::{Cursor, Pen, Wire, read_whole};
@@ -72,10 +72,7 @@ impl Wire for Solution {
     ghost laws = { solution_laws };
 
     fn write(&self, pen: &mut Pen) -> Result<(), NoMemory> {
-        for (shares, group) in self.groups.iter().enumerate() {
-            write_group(group, shares, pen)?;
-        }
-        Ok(())
+        write_groups(&self.groups, pen)
     }
 
     fn read(alloc: Global, cursor: &mut Cursor<'_>) -> Result<Solution, ReadFault> {
