@@ -1,8 +1,7 @@
 -- Reading as a function of bytes. Spelling and refusal are relations; since each list of bytes is the spelling of
 -- exactly one value or refused at exactly one place and for one reason, they give one answer.
 use Rattle.std.specs.Prelude.{◌≡◌, ◌⊎◌, ℕ, ◌<◌, List, [], ◌∷◌, Result, Ok, Err}
-use Rattle.std.specs.List.{AllByRecursion}
-use Rattle.std.proofs.Common.{sym, ◌∙◌, ap, ap₂, inl, inr}
+use Rattle.std.proofs.Common.{ap, ap₂, inl, inr}
 use Rattle.std.proofs.Math.Decide.{dec_lt}
 use Rattle.scale_wire.specs.declared.fault.Why.{Why}
 use Rattle.scale_wire.specs.declared.fault.Why.TheVariants.{Short}

@@ -6,7 +6,7 @@ use Rattle.scale_wire.specs.Parts.{compact_u16, compact_u32}
 use Rattle.scale_wire.specs.Composite.{pair, triple, items}
 use Rattle.scale_wire.specs.FormLaws.{pair_laws, triple_laws, seen_laws, items_laws, list_laws, row_laws}
 use Rattle.scale_wire.specs.CompactLaws.{compact_u16_laws, compact_u32_laws, length_laws}
-use Rattle.compact_solution.specs.Solution.{Entry, group_count, most_entries, share_form, entry_form, group_form, solution_form}
+use Rattle.compact_solution.specs.Solution.{group_count, most_entries, share_form, entry_form, group_form, solution_form}
 
 pub share_laws : IsWire share_form
 share_laws = seen_laws (pair compact_u16 compact_u16) (λ share. (share.target, share.parts))

@@ -1,6 +1,6 @@
 //! Entries: a voter, its targets and their shares.
 ghost use Rattle.std.specs.Prelude.{◌≡◌, ◌+◌, ◌<◌, ◌≤◌, [], ◌∷◌, ◌++◌, length, slice_index};
-ghost use Rattle.compact_solution.specs.Solution.{group_count, targets_of, parts_of};
+ghost use Rattle.compact_solution.specs.Solution.{targets_of, parts_of};
 
 use std::marker::Model;
 
@@ -101,10 +101,9 @@ impl Entry {
     }
 
     /// How many targets the entry names: at least one, and at most as many as there are groups.
-    #[tactic(auto, unfolding(crate::specs::Solution::group_count))]
     pub fn len(&self) -> usize
         ensures count { result ≡ length (targets_of self.now) }
-        ensures most { result ≤ group_count }
+        ensures most { result ≤ GROUPS }
     {
         self.shares().len() + 1
     }
@@ -129,10 +128,9 @@ impl Entry {
     }
 
     /// All targets but the last, with their shares.
-    #[tactic(auto, unfolding(crate::specs::Solution::group_count))]
     pub fn shares(&self) -> &[Share]
         ensures shares { result.now ≡ self.now.shares }
-        ensures most { length result.now < group_count }
+        ensures most { length result.now < GROUPS }
     {
         self.shares.as_slice()
     }

@@ -1,5 +1,5 @@
 //! Solutions: decoded from bytes, read by groups, encoded again.
-ghost use Rattle.std.specs.Prelude.{◌≡◌, ◌-◌, ◌≤◌, [], IfOk, slice_index_or};
+ghost use Rattle.std.specs.Prelude.{◌≡◌, ◌-◌, ◌≤◌, [], length, IfOk, slice_index_or};
 ghost use Rattle.scale_wire.specs.Reading.{ReadsWhole};
 ghost use Rattle.compact_solution.specs.Solution.{group_count, solution_form};
 ghost use Rattle.compact_solution.specs.Decoded.{IsDecoded};
@@ -52,10 +52,18 @@ impl Solution {
         Ok(pen.finish())
     }
 
+    /// How many groups there are.
+    pub fn groups(&self) -> usize
+        ensures count { result ≡ length self.now }
+        ensures number { result ≡ GROUPS }
+    {
+        self.groups.len()
+    }
+
     /// The entries with `j` targets.
     pub fn group(&self, j: usize) -> &[Entry]
         requires some { 1 ≤ j }
-        requires most { j ≤ group_count }
+        requires most { j ≤ GROUPS }
         ensures { result.now ≡ slice_index_or self.now (j - 1) [] }
     {
         self.groups[j - 1].as_slice()

@@ -1,5 +1,5 @@
 //! Solutions that are read and written, and bytes that are refused.
-use crate::Solution;
+use crate::{GROUPS, Solution};
 use scale_wire::fault::{ReadFault, Why, WireFault};
 use std::alloc::Global;
 use std::fmt::Write;
@@ -46,7 +46,7 @@ const REFUSED: [(&[u8], u64, Why); 9] = [
 // The entries, each with the number of its group, its voter and its targets.
 fn listed(alloc: Global, solution: &Solution) -> Result<String, Fail> {
     let mut text = String::new(alloc);
-    for j in 1..=16 {
+    for j in 1..=GROUPS {
         for entry in solution.group(j) {
             write!(text, "{j}: {}", entry.voter())?;
             for share in entry.shares() {

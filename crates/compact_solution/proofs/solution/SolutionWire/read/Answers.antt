@@ -1,6 +1,5 @@
-use Rattle.std.proofs.Common.{◌≡◌, ◌≤◌, arith, subst}
+use Rattle.std.proofs.Common.{arith}
 use Rattle.std.proofs.lemmas.Result.{err_from_is_err_and}
-use Rattle.scale_wire.specs.Reading.{Reads}
 use Rattle.compact_solution.specs.Solution.{group_count, group_form}
 use Rattle.compact_solution.proofs.Readers.{row_err, row_read}
 use Rattle.compact_solution.proofs.solution.SolutionWire.read.Goals as goal

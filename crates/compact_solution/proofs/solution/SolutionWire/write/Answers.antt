@@ -1,4 +1,4 @@
-use Rattle.std.proofs.Common.{◌≡◌, ◌∙◌, ℕ, length, List, ap, sym, subst}
+use Rattle.std.proofs.Common.{◌≡◌, ℕ, length, List, sym, subst}
 use Rattle.scale_wire.specs.Composite.{IsRow}
 use Rattle.compact_solution.specs.Solution.{Entry, group_count, group_form}
 use Rattle.compact_solution.proofs.Readers.{row_count}
