@@ -1,0 +1,17 @@
+//! The check of solutions from whoever made them: a verdict that is exact, and committees that passed it.
+#![tactic(auto)]
+
+mod checker;
+mod elected;
+pub mod laws;
+mod plain;
+mod prescores;
+mod tables;
+mod verdict;
+
+pub use checker::Checker;
+pub use elected::Elected;
+pub use verdict::Verdict;
+
+#[cfg(test)]
+mod tests;

@@ -1,0 +1,3 @@
+pub mod AveragingLemmas
+pub mod ScoreLemmas
+pub mod SumLemmas
