@@ -1,6 +1,7 @@
 -- Compact solutions, after Substrate: who backs whom with which part of its stake, in groups of entries. An entry
 -- of the first group names one target, one of the second group two, and so on.
 use Rattle.std.specs.Prelude.{ℕ, List, [], ◌∷◌, ◌++◌, map}
+use Rattle.std.specs.List.{flat_map}
 use Rattle.scale_wire.specs.Form.{Form}
 use Rattle.scale_wire.specs.Parts.{compact_u16, compact_u32}
 use Rattle.scale_wire.specs.Composite.{pair, triple, seen, items, list, row}
@@ -28,6 +29,10 @@ targets_of entry = map (λ share. share.target) entry.shares ++ entry.last ∷ [
 -- the shares of its targets but the last, in parts of 65,535
 abbrev pub parts_of : Entry → List ℕ
 parts_of entry = map (λ share. share.parts) entry.shares
+
+-- the entries of all groups, in listed order
+abbrev pub entries_of : List (List Entry) → List Entry
+entries_of solution = flat_map (λ group. group) solution
 
 -- ## In SCALE
 
