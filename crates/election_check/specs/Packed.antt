@@ -26,6 +26,10 @@ whole_stake = 65535
 abbrev pub amount_of : ℕ → Share → ℕ
 amount_of stake share = stake * share.parts / whole_stake
 
+-- the edge of a share, of a voter with this stake
+abbrev pub edge_of : ℕ → ℕ → Share → Edge
+edge_of stake voter share = record { voter = voter; target = share.target; amount = amount_of stake share }
+
 -- what the shares leave for the last target
 abbrev pub rest_of : ℕ → List Share → ℕ
 rest_of stake shares = stake - sum_by (amount_of stake) shares
@@ -33,7 +37,7 @@ rest_of stake shares = stake - sum_by (amount_of stake) shares
 -- the edges of an entry whose voter has this stake, in the order of its targets
 abbrev pub edges_of : ℕ → Entry → List Edge
 edges_of stake entry =
-    map (λ share. record { voter = entry.voter; target = share.target; amount = amount_of stake share }) entry.shares
+    map (edge_of stake entry.voter) entry.shares
     ++ record { voter = entry.voter; target = entry.last; amount = rest_of stake entry.shares } ∷ []
 
 -- the targets that some entry names

@@ -139,11 +139,18 @@ fn check_nominations(snapshot: &Snapshot, entry: &Entry) -> Result<(), Verdict>
     let votes = snapshot.votes(voter);
     for i in 0..entry.len() {
         let target = entry.target(i);
-        if !votes.contains(&target) {
+        if !is_vote(votes, target) {
             return Err(Verdict::NotNominated { voter, target });
         }
     }
     Ok(())
+}
+
+/// Whether the target is among the votes.
+fn is_vote(votes: &[u16], target: u16) -> bool
+    ensures { result ≡ has votes.now target }
+{
+    votes.contains(&target)
 }
 
 /// Tells whether a share is nothing, or the shares leave nothing for the last target.
