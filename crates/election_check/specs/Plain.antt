@@ -30,7 +30,7 @@ edge_fault snapshot committee before edge = first_of (
     when (nat_le (length snapshot.voters) edge.voter) (NoVoter edge.voter)
     ∷ when (not (has committee edge.target)) (NoTarget edge.target)
     ∷ when (not (nominates snapshot edge.voter edge.target)) (NotNominated edge.voter edge.target)
-    ∷ when (list_any (same_pair edge) before) (TargetTwice edge.target)
+    ∷ when (list_any (λ other. same_pair other edge) before) (TargetTwice edge.target)
     ∷ [])
 
 abbrev pub edges_fault : Snapshot → List ℕ → List Edge → List Edge → Option Verdict
