@@ -4,3 +4,4 @@ pub mod ListFacts
 pub mod PackedLemmas
 pub mod PassingLemmas
 pub mod SoundLemmas
+pub mod TakingLemmas
