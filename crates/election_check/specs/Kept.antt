@@ -8,6 +8,8 @@ pub record AreTablesOf (snapshot : Snapshot) (tables : Tables) : Type 0 where
   pub pairs : length tables.is_seen.items ≡ length snapshot.voters * 16
   pub stakes : length tables.left.items ≡ length snapshot.voters
   pub prescores : length tables.prescores.items ≡ length snapshot.targets
+  pub entries : length tables.has_entry.items ≡ length snapshot.voters
+  pub stamps : length tables.stamps.items ≡ length snapshot.targets
 
 -- the table tells which numbers stand in the list
 abbrev pub AreMarks : List Bool → List ℕ → Type 0

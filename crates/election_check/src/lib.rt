@@ -3,7 +3,9 @@
 
 mod checker;
 mod elected;
+mod entries;
 pub mod laws;
+mod packed;
 mod plain;
 mod prescores;
 mod tables;

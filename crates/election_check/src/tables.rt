@@ -20,6 +20,10 @@ pub(crate) struct Tables {
     pub(crate) left: Vec<u64>,
     /// By target, what its nominators have left.
     pub(crate) prescores: Vec<u64>,
+    /// By voter, whether an entry is its.
+    pub(crate) has_entry: Vec<bool>,
+    /// By target, one more than the voter of the last entry that names it, and 0 where none does.
+    pub(crate) stamps: Vec<u32>,
 }
 
 impl Tables {
@@ -33,11 +37,15 @@ impl Tables {
         let is_seen = vec![in alloc; false; voters * MOST_VOTES]?;
         let left = vec![in alloc; 0; voters]?;
         let prescores = vec![in alloc; 0; targets]?;
+        let has_entry = vec![in alloc; false; voters]?;
+        let stamps = vec![in alloc; 0; targets]?;
         Ok(Tables {
             is_member,
             is_seen,
             left,
             prescores,
+            has_entry,
+            stamps,
         })
     }
 }
