@@ -3,6 +3,7 @@ pub mod EdgeLaws
 pub mod GrowLaws
 pub mod ChainLaws
 pub mod ElectionLaws
+pub mod SoundLaws
 pub mod TurnLaws
 pub mod StartLaws
 pub mod BookLaws

@@ -101,3 +101,7 @@ pub record ReadsUpTo (most : ℕ) (old now : Option (List ℕ)) (bytes : List �
   pub taken : LeftAfter old now bytes
   pub few : length bytes ≤ most + 1
   pub ended : length bytes ≤ most → IsDrained old now
+
+-- at most so many bytes were taken
+abbrev pub TakesAtMost : ℕ → Option (List ℕ) → Option (List ℕ) → Type 0
+TakesAtMost most old now = (taken : List ℕ) × LeftAfter old now taken × (length taken ≤ most)

@@ -8,6 +8,7 @@ use Rattle.npos_cli.specs.declared.status.Status.TheVariants as statuses
 use Rattle.npos_cli.specs.Words.{job_of, usage_line}
 use Rattle.npos_cli.specs.Replay.{Outcome, IsReplay}
 use Rattle.npos_cli.specs.Chain.{npos_machine}
+use Rattle.npos_cli.specs.Bundles.{check_report}
 
 -- a replay is done, unless it ends with a fault line
 abbrev pub replay_status : Bool → Status
@@ -19,6 +20,7 @@ abbrev pub JobOwes : Option Job → List ℕ → List ℕ → Status → Type 0
 JobOwes None bytes text status = (text ≡ usage_line) × (status ≡ statuses.Usage)
 JobOwes (Some jobs.Replay) bytes text status =
     (out : Outcome Chain) × IsReplay npos_machine bytes out × (text ≡ out.text) × (status ≡ replay_status out.faulty)
+JobOwes (Some jobs.Check) bytes text status = record { text = text; status = status } ≡ check_report bytes
 
 abbrev pub Owes : List (List ℕ) → List ℕ → List ℕ → Status → Type 0
 Owes words = JobOwes (job_of words)
@@ -27,6 +29,7 @@ Owes words = JobOwes (job_of words)
 abbrev pub ReadsInput : Option Job → Type 0
 ReadsInput None = ⊥
 ReadsInput (Some jobs.Replay) = ⊤
+ReadsInput (Some jobs.Check) = ⊤
 
 -- a status that answers what is owed; the others say that the run was cut off
 abbrev pub IsAnswer : Status → Type 0

@@ -17,6 +17,7 @@ has_word words place text = is_word (slice_get words place) text
 abbrev pub job_of : List (List ℕ) → Option Job
 job_of words =
     if nat_eq (length words) 2 && has_word words 1 (codes "replay") then Some jobs.Replay
+    else if nat_eq (length words) 2 && has_word words 1 (codes "check") then Some jobs.Check
     else None
 
 -- the words ask for a job

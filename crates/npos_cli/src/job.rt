@@ -7,6 +7,8 @@ ghost use Rattle.npos_cli.specs.Words.{job_of, has_word};
 pub enum Job {
     /// To replay a stream.
     Replay,
+    /// To check the work of a bundle.
+    Check,
 }
 
 /// Whether the word at this place is this text.
@@ -25,6 +27,8 @@ pub fn job_of(words: &[String]) -> Option<Job>
 {
     if words.len() == 2 && has_word(words, 1, "replay") {
         Some(Job::Replay)
+    } else if words.len() == 2 && has_word(words, 1, "check") {
+        Some(Job::Check)
     } else {
         None
     }
