@@ -6,13 +6,11 @@ ghost use Rattle.weight_book.specs.Weights.{no_weights};
 ghost use Rattle.weight_book.specs.Room.{HasRoom, KeepsRoom};
 ghost use Rattle.compact_solution.specs.Solution.{targets_of, parts_of, entries_of};
 ghost use Rattle.election_check.specs.First.{answer_of, when};
-ghost use Rattle.election_check.specs.Kept.{AreTablesOf};
 ghost use Rattle.election_check.specs.Packed.{entries_fault, entry_fault, unknown_target, repeated_target, unnominated_target, has_bad_share, edges_of, whole_stake};
 ghost use Rattle.election_check.specs.Taking.{AreTaken};
 
 use crate::Verdict;
-use crate::tables::Tables;
-use compact_solution::{Entry, Solution};
+use compact_solution::{Entry, GROUPS, Solution};
 use election_snapshot::Snapshot;
 use npos_base::Edge;
 use weight_book::Weights;
@@ -20,25 +18,26 @@ use weight_book::Weights;
 /// The parts that a whole stake is shared in.
 const WHOLE_STAKE: u64 = 65_535;
 
-/// Takes all entries into empty weights, or tells their first fault.
+/// Takes all entries into empty weights, marks their voters and stamps their targets, or tells the first fault.
 pub(crate) fn take_entries(
     snapshot: &Snapshot,
     solution: &Solution,
-    tables: &mut Tables,
+    has_entry: &mut [bool],
+    stamps: &mut [u32],
     weights: &mut Weights,
 ) -> Result<(), Verdict>
     requires empty { weights.old.plain ≡ no_weights }
     requires room { HasRoom snapshot.now weights.old }
-    requires tables { AreTablesOf snapshot.now tables.old }
+    requires voters { length has_entry.old ≡ length snapshot.now.voters }
+    requires targets { length stamps.old ≡ length snapshot.now.targets }
     ensures fault { result ≡ answer_of (entries_fault snapshot.now [] (entries_of solution.now)) }
-    ensures taken { OnOk result (AreTaken snapshot.now (entries_of solution.now) tables.new.has_entry.items tables.new.stamps.items weights.new) }
-    ensures tables { AreTablesOf snapshot.now tables.new }
+    ensures taken { OnOk result (AreTaken snapshot.now (entries_of solution.now) has_entry.new stamps.new weights.new) }
     ensures room { KeepsRoom weights.old weights.new }
 {
-    tables.has_entry.fill(false);
-    tables.stamps.fill(0);
+    has_entry.fill(false);
+    stamps.fill(0);
     for place in 0..solution.groups() {
-        take_group(snapshot, solution, place, tables, weights)?;
+        take_group(snapshot, solution, place, has_entry, stamps, weights)?;
     }
     Ok(())
 }
@@ -48,19 +47,21 @@ fn take_group(
     snapshot: &Snapshot,
     solution: &Solution,
     place: usize,
-    tables: &mut Tables,
+    has_entry: &mut [bool],
+    stamps: &mut [u32],
     weights: &mut Weights,
 ) -> Result<(), Verdict>
     requires place { place < length solution.now }
-    requires taken { AreTaken snapshot.now (entries_of (take place solution.now)) tables.old.has_entry.items tables.old.stamps.items weights.old }
-    requires tables { AreTablesOf snapshot.now tables.old }
+    requires few { place < GROUPS }
+    requires taken { AreTaken snapshot.now (entries_of (take place solution.now)) has_entry.old stamps.old weights.old }
+    requires voters { length has_entry.old ≡ length snapshot.now.voters }
+    requires targets { length stamps.old ≡ length snapshot.now.targets }
     ensures fault { result ≡ answer_of (entries_fault snapshot.now (entries_of (take place solution.now)) (slice_index_or solution.now place [])) }
-    ensures taken { OnOk result (AreTaken snapshot.now (entries_of (take (place + 1) solution.now)) tables.new.has_entry.items tables.new.stamps.items weights.new) }
-    ensures tables { AreTablesOf snapshot.now tables.new }
+    ensures taken { OnOk result (AreTaken snapshot.now (entries_of (take (place + 1) solution.now)) has_entry.new stamps.new weights.new) }
     ensures room { KeepsRoom weights.old weights.new }
 {
     for entry in solution.group(place + 1) {
-        check_entry(snapshot, entry, &mut tables.has_entry, &mut tables.stamps)?;
+        check_entry(snapshot, entry, has_entry, stamps)?;
         push_edges(snapshot.stake(entry.voter()), entry, weights);
     }
     Ok(())

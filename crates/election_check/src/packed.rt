@@ -8,6 +8,7 @@ ghost use Rattle.election_check.specs.Packed.{expanded, expand_fault, expand_ver
 
 use crate::entries::{push_members, take_entries};
 use crate::prescores::{check_prescores, check_size};
+use crate::tables::Tables;
 use crate::{Checker, Verdict};
 use compact_solution::Solution;
 use npos_base::{NoMemory, Score};
@@ -93,8 +94,9 @@ impl Checker {
         ensures snapshot { self.new ≡ self.old }
     {
         let Checker { snapshot, tables } = self;
-        take_entries(snapshot, solution, tables, weights)?;
-        push_members(&tables.stamps, weights);
+        let Tables { has_entry, stamps, .. } = tables;
+        take_entries(snapshot, solution, has_entry, stamps, weights)?;
+        push_members(stamps, weights);
         check_size(snapshot, weights)
     }
 
