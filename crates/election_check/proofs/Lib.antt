@@ -5,3 +5,6 @@ pub mod PackedLemmas
 pub mod PassingLemmas
 pub mod SoundLemmas
 pub mod TakingLemmas
+pub mod StepLemmas
+pub mod EdgeLemmas
+pub mod SpendLemmas

@@ -1,8 +1,8 @@
 -- A check finds no fault exactly where the weights pass.
-use Rattle.std.proofs.Common.{◌≡◌, ℕ, ◌<◌, ◌≤◌, Bool, true, false, not, ◌&&◌, nat_eq, nat_lt, nat_le, List, [], ◌∷◌, ◌++◌, length, get_or, Option, Some, None, option_map, find, All, refl, sym, ap, ◌∙◌, arith}
-use Rattle.std.specs.List.{IsDistinct, list_any, AllByRecursion, range_with_len}
+use Rattle.std.proofs.Common.{◌≡◌, ℕ, ◌<◌, ◌≤◌, Bool, true, false, not, nat_eq, nat_le, List, [], ◌∷◌, length, Option, Some, None, option_map, find, All, refl}
+use Rattle.std.specs.List.{IsDistinct, list_any, range_with_len}
 use Rattle.std.proofs.lemmas.List.Elements.{All-from_recursion, recursion_from_All}
-use Rattle.std.proofs.lemmas.Bool.{ltb-true, ltb-false, leb-true, leb-false, le-ltb, lt-leb, le-leb, eqb-true, eq-eqb, not-false, not_from_true, not_from_false, and_left, and_right, and_from, both_ways, false_from_ne_true}
+use Rattle.std.proofs.lemmas.Bool.{ltb-false, leb-false, le-ltb, lt-leb, eqb-true, eq-eqb, not-false, not_from_true, not_from_false, and_left, and_right, and_from, both_ways, false_from_ne_true}
 use Rattle.npos_base.specs.declared.figures.Edge.{Edge}
 use Rattle.election_snapshot.specs.Snapshot.{Snapshot, has, nominates, stake_of, threshold}
 use Rattle.weight_book.specs.Weights.{Weights, Follows, IsFeasible, same_pair, spent}
@@ -12,7 +12,7 @@ use Rattle.election_check.specs.declared.verdict.Verdict.TheVariants.{NoVoter, N
 use Rattle.election_check.specs.First.{when, first_of}
 use Rattle.election_check.specs.Steps.{size_fault, outweighed, outweighs, prescore_of}
 use Rattle.election_check.specs.Plain.{member_fault, members_fault, edge_fault, edges_fault, overspends, overspent, plain_fault}
-use Rattle.election_check.proofs.FirstLemmas.{when_none, none_when, first_none, none_first, all_good, none_bad, none_found, all_fail}
+use Rattle.election_check.proofs.FirstLemmas.{when_none, none_when, first_none, all_good, none_bad, none_found, all_fail}
 
 pub mapped_none : (fault : ℕ → Verdict) (found : Option ℕ) → option_map fault found ≡ None → found ≡ None
 mapped_none fault None e = refl
@@ -61,12 +61,14 @@ module _ (snapshot : Snapshot) where
         let (range, e1) = first_none o1 (o2 ∷ o3 ∷ o4 ∷ []) e in
         let (member, e2) = first_none o2 (o3 ∷ o4 ∷ []) e1 in
         let (nominated, e3) = first_none o3 (o4 ∷ []) e2 in
-        let (new, _) = first_none o4 [] e3 in
-        (record {
-          voter = leb-false (length snapshot.voters) edge.voter (when_none (nat_le (length snapshot.voters) edge.voter) (NoVoter edge.voter) range);
-          member = not-false (has committee edge.target) (when_none (not (has committee edge.target)) (NoTarget edge.target) member);
-          nominated = not-false (nominates snapshot edge.voter edge.target) (when_none (not (nominates snapshot edge.voter edge.target)) (NotNominated edge.voter edge.target) nominated);
-        }, when_none (list_any (λ other. same_pair other edge) before) (TargetTwice edge.target) new)
+        let (new, _) = first_none o4 [] e3 in (
+          record {
+            voter = leb-false (length snapshot.voters) edge.voter (when_none (nat_le (length snapshot.voters) edge.voter) (NoVoter edge.voter) range);
+            member = not-false (has committee edge.target) (when_none (not (has committee edge.target)) (NoTarget edge.target) member);
+            nominated = not-false (nominates snapshot edge.voter edge.target) (when_none (not (nominates snapshot edge.voter edge.target)) (NotNominated edge.voter edge.target) nominated);
+          },
+          when_none (list_any (λ other. same_pair other edge) before) (TargetTwice edge.target) new,
+        )
 
     edge_fine : (before : List Edge) (edge : Edge) → IsEdge edge → list_any (λ other. same_pair other edge) before ≡ false → edge_fault snapshot committee before edge ≡ None
     edge_fine before edge good new = rw (lt-leb (length snapshot.voters) edge.voter good.voter, good.member, good.nominated, new) refl
@@ -112,8 +114,8 @@ module _ (snapshot : Snapshot) where
   none_outweighs weights e target range outside =
       let fails = all_fail (outweighs snapshot weights) (length snapshot.targets) target (mapped_none (λ n. Outweighed n (prescore_of snapshot weights n)) (find (outweighs snapshot weights) (range_with_len 0 (length snapshot.targets))) e) range in
       leb-false (threshold snapshot) (prescore_of snapshot weights target)
-        (false_from_ne_true (nat_le (threshold snapshot) (prescore_of snapshot weights target))
-          (λ t. both_ways (outweighs snapshot weights target) fails (and_from (not (has weights.committee target)) (nat_le (threshold snapshot) (prescore_of snapshot weights target)) (not_from_false (has weights.committee target) outside) t)))
+      (false_from_ne_true (nat_le (threshold snapshot) (prescore_of snapshot weights target))
+      (λ t. both_ways (outweighs snapshot weights target) fails (and_from (not (has weights.committee target)) (nat_le (threshold snapshot) (prescore_of snapshot weights target)) (not_from_false (has weights.committee target) outside) t)))
 
   outweighed_none : (weights : Weights) → NoneOutweighs snapshot weights → outweighed snapshot weights ≡ None
   outweighed_none weights none = none_mapped (λ n. Outweighed n (prescore_of snapshot weights n)) (find (outweighs snapshot weights) (range_with_len 0 (length snapshot.targets))) (none_found (outweighs snapshot weights) (length snapshot.targets) (λ target h. at target h (has weights.committee target) refl)) where
@@ -145,12 +147,12 @@ module _ (snapshot : Snapshot) where
   no_plain_fault weights passing =
       let good = passing.feasible.follows in
       all_none (members_fault snapshot [] weights.committee) (edges_fault snapshot weights.committee [] weights.edges)
-        (overspent snapshot weights.edges) (size_fault snapshot weights) (outweighed snapshot weights)
-        (members_fine weights.committee good.members_in_range good.members_distinct)
-        (edges_fine weights.committee weights.edges (λ k d h. record { voter = good.voters_in_range k d h; member = good.to_members k d h; nominated = good.nominated k d h }) good.pairs_distinct)
-        (none_mapped Overspent (find (overspends snapshot weights.edges) (range_with_len 0 (length snapshot.voters)))
-          (none_found (overspends snapshot weights.edges) (length snapshot.voters)
-            (λ voter h. le-ltb (stake_of snapshot voter) (spent weights.edges voter) (passing.feasible.within_stakes voter h))))
-        (none_when (not (nat_eq (length weights.committee) snapshot.seats)) (WrongSize (length weights.committee))
-          (not_from_true (nat_eq (length weights.committee) snapshot.seats) (eq-eqb (length weights.committee) snapshot.seats passing.feasible.seats_filled)))
-        (outweighed_none weights passing.none_outweighs)
+      (overspent snapshot weights.edges) (size_fault snapshot weights) (outweighed snapshot weights)
+      (members_fine weights.committee good.members_in_range good.members_distinct)
+      (edges_fine weights.committee weights.edges (λ k d h. record { voter = good.voters_in_range k d h; member = good.to_members k d h; nominated = good.nominated k d h }) good.pairs_distinct)
+      (none_mapped Overspent (find (overspends snapshot weights.edges) (range_with_len 0 (length snapshot.voters)))
+      (none_found (overspends snapshot weights.edges) (length snapshot.voters)
+      (λ voter h. le-ltb (stake_of snapshot voter) (spent weights.edges voter) (passing.feasible.within_stakes voter h))))
+      (none_when (not (nat_eq (length weights.committee) snapshot.seats)) (WrongSize (length weights.committee))
+      (not_from_true (nat_eq (length weights.committee) snapshot.seats) (eq-eqb (length weights.committee) snapshot.seats passing.feasible.seats_filled)))
+      (outweighed_none weights passing.none_outweighs)

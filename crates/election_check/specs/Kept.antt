@@ -1,5 +1,5 @@
 -- The tables of a checker. What they hold between two checks says nothing.
-use Rattle.std.specs.Prelude.{◌≡◌, ℕ, ◌*◌, ◌<◌, Bool, false, List, length, slice_index_or}
+use Rattle.std.specs.Prelude.{◌≡◌, ℕ, ◌*◌, Bool, false, List, length, slice_index_or}
 use Rattle.election_snapshot.specs.Snapshot.{Snapshot, has}
 use Rattle.election_check.specs.declared.tables.Tables.{Tables}
 
@@ -13,4 +13,4 @@ pub record AreTablesOf (snapshot : Snapshot) (tables : Tables) : Type 0 where
 
 -- the table tells which numbers stand in the list
 abbrev pub AreMarks : List Bool → List ℕ → Type 0
-AreMarks table numbers = (number : ℕ) → number < length table → slice_index_or table number false ≡ has numbers number
+AreMarks table numbers = (number : ℕ) → slice_index_or table number false ≡ has numbers number

@@ -1,9 +1,7 @@
 -- A committee that was elected, with the weights that show it.
-use Rattle.std.specs.Prelude.{◌≡◌, List, IsPermutation}
-use Rattle.election_snapshot.specs.Snapshot.{Snapshot, IsWellFormed}
-use Rattle.weight_book.specs.Weights.{Weights}
+use Rattle.std.specs.Prelude.{◌≡◌, IsPermutation}
+use Rattle.election_snapshot.specs.Snapshot.{Snapshot}
 use Rattle.weight_book.specs.Room.{WeightBook, KeepsRoom}
-use Rattle.weight_book.specs.Passing.{Passes}
 
 pub record Seats : Type 0 where
   pub snapshot : Snapshot

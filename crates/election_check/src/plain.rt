@@ -1,6 +1,6 @@
 //! The steps of a check of plain weights: members, edges, spending.
-ghost use Rattle.std.specs.Prelude.{◌≡◌, ◌<◌, ◌*◌, false, [], length, nat_eq, position, slice_index_or, OnOk, All};
-ghost use Rattle.weight_book.specs.Weights.{IsFeasible};
+ghost use Rattle.std.specs.Prelude.{◌≡◌, ◌<◌, ◌*◌, false, [], length, slice_index, slice_index_or, IfSome, IfNone, OnOk, All};
+ghost use Rattle.election_snapshot.specs.Snapshot.{has};
 ghost use Rattle.election_check.specs.First.{answer_of};
 ghost use Rattle.election_check.specs.Kept.{AreMarks};
 ghost use Rattle.election_check.specs.Plain.{members_fault, edges_fault, overspent};
@@ -43,7 +43,6 @@ pub(crate) fn check_edges(
     is_seen: &mut [bool],
 ) -> Result<(), Verdict>
     requires marks { AreMarks is_member.now weights.now.plain.committee }
-    requires in_range { All (λ member. member < length is_member.now) weights.now.plain.committee }
     requires pairs { length is_seen.old ≡ length snapshot.now.voters * 16 }
     ensures { result ≡ answer_of (edges_fault snapshot.now weights.now.plain.committee [] weights.now.plain.edges) }
 {
@@ -82,10 +81,11 @@ fn is_marked(marks: &[bool], target: u16) -> bool
 
 /// The place of the target among a voter's votes.
 fn place_of(target: u16, votes: &[u16]) -> Option<usize>
-    ensures { result ≡ position (λ vote. nat_eq vote target) votes.now }
+    ensures found { IfSome result (λ place. (place < length votes.now) × (slice_index votes.now place ≡ target)) }
+    ensures none { IfNone result (has votes.now target ≡ false) }
 {
-    for (place, vote) in votes.iter().enumerate() {
-        if *vote == target {
+    for place in 0..votes.len() {
+        if votes[place] == target {
             return Some(place);
         }
     }

@@ -16,11 +16,12 @@ use weight_book::Weights;
 
 /// Tells whether there is not one member for each seat.
 pub(crate) fn check_size(snapshot: &Snapshot, weights: &Weights) -> Result<(), Verdict>
-    requires { length weights.now.plain.committee ≤ 65536 }
+    requires { length weights.now.plain.committee ≤ length snapshot.now.targets }
     ensures { result ≡ answer_of (size_fault snapshot.now weights.now.plain) }
 {
+    let seats = snapshot.seats();
     let found = weights.committee().len() as u32;
-    if found == snapshot.seats() {
+    if found == seats {
         Ok(())
     } else {
         Err(Verdict::WrongSize(found))
@@ -90,7 +91,7 @@ fn fill_prescores(snapshot: &Snapshot, weights: &Weights, slacks: &[u64], presco
         → slice_index_or prescores.new target 0 ≡ prescore_of snapshot.now weights.now.plain target }
 {
     prescores.fill(0);
-    for voter in 0..slacks.len() {
+    for voter in 0..snapshot.voter_count() {
         add_to_all(snapshot.votes(voter as u32), slacks[voter], prescores);
     }
 }
@@ -99,7 +100,7 @@ fn fill_prescores(snapshot: &Snapshot, weights: &Weights, slacks: &[u64], presco
 fn add_to_all(votes: &[u16], slack: u64, prescores: &mut [u64])
     requires in_range { All (λ vote. vote < length prescores.old) votes.now }
     requires distinct { IsDistinct nat_eq votes.now }
-    requires fits { (target : ℕ) → slice_index_or prescores.old target 0 + slack < 2 ^ 64 }
+    requires fits { (target : ℕ) → target < length prescores.old → slice_index_or prescores.old target 0 + slack < 2 ^ 64 }
     ensures { (target : ℕ) → target < length prescores.old
         → slice_index_or prescores.new target 0 ≡ slice_index_or prescores.old target 0 + cond (has votes.now target) slack 0 }
 {

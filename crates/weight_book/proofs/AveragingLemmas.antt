@@ -19,7 +19,7 @@ use Rattle.election_snapshot.specs.Snapshot.{Snapshot, IsWellFormed, has, nomina
 use Rattle.weight_book.specs.Weights.{Weights, edges_to, support, amount_sum}
 use Rattle.weight_book.specs.Passing.{pay, paid, slack, nominators, prescore, Passes}
 use Rattle.weight_book.specs.Proportional.{IsCohesive, nominated_by, group_stake, AveragingLaw}
-use Rattle.weight_book.proofs.SumLemmas.{sum_among, at_least, at_most, sum_covered, sum_of_ones, sum_le, sum_of_sums, sum_filter-cons}
+use Rattle.weight_book.proofs.SumLemmas.{sum_among, at_least, at_most, sum_covered, sum_of_ones, sum_le, sum_of_sums, sum_filter-cons, has_range}
 
 -- a test of a number that stands in a list
 list_any_has : (test : ℕ → Bool) (numbers : List ℕ) (number : ℕ) → has numbers number ≡ true → test number ≡ true → list_any test numbers ≡ true
@@ -36,13 +36,6 @@ has_filter test (other ∷ numbers) number h t = elim (or_cases (nat_eq other nu
   | inr e ↦ cond_both (test other) (other ∷ filter test numbers) (filter test numbers) (λ ns. has ns number ≡ true)
       (λ _. or_right (nat_eq other number) (has (filter test numbers) number) (has_filter test numbers number e t))
       (λ _. has_filter test numbers number e t)
-]
-
-has_range : (low count number : ℕ) → low ≤ number → number < low + count → has (range_with_len low count) number ≡ true
-has_range low zero number p q = absurd (omega arith)
-has_range low (suc count) number p q = elim (cases_lt low number) [
-  | inl l ↦ or_right (nat_eq low number) (has (range_with_len (low + 1) count) number) (has_range (low + 1) count number (omega arith) (omega arith))
-  | inr l ↦ or_left (nat_eq low number) (has (range_with_len (low + 1) count) number) (eq-eqb low number (omega arith))
 ]
 
 -- all of the numbers stand in the list, or one that does not

@@ -1,9 +1,10 @@
 -- Sums over the parts of a list that numbers name, as the edges of each voter or to each target.
-use Rattle.std.proofs.Common.{◌≡◌, ℕ, ◌+◌, ◌<◌, ◌≤◌, Bool, true, false, cond, nat_eq, List, [], ◌∷◌, ◌++◌, length, take, get_or, filter, sum_by, All, inl, inr, refl, ap, sym, subst, ◌∙◌, arith}
-use Rattle.std.specs.List.{IsDistinct, AllByRecursion}
+use Rattle.std.proofs.Common.{◌≡◌, ℕ, zero, suc, ◌+◌, ◌<◌, ◌≤◌, Bool, true, false, cond, nat_eq, List, [], ◌∷◌, ◌++◌, length, take, drop, get_or, filter, sum_by, All, inl, inr, refl, ap, sym, subst, ◌∙◌, arith}
+use Rattle.std.specs.List.{IsDistinct, AllByRecursion, range_with_len}
+use Rattle.std.proofs.lemmas.List.{take-append-drop}
 use Rattle.std.proofs.lemmas.List.Sums.{sum_by-cons, sum_by-append}
 use Rattle.std.proofs.lemmas.List.Elements.{filter_more, filter-append, All-head, All-tail}
-use Rattle.std.proofs.lemmas.Bool.{cases_Bool, cond-true, cond-false, eqb-true, eq-eqb, ne_eqb, cond_both, true≢false}
+use Rattle.std.proofs.lemmas.Bool.{cases_Bool, cond-true, cond-false, cases_lt, or_left, or_right, eqb-true, eq-eqb, ne_eqb, cond_both, true≢false}
 use Rattle.election_snapshot.specs.Snapshot.{has}
 
 module _ {X : Type 0} (p : X → Bool) (f : X → ℕ) where
@@ -30,6 +31,10 @@ module _ {X : Type 0} (p : X → Bool) (f : X → ℕ) where
   sum_filter_more xs i d h = ap (sum_by f) (filter_more p xs i d h)
       ∙ sum_by-append f (filter p (take i xs)) (cond (p (get_or xs i d)) (get_or xs i d ∷ []) [])
       ∙ ap (λ n. sum_by f (filter p (take i xs)) + n) (single (get_or xs i d))
+
+  pub sum_filter-take-le : (xs : List X) (i : ℕ) → sum_by f (filter p (take i xs)) ≤ sum_by f (filter p xs)
+  sum_filter-take-le xs i = omega (arith, ap (λ ys. sum_by f (filter p ys)) (sym (take-append-drop i xs)) ∙ ap (sum_by f) (filter-append p (take i xs) (drop i xs))
+      ∙ sum_by-append f (filter p (take i xs)) (filter p (drop i xs)))
 
   pub sum_filter_push : (xs : List X) (x : X) → sum_by f (filter p (xs ++ x ∷ [])) ≡ sum_by f (filter p xs) + cond (p x) (f x) 0
   sum_filter_push xs x = ap (sum_by f) (filter-append p xs (x ∷ []))
@@ -58,7 +63,7 @@ sum_le f g [] h = omega arith
 sum_le f g (x ∷ xs) h = rw (sum_by-cons f x xs, sum_by-cons g x xs)
     (omega (arith, All-head (λ x. f x ≤ g x) x xs h, sum_le f g xs (All-tail (λ x. f x ≤ g x) x xs h)))
 
-eqb_turned : (a b : ℕ) → nat_eq a b ≡ nat_eq b a
+pub eqb_turned : (a b : ℕ) → nat_eq a b ≡ nat_eq b a
 eqb_turned a b = elim (cases_Bool (nat_eq a b)) [
   | inl t ↦ t ∙ sym (eq-eqb b a (sym (eqb-true a b t)))
   | inr t ↦ t ∙ sym (ne_eqb b a (λ e. true≢false (sym (eq-eqb a b (sym e)) ∙ t)))
@@ -129,6 +134,13 @@ module _ {X : Type 0} (key : X → ℕ) (f : X → ℕ) where
   -- the parts of distinct numbers are within the whole
   pub parts_le : (items : List X) (numbers : List ℕ) → IsDistinct nat_eq numbers → sum_by (sum_at items) numbers ≤ sum_by f items
   parts_le items numbers h = omega (arith, at_most items numbers h, among_le items numbers)
+
+pub has_range : (low count number : ℕ) → low ≤ number → number < low + count → has (range_with_len low count) number ≡ true
+has_range low zero number p q = absurd (omega arith)
+has_range low (suc count) number p q = elim (cases_lt low number) [
+  | inl l ↦ or_right (nat_eq low number) (has (range_with_len (low + 1) count) number) (has_range (low + 1) count number (omega arith) (omega arith))
+  | inr l ↦ or_left (nat_eq low number) (has (range_with_len (low + 1) count) number) (eq-eqb low number (omega arith))
+]
 
 -- a number that stands in a list adds to the sum
 pub has-le-sum : (f : ℕ → ℕ) (numbers : List ℕ) (number : ℕ) → has numbers number ≡ true → f number ≤ sum_at (λ n. n) f numbers number
