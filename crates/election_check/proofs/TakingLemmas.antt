@@ -8,8 +8,13 @@ use Rattle.std.proofs.Math.Bool.{or-false}
 use Rattle.std.proofs.Math.Seq.{drop-cons}
 use Rattle.std.proofs.lemmas.List.{map-append, take_more, take-append-drop, get_or-set_other}
 use Rattle.std.proofs.lemmas.List.Folds.{list_any-append}
+use Rattle.std.proofs.lemmas.List.Elements.{filter_agree}
+use Rattle.std.proofs.lemmas.List.Sums.{length-filter, count_by-le-length}
+use Rattle.std.proofs.lemmas.List.FromFn.{length-range_with_len}
 use Rattle.std.proofs.lemmas.Grind.{flat_map-append, get_or-set_at}
 use Rattle.election_snapshot.specs.Snapshot.{Snapshot, has, nominates, stake_of}
+use Rattle.npos_base.specs.declared.figures.Edge.{Edge}
+use Rattle.weight_book.specs.Weights.{Weights}
 use Rattle.weight_book.specs.Room.{WeightBook, HasRoom, KeepsRoom, vote_count}
 use Rattle.compact_solution.specs.declared.entry.Share.{Share}
 use Rattle.compact_solution.specs.Solution.{Entry, targets_of, entries_of}
@@ -234,3 +239,18 @@ module _ (snapshot : Snapshot) where
         edges = edges ∙ (ap (λ es. es ++ edges_of (stake_of snapshot entry.voter) entry) taken.edges ∙ sym edges_more);
         room = has_room_then snapshot book book' taken.room room;
       }
+
+  -- the weights once all entries are taken and the stamped targets are the members
+  pub weights_are : (entries : List Entry) (marks : List Bool) (stamps : List ℕ) (book : WeightBook) (new : Weights) → AreTaken snapshot entries marks stamps book
+      → new.committee ≡ filter (λ target. nat_lt 0 (get_or stamps target 0)) (range_with_len 0 (length snapshot.targets)) → new.edges ≡ book.plain.edges
+      → new ≡ weights_of snapshot entries
+  weights_are entries marks stamps book new taken members edges =
+      let listed : new.committee ≡ (weights_of snapshot entries).committee =
+      members ∙ filter_agree (λ target. nat_lt 0 (get_or stamps target 0)) (has (listed_in entries)) taken.stamped (range_with_len 0 (length snapshot.targets)) in
+      ap (λ (ms : List ℕ). record { committee = ms; edges = new.edges }) listed
+      ∙ ap (λ (es : List Edge). record { committee = (weights_of snapshot entries).committee; edges = es }) (edges ∙ taken.edges)
+
+  pub members_few : (entries : List Entry) → length (weights_of snapshot entries).committee ≤ length snapshot.targets
+  members_few entries =
+      omega (arith, length-filter (has (listed_in entries)) (range_with_len 0 (length snapshot.targets)),
+          count_by-le-length (has (listed_in entries)) (range_with_len 0 (length snapshot.targets)), length-range_with_len 0 (length snapshot.targets))

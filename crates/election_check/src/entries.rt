@@ -2,24 +2,47 @@
 ghost use Rattle.std.specs.Prelude.{◌≡◌, ◌≢◌, ◌<◌, ◌≤◌, ◌+◌, ◌*◌, ◌/◌, ◌++◌, [], ℕ, true, false, nat_lt, if◌then◌else◌, length, filter, sum, take, slice_index_or, slice_set, OnOk, All};
 ghost use Rattle.std.specs.List.{range_with_len};
 ghost use Rattle.election_snapshot.specs.Snapshot.{has, votes_of};
-ghost use Rattle.weight_book.specs.Weights.{no_weights};
+ghost use Rattle.weight_book.specs.Weights.{no_weights, IsFeasible};
 ghost use Rattle.weight_book.specs.Room.{HasRoom, KeepsRoom};
 ghost use Rattle.compact_solution.specs.Solution.{targets_of, parts_of, entries_of};
 ghost use Rattle.election_check.specs.First.{answer_of, when};
-ghost use Rattle.election_check.specs.Packed.{entries_fault, entry_fault, unknown_target, repeated_target, unnominated_target, has_bad_share, edges_of, whole_stake};
+ghost use Rattle.election_check.specs.Packed.{expanded, expand_fault, entries_fault, entry_fault, unknown_target, repeated_target, unnominated_target, has_bad_share, edges_of, whole_stake, score_fault};
 ghost use Rattle.election_check.specs.Taking.{AreTaken};
 
 use crate::Verdict;
+use crate::prescores::check_size;
 use compact_solution::{Entry, GROUPS, Solution};
 use election_snapshot::Snapshot;
-use npos_base::Edge;
+use npos_base::{Edge, Score};
 use weight_book::Weights;
 
 /// The parts that a whole stake is shared in.
 const WHOLE_STAKE: u64 = 65_535;
 
+/// Fills empty weights with the members and edges of a solution, or tells the first fault of its entries or of the number
+/// of members.
+pub(crate) fn fill_weights(
+    snapshot: &Snapshot,
+    solution: &Solution,
+    has_entry: &mut [bool],
+    stamps: &mut [u32],
+    weights: &mut Weights,
+) -> Result<(), Verdict>
+    requires empty { weights.old.plain ≡ no_weights }
+    requires room { HasRoom snapshot.now weights.old }
+    requires voters { length has_entry.old ≡ length snapshot.now.voters }
+    requires targets { length stamps.old ≡ length snapshot.now.targets }
+    ensures fault { result ≡ answer_of (expand_fault snapshot.now solution.now) }
+    ensures weights { OnOk result (weights.new.plain ≡ expanded snapshot.now solution.now) }
+    ensures room { KeepsRoom weights.old weights.new }
+{
+    take_entries(snapshot, solution, has_entry, stamps, weights)?;
+    push_members(snapshot, stamps, weights);
+    check_size(snapshot, weights)
+}
+
 /// Takes all entries into empty weights, marks their voters and stamps their targets, or tells the first fault.
-pub(crate) fn take_entries(
+fn take_entries(
     snapshot: &Snapshot,
     solution: &Solution,
     has_entry: &mut [bool],
@@ -207,18 +230,37 @@ fn share_of(stake: u64, parts: u16) -> u64
 }
 
 /// Appends the targets that are stamped, in rising order.
-pub(crate) fn push_members(stamps: &[u32], weights: &mut Weights)
+fn push_members(snapshot: &Snapshot, stamps: &[u32], weights: &mut Weights)
+    requires targets { length stamps.now ≡ length snapshot.now.targets }
     requires empty { weights.old.plain.committee ≡ [] }
-    requires spare { length stamps.now ≤ weights.old.member_spare }
-    requires few { length stamps.now ≤ 65536 }
+    requires spare { length snapshot.now.targets ≤ weights.old.member_spare }
     ensures members { weights.new.plain.committee
-        ≡ filter (λ target. nat_lt 0 (slice_index_or stamps.now target 0)) (range_with_len 0 (length stamps.now)) }
+        ≡ filter (λ target. nat_lt 0 (slice_index_or stamps.now target 0)) (range_with_len 0 (length snapshot.now.targets)) }
     ensures edges { weights.new.plain.edges ≡ weights.old.plain.edges }
     ensures room { KeepsRoom weights.old weights.new }
 {
-    for target in 0..stamps.len() {
+    for target in 0..snapshot.target_count() {
         if stamps[target] > 0 {
             weights.push_member(target as u16);
         }
+    }
+}
+
+/// Tells that the score of the weights is another one than the claim.
+pub(crate) fn check_score(
+    snapshot: &Snapshot,
+    claim: &Score,
+    weights: &Weights,
+) -> Result<(), Verdict>
+    requires { IsFeasible snapshot.now weights.now.plain }
+    ensures { result ≡ answer_of (score_fault claim.now weights.now.plain) }
+{
+    // A well-formed snapshot has a seat, and its stakes sum below 2^64.
+    let _seats = snapshot.seats();
+    let score = weights.score();
+    if score == *claim {
+        Ok(())
+    } else {
+        Err(Verdict::WrongScore(score))
     }
 }

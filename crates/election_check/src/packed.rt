@@ -6,8 +6,8 @@ ghost use Rattle.election_check.specs.First.{answer_of, first_of};
 ghost use Rattle.election_check.specs.Steps.{outweighed};
 ghost use Rattle.election_check.specs.Packed.{expanded, expand_fault, expand_verdict, score_fault, verdict_solution, verdict_packed, given};
 
-use crate::entries::{push_members, take_entries};
-use crate::prescores::{check_prescores, check_size};
+use crate::entries::{check_score, fill_weights};
+use crate::prescores::check_prescores;
 use crate::tables::Tables;
 use crate::{Checker, Verdict};
 use compact_solution::Solution;
@@ -95,9 +95,7 @@ impl Checker {
     {
         let Checker { snapshot, tables } = self;
         let Tables { has_entry, stamps, .. } = tables;
-        take_entries(snapshot, solution, has_entry, stamps, weights)?;
-        push_members(stamps, weights);
-        check_size(snapshot, weights)
+        fill_weights(snapshot, solution, has_entry, stamps, weights)
     }
 
     /// Tells that the score is another one than the claim, or the lowest target outside that outweighs.
@@ -106,11 +104,8 @@ impl Checker {
         ensures fault { result ≡ answer_of (first_of (score_fault claim.now weights.now.plain ∷ outweighed self.old weights.now.plain ∷ [])) }
         ensures snapshot { self.new ≡ self.old }
     {
-        let score = weights.score();
-        if score != *claim {
-            return Err(Verdict::WrongScore(score));
-        }
         let Checker { snapshot, tables } = self;
+        check_score(snapshot, claim, weights)?;
         check_prescores(snapshot, weights, tables)
     }
 }
