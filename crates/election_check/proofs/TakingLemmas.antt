@@ -50,7 +50,7 @@ an_error (Some other) fault e = ap (λ v. Some v) (cc)
 pub targets_known : (snapshot : Snapshot) (entry : Entry) → answer_of (unknown_target snapshot entry) ≡ Ok tt → All (λ target. target < length snapshot.targets) (targets_of entry)
 targets_known snapshot entry e k d below =
     let none = find_none_all (λ target. nat_le (length snapshot.targets) target) (targets_of entry)
-        (mapped_none NoTarget (find (λ target. nat_le (length snapshot.targets) target) (targets_of entry)) (no_error (unknown_target snapshot entry) e)) in
+    (mapped_none NoTarget (find (λ target. nat_le (length snapshot.targets) target) (targets_of entry)) (no_error (unknown_target snapshot entry) e)) in
     leb-false (length snapshot.targets) (get_or (targets_of entry) k d) (none k d below)
 
 -- ## Members
@@ -183,8 +183,15 @@ module _ (snapshot : Snapshot) where
     pub room_for : length (targets_of entry) ≤ book.edge_spare
     room_for =
         let within : length (weights_of snapshot (done ++ entry ∷ [])).edges ≤ vote_count snapshot = edges_within snapshot (done ++ entry ∷ []) still_sound in
-        omega (arith, within, ap length edges_more, length-append (weights_of snapshot done).edges (edges_of (stake_of snapshot entry.voter) entry),
-            length_of_edges (stake_of snapshot entry.voter) entry, ap length taken.edges, taken.room.edges)
+        omega (
+          arith,
+          within,
+          ap length edges_more,
+          length-append (weights_of snapshot done).edges (edges_of (stake_of snapshot entry.voter) entry),
+          length_of_edges (stake_of snapshot entry.voter) entry,
+          ap length taken.edges,
+          taken.room.edges,
+        )
 
     voters_more : (voter : ℕ) → has (voters_in (done ++ entry ∷ [])) voter ≡ (has (voters_in done) voter || (nat_eq entry.voter voter || false))
     voters_more voter = ap (λ vs. has vs voter) (map-append (λ (e : Entry). e.voter) done (entry ∷ [])) ∙ list_any-append (λ other. nat_eq other voter) (voters_in done) (entry.voter ∷ [])
@@ -252,5 +259,9 @@ module _ (snapshot : Snapshot) where
 
   pub members_few : (entries : List Entry) → length (weights_of snapshot entries).committee ≤ length snapshot.targets
   members_few entries =
-      omega (arith, length-filter (has (listed_in entries)) (range_with_len 0 (length snapshot.targets)),
-          count_by-le-length (has (listed_in entries)) (range_with_len 0 (length snapshot.targets)), length-range_with_len 0 (length snapshot.targets))
+      omega (
+        arith,
+        length-filter (has (listed_in entries)) (range_with_len 0 (length snapshot.targets)),
+        count_by-le-length (has (listed_in entries)) (range_with_len 0 (length snapshot.targets)),
+        length-range_with_len 0 (length snapshot.targets),
+      )

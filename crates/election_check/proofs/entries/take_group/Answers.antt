@@ -24,7 +24,7 @@ returns-in_err-check_entry-clause-fault c =
     let marked = c.loop-entry.invariant.taken.marked entry.voter in
     let faulty = an_error (entry_fault c.args.snapshot.now (get_or c.loop-entry.has_entry entry.voter false) entry) c.in_err-check_entry.field-0.0 (sym c.check_entry.ensures.fault ∙ c.in_err-check_entry.was) in
     let stops = stops_in c.args.snapshot.now before items c.loop-entry.entry-index entry c.in_err-check_entry.field-0.0 c.loop-entry-test.true c.entry-item.is c.loop-entry.invariant.taken.sound
-        (ap (λ b. entry_fault c.args.snapshot.now b entry) (sym marked) ∙ faulty) in
+    (ap (λ b. entry_fault c.args.snapshot.now b entry) (sym marked) ∙ faulty) in
     rw (p.1, p.2) (sym (ap (λ group. answer_of (entries_fault c.args.snapshot.now before group)) group_is ∙ ap answer_of stops))
 
 pub push_edges-requires-clause-spare : goal.push_edges-requires-clause-spare
@@ -48,8 +48,8 @@ loop-entry-preserved c =
     record {
       taken = subst (λ (es : List Entry). AreTaken c.args.snapshot.now es c.check_entry.new.has_entry c.check_entry.new.stamps c.push_edges.new.weights) (sym next)
           (taken_more c.args.snapshot.now done entry c.loop-entry.has_entry c.loop-entry.stamps c.loop-entry.weights c.loop-entry.invariant.taken fine
-              c.check_entry.new.has_entry c.check_entry.new.stamps c.push_edges.new.weights (omega arith)
-              c.in_ok-check_entry.ensures.marked c.in_ok-check_entry.ensures.stamped edges c.push_edges.ensures.members c.push_edges.ensures.room);
+          c.check_entry.new.has_entry c.check_entry.new.stamps c.push_edges.new.weights (omega arith)
+          c.in_ok-check_entry.ensures.marked c.in_ok-check_entry.ensures.stamped edges c.push_edges.ensures.members c.push_edges.ensures.room);
       room = keeps_then c.args.weights.now c.loop-entry.weights c.push_edges.new.weights c.loop-entry.invariant.room c.push_edges.ensures.room;
     }
 
