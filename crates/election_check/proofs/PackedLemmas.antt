@@ -50,14 +50,24 @@ entry_is_fault snapshot is_repeated entry = first_is_fault (
     ∷ unnominated_target snapshot entry
     ∷ when (has_bad_share entry) (BadShare entry.voter)
     ∷ []) (
-    when_is_fault (nat_le (length snapshot.voters) entry.voter) (NoVoter entry.voter) (λ e. absurd (cc)),
-    (map_is_fault NoTarget (find (λ target. nat_le (length snapshot.targets) target) (targets_of entry)) (λ n e. absurd (cc)),
-    (when_is_fault is_repeated (VoterTwice entry.voter) (λ e. absurd (cc)),
-    (map_is_fault TargetTwice (first_repeat [] (targets_of entry)) (λ n e. absurd (cc)),
-    (map_is_fault (NotNominated entry.voter) (find (λ target. not (nominates snapshot entry.voter target)) (targets_of entry)) (λ n e. absurd (cc)),
-    (when_is_fault (has_bad_share entry) (BadShare entry.voter) (λ e. absurd (cc)),
-    tt))))),
-)
+      when_is_fault (nat_le (length snapshot.voters) entry.voter) (NoVoter entry.voter) (λ e. absurd (cc)),
+      (
+        map_is_fault NoTarget (find (λ target. nat_le (length snapshot.targets) target) (targets_of entry)) (λ n e. absurd (cc)),
+        (
+          when_is_fault is_repeated (VoterTwice entry.voter) (λ e. absurd (cc)),
+          (
+            map_is_fault TargetTwice (first_repeat [] (targets_of entry)) (λ n e. absurd (cc)),
+            (
+              map_is_fault (NotNominated entry.voter) (find (λ target. not (nominates snapshot entry.voter target)) (targets_of entry)) (λ n e. absurd (cc)),
+              (
+                when_is_fault (has_bad_share entry) (BadShare entry.voter) (λ e. absurd (cc)),
+                tt,
+              ),
+            ),
+          ),
+        ),
+      ),
+    )
 
 entries_are_faults : (snapshot : Snapshot) (before entries : List Entry) → IsFault (entries_fault snapshot before entries)
 entries_are_faults snapshot before [] = no_fault
@@ -68,12 +78,16 @@ entries_are_faults snapshot before (entry ∷ entries) =
 solution_is_fault : (snapshot : Snapshot) (claim : Score) (solution : List (List Entry)) → IsFault (solution_fault snapshot claim solution)
 solution_is_fault snapshot claim solution = first_is_fault (
     expand_fault snapshot solution ∷ score_fault claim (expanded snapshot solution) ∷ outweighed snapshot (expanded snapshot solution) ∷ []) (
-    first_is_fault (entries_fault snapshot [] (entries_of solution) ∷ size_fault snapshot (expanded snapshot solution) ∷ [])
-        (entries_are_faults snapshot [] (entries_of solution), (size_is_fault snapshot (expanded snapshot solution), tt)),
-    (when_is_fault (not (same_score (score_of (expanded snapshot solution)) claim)) (WrongScore (score_of (expanded snapshot solution))) (λ e. absurd (cc)),
-    (outweighed_is_fault snapshot (expanded snapshot solution),
-    tt)),
-)
+      first_is_fault (entries_fault snapshot [] (entries_of solution) ∷ size_fault snapshot (expanded snapshot solution) ∷ [])
+          (entries_are_faults snapshot [] (entries_of solution), (size_is_fault snapshot (expanded snapshot solution), tt)),
+      (
+        when_is_fault (not (same_score (score_of (expanded snapshot solution)) claim)) (WrongScore (score_of (expanded snapshot solution))) (λ e. absurd (cc)),
+        (
+          outweighed_is_fault snapshot (expanded snapshot solution),
+          tt,
+        ),
+      ),
+    )
 
 -- ## The law
 

@@ -75,17 +75,19 @@ entry_sound snapshot is_repeated entry none =
     let (p5, r5) = first_none o5 (o6 ∷ []) r4 in
     let (p6, r6) = first_none o6 [] r5 in
     let known = find_none_all (λ target. nat_le (length snapshot.targets) target) (targets_of entry)
-        (mapped_none NoTarget (find (λ target. nat_le (length snapshot.targets) target) (targets_of entry)) p2) in
+    (mapped_none NoTarget (find (λ target. nat_le (length snapshot.targets) target) (targets_of entry)) p2) in
     let voted = find_none_all (λ target. not (nominates snapshot entry.voter target)) (targets_of entry)
-        (mapped_none (NotNominated entry.voter) (find (λ target. not (nominates snapshot entry.voter target)) (targets_of entry)) p5) in
-    (record {
-      voter = leb-false (length snapshot.voters) entry.voter (when_none (nat_le (length snapshot.voters) entry.voter) (NoVoter entry.voter) p1);
-      targets = λ k d below. leb-false (length snapshot.targets) (get_or (targets_of entry) k d) (known k d below);
-      distinct = (no_repeat [] (targets_of entry) (mapped_none TargetTwice (first_repeat [] (targets_of entry)) p4)).1;
-      nominated = λ k d below. not-false (nominates snapshot entry.voter (get_or (targets_of entry) k d)) (voted k d below);
-      shares = leb-false whole_stake (sum (parts_of entry))
-          (or_parts (list_any (λ parts. nat_eq parts 0) (parts_of entry)) (nat_le whole_stake (sum (parts_of entry))) (when_none (has_bad_share entry) (BadShare entry.voter) p6)).1;
-    }, when_none is_repeated (VoterTwice entry.voter) p3)
+    (mapped_none (NotNominated entry.voter) (find (λ target. not (nominates snapshot entry.voter target)) (targets_of entry)) p5) in (
+      record {
+        voter = leb-false (length snapshot.voters) entry.voter (when_none (nat_le (length snapshot.voters) entry.voter) (NoVoter entry.voter) p1);
+        targets = λ k d below. leb-false (length snapshot.targets) (get_or (targets_of entry) k d) (known k d below);
+        distinct = (no_repeat [] (targets_of entry) (mapped_none TargetTwice (first_repeat [] (targets_of entry)) p4)).1;
+        nominated = λ k d below. not-false (nominates snapshot entry.voter (get_or (targets_of entry) k d)) (voted k d below);
+        shares = leb-false whole_stake (sum (parts_of entry))
+            (or_parts (list_any (λ parts. nat_eq parts 0) (parts_of entry)) (nat_le whole_stake (sum (parts_of entry))) (when_none (has_bad_share entry) (BadShare entry.voter) p6)).1;
+      },
+      when_none is_repeated (VoterTwice entry.voter) p3,
+    )
 
 -- ## Its edges
 
@@ -123,7 +125,7 @@ amounts_within stake [] = omega arith
 amounts_within stake (share ∷ shares) =
     rw (sum_by-cons (amount_of stake) share shares, sum_by-cons (λ (s : Share). s.parts) share shares)
     (more_within (amount_of stake share) (sum_by (amount_of stake) shares) whole_stake stake share.parts (sum_by (λ (s : Share). s.parts) shares)
-        (div-mul-le_self (stake * share.parts) whole_stake) (amounts_within stake shares))
+    (div-mul-le_self (stake * share.parts) whole_stake) (amounts_within stake shares))
 
 -- the shares are within the stake
 pub shares_within : (stake : ℕ) (entry : Entry) → sum (parts_of entry) < whole_stake → sum_by (amount_of stake) entry.shares ≤ stake
@@ -271,7 +273,7 @@ module _ (snapshot : Snapshot) where
       let voter : (get_or edges k d).voter ≡ entry.voter = voter_of_edges (stake_of snapshot entry.voter) entry k d below in
       let voted : nominates snapshot entry.voter (get_or edges k d).target ≡ true =
       All-of_map (λ target. nominates snapshot entry.voter target ≡ true) (λ (e : Edge). e.target) edges
-          (subst (λ (ts : List ℕ). All (λ target. nominates snapshot entry.voter target ≡ true) ts) (sym (targets_of_edges (stake_of snapshot entry.voter) entry)) sound.nominated) k d below in
+      (subst (λ (ts : List ℕ). All (λ target. nominates snapshot entry.voter target ≡ true) ts) (sym (targets_of_edges (stake_of snapshot entry.voter) entry)) sound.nominated) k d below in
       (subst (λ (v : ℕ). v < length snapshot.voters) (sym voter) sound.voter, subst (λ (v : ℕ). nominates snapshot v (get_or edges k d).target ≡ true) (sym voter) voted)
 
   listed_within : (entries : List Entry) → All (IsSound snapshot) entries → All (λ target. target < length snapshot.targets) (listed_in entries)
@@ -282,8 +284,8 @@ module _ (snapshot : Snapshot) where
       All-of_map (λ target. has (weights_of snapshot entries).committee target ≡ true) (λ (e : Edge). e.target) (all_edges snapshot entries)
       (subst (λ (ts : List ℕ). All (λ target. has (weights_of snapshot entries).committee target ≡ true) ts) (sym listed_is)
       (λ k d below. has_filter (has (listed_in entries)) (range_with_len 0 (length snapshot.targets)) (get_or (listed_in entries) k d)
-          (has_range 0 (length snapshot.targets) (get_or (listed_in entries) k d) (omega arith) (omega (arith, listed_within entries sound k d below)))
-          (all_stand (listed_in entries) k d below)))
+      (has_range 0 (length snapshot.targets) (get_or (listed_in entries) k d) (omega arith) (omega (arith, listed_within entries sound k d below)))
+      (all_stand (listed_in entries) k d below)))
     where
       listed_is : map (λ (e : Edge). e.target) (all_edges snapshot entries) ≡ listed_in entries
       listed_is = map-flat_map (λ (e : Edge). e.target) (λ entry. edges_of (stake_of snapshot entry.voter) entry) targets_of
@@ -294,7 +296,7 @@ module _ (snapshot : Snapshot) where
       → All (IsSound snapshot) entries × IsDistinct (λ (a b : Entry). nat_eq a.voter b.voter) entries
   all_sound entries none =
       let (each, distinct) = all_good (λ (a b : Entry). nat_eq a.voter b.voter) (IsSound snapshot)
-          (λ before entry. entry_fault snapshot (has (voters_in before) entry.voter) entry) (entries_fault snapshot) (λ _. refl) (λ _ _ _. refl) good [] entries none in
+      (λ before entry. entry_fault snapshot (has (voters_in before) entry.voter) entry) (entries_fault snapshot) (λ _. refl) (λ _ _ _. refl) good [] entries none in
       (λ k d below. (All-from_recursion (λ entry. IsSound snapshot entry × (false ≡ false)) entries each k d below).0, distinct)
     where
       new : (before : List Entry) (voter : ℕ) → has (voters_in before) voter ≡ false → list_any (λ (other : Entry). nat_eq other.voter voter) before ≡ false
@@ -313,11 +315,11 @@ module _ (snapshot : Snapshot) where
   follows_packed entries none =
       let sound = (all_sound entries none).0 in
       let edges = All-flat_map (λ (edge : Edge). (edge.voter < length snapshot.voters) × (nominates snapshot edge.voter edge.target ≡ true))
-          (λ entry. edges_of (stake_of snapshot entry.voter) entry) entries (λ k d below. edge_follows (get_or entries k d) (sound k d below)) in
+      (λ entry. edges_of (stake_of snapshot entry.voter) entry) entries (λ k d below. edge_follows (get_or entries k d) (sound k d below)) in
       record {
         members_in_range = λ k d below.
             let within = (All-from_recursion (λ n. (0 ≤ n) × (n < 0 + length snapshot.targets)) (weights_of snapshot entries).committee
-                (range_within (has (listed_in entries)) 0 (length snapshot.targets)) k d below).1 in
+            (range_within (has (listed_in entries)) 0 (length snapshot.targets)) k d below).1 in
             omega (arith, within);
         members_distinct = range_distinct (has (listed_in entries)) 0 (length snapshot.targets);
         pairs_distinct = pairs_differ entries sound (all_sound entries none).1;
@@ -332,7 +334,7 @@ module _ (snapshot : Snapshot) where
     follows = follows_packed entries none;
     seats_filled = eqb-true (length (weights_of snapshot entries).committee) snapshot.seats
         (not-false (nat_eq (length (weights_of snapshot entries).committee) snapshot.seats)
-            (when_none (not (nat_eq (length (weights_of snapshot entries).committee) snapshot.seats)) (WrongSize (length (weights_of snapshot entries).committee)) filled));
+        (when_none (not (nat_eq (length (weights_of snapshot entries).committee) snapshot.seats)) (WrongSize (length (weights_of snapshot entries).committee)) filled));
     within_stakes = λ voter below.
         let sound = all_sound entries none in
         let part = cond_both (has (voters_in entries) voter) (stake_of snapshot voter) 0 (λ n. n ≤ stake_of snapshot voter) (λ _. omega arith) (λ _. omega arith) in
@@ -369,9 +371,9 @@ module _ (snapshot : Snapshot) where
       length-flat_map (λ entry. edges_of (stake_of snapshot entry.voter) entry) entries in
       let few : sum_by (λ (entry : Entry). length (edges_of (stake_of snapshot entry.voter) entry)) entries ≤ sum_by (λ (entry : Entry). votes entry.voter) entries =
       sum_le (λ (entry : Entry). length (edges_of (stake_of snapshot entry.voter) entry)) (λ (entry : Entry). votes entry.voter) entries
-          (λ k d below. omega (arith, length_of_edges (stake_of snapshot (get_or entries k d).voter) (get_or entries k d), few_targets (get_or entries k d) (sound.0 k d below))) in
+      (λ k d below. omega (arith, length_of_edges (stake_of snapshot (get_or entries k d).voter) (get_or entries k d), few_targets (get_or entries k d) (sound.0 k d below))) in
       let covered : sum_by votes (voters_in entries) ≤ sum_by votes (range_with_len 0 (length snapshot.voters)) =
       sum_covered votes (voters_in entries) (range_with_len 0 (length snapshot.voters)) (voters_distinct entries sound.1)
-          (All-map (λ voter. has (range_with_len 0 (length snapshot.voters)) voter ≡ true) (λ (e : Entry). e.voter) entries
-              (λ k d below. has_range 0 (length snapshot.voters) (get_or entries k d).voter (omega arith) (omega (arith, (sound.0 k d below).voter)))) in
+      (All-map (λ voter. has (range_with_len 0 (length snapshot.voters)) voter ≡ true) (λ (e : Entry). e.voter) entries
+      (λ k d below. has_range 0 (length snapshot.voters) (get_or entries k d).voter (omega arith) (omega (arith, (sound.0 k d below).voter)))) in
       omega (arith, count, few, covered, sum_by_map votes (λ (e : Entry). e.voter) entries, votes_by_voter)

@@ -142,3 +142,8 @@ verdict_packed snapshot claim bytes = verdict_decoded snapshot claim (decoded by
 abbrev pub given : Option Verdict → Weights → Weights
 given None weights = weights
 given (Some fault) weights = no_weights
+
+-- the weights after the verdict on what was decoded
+abbrev pub weights_decoded : Snapshot → Result (List (List Entry)) WireFault → Weights
+weights_decoded snapshot (Ok solution) = given (expand_fault snapshot solution) (expanded snapshot solution)
+weights_decoded snapshot (Err fault) = no_weights

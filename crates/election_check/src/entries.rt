@@ -2,43 +2,65 @@
 ghost use Rattle.std.specs.Prelude.{◌≡◌, ◌≢◌, ◌<◌, ◌≤◌, ◌+◌, ◌*◌, ◌/◌, ◌++◌, [], ℕ, true, false, nat_lt, if◌then◌else◌, length, filter, sum, take, slice_index_or, slice_set, OnOk, All};
 ghost use Rattle.std.specs.List.{range_with_len};
 ghost use Rattle.election_snapshot.specs.Snapshot.{has, votes_of};
-ghost use Rattle.weight_book.specs.Weights.{no_weights};
+ghost use Rattle.weight_book.specs.Weights.{no_weights, IsFeasible};
 ghost use Rattle.weight_book.specs.Room.{HasRoom, KeepsRoom};
 ghost use Rattle.compact_solution.specs.Solution.{targets_of, parts_of, entries_of};
 ghost use Rattle.election_check.specs.First.{answer_of, when};
-ghost use Rattle.election_check.specs.Kept.{AreTablesOf};
-ghost use Rattle.election_check.specs.Packed.{entries_fault, entry_fault, unknown_target, repeated_target, unnominated_target, has_bad_share, edges_of, whole_stake};
+ghost use Rattle.election_check.specs.Packed.{expanded, expand_fault, entries_fault, entry_fault, unknown_target, repeated_target, unnominated_target, has_bad_share, edges_of, whole_stake, score_fault};
 ghost use Rattle.election_check.specs.Taking.{AreTaken};
 
 use crate::Verdict;
-use crate::tables::Tables;
-use compact_solution::{Entry, Solution};
+use crate::prescores::check_size;
+use compact_solution::{Entry, GROUPS, Solution};
 use election_snapshot::Snapshot;
-use npos_base::Edge;
+use npos_base::{Edge, Score};
 use weight_book::Weights;
 
 /// The parts that a whole stake is shared in.
 const WHOLE_STAKE: u64 = 65_535;
 
-/// Takes all entries into empty weights, or tells their first fault.
-pub(crate) fn take_entries(
+/// Fills empty weights with the members and edges of a solution, or tells the first fault of its entries or of the number
+/// of members.
+pub(crate) fn fill_weights(
     snapshot: &Snapshot,
     solution: &Solution,
-    tables: &mut Tables,
+    has_entry: &mut [bool],
+    stamps: &mut [u32],
     weights: &mut Weights,
 ) -> Result<(), Verdict>
     requires empty { weights.old.plain ≡ no_weights }
     requires room { HasRoom snapshot.now weights.old }
-    requires tables { AreTablesOf snapshot.now tables.old }
-    ensures fault { result ≡ answer_of (entries_fault snapshot.now [] (entries_of solution.now)) }
-    ensures taken { OnOk result (AreTaken snapshot.now (entries_of solution.now) tables.new.has_entry.items tables.new.stamps.items weights.new) }
-    ensures tables { AreTablesOf snapshot.now tables.new }
+    requires voters { length has_entry.old ≡ length snapshot.now.voters }
+    requires targets { length stamps.old ≡ length snapshot.now.targets }
+    ensures fault { result ≡ answer_of (expand_fault snapshot.now solution.now) }
+    ensures weights { OnOk result (weights.new.plain ≡ expanded snapshot.now solution.now) }
     ensures room { KeepsRoom weights.old weights.new }
 {
-    tables.has_entry.fill(false);
-    tables.stamps.fill(0);
+    take_entries(snapshot, solution, has_entry, stamps, weights)?;
+    push_members(snapshot, stamps, weights);
+    check_size(snapshot, weights)
+}
+
+/// Takes all entries into empty weights, marks their voters and stamps their targets, or tells the first fault.
+fn take_entries(
+    snapshot: &Snapshot,
+    solution: &Solution,
+    has_entry: &mut [bool],
+    stamps: &mut [u32],
+    weights: &mut Weights,
+) -> Result<(), Verdict>
+    requires empty { weights.old.plain ≡ no_weights }
+    requires room { HasRoom snapshot.now weights.old }
+    requires voters { length has_entry.old ≡ length snapshot.now.voters }
+    requires targets { length stamps.old ≡ length snapshot.now.targets }
+    ensures fault { result ≡ answer_of (entries_fault snapshot.now [] (entries_of solution.now)) }
+    ensures taken { OnOk result (AreTaken snapshot.now (entries_of solution.now) has_entry.new stamps.new weights.new) }
+    ensures room { KeepsRoom weights.old weights.new }
+{
+    has_entry.fill(false);
+    stamps.fill(0);
     for place in 0..solution.groups() {
-        take_group(snapshot, solution, place, tables, weights)?;
+        take_group(snapshot, solution, place, has_entry, stamps, weights)?;
     }
     Ok(())
 }
@@ -48,19 +70,21 @@ fn take_group(
     snapshot: &Snapshot,
     solution: &Solution,
     place: usize,
-    tables: &mut Tables,
+    has_entry: &mut [bool],
+    stamps: &mut [u32],
     weights: &mut Weights,
 ) -> Result<(), Verdict>
     requires place { place < length solution.now }
-    requires taken { AreTaken snapshot.now (entries_of (take place solution.now)) tables.old.has_entry.items tables.old.stamps.items weights.old }
-    requires tables { AreTablesOf snapshot.now tables.old }
+    requires few { place < GROUPS }
+    requires taken { AreTaken snapshot.now (entries_of (take place solution.now)) has_entry.old stamps.old weights.old }
+    requires voters { length has_entry.old ≡ length snapshot.now.voters }
+    requires targets { length stamps.old ≡ length snapshot.now.targets }
     ensures fault { result ≡ answer_of (entries_fault snapshot.now (entries_of (take place solution.now)) (slice_index_or solution.now place [])) }
-    ensures taken { OnOk result (AreTaken snapshot.now (entries_of (take (place + 1) solution.now)) tables.new.has_entry.items tables.new.stamps.items weights.new) }
-    ensures tables { AreTablesOf snapshot.now tables.new }
+    ensures taken { OnOk result (AreTaken snapshot.now (entries_of (take (place + 1) solution.now)) has_entry.new stamps.new weights.new) }
     ensures room { KeepsRoom weights.old weights.new }
 {
     for entry in solution.group(place + 1) {
-        check_entry(snapshot, entry, &mut tables.has_entry, &mut tables.stamps)?;
+        check_entry(snapshot, entry, has_entry, stamps)?;
         push_edges(snapshot.stake(entry.voter()), entry, weights);
     }
     Ok(())
@@ -206,18 +230,37 @@ fn share_of(stake: u64, parts: u16) -> u64
 }
 
 /// Appends the targets that are stamped, in rising order.
-pub(crate) fn push_members(stamps: &[u32], weights: &mut Weights)
+fn push_members(snapshot: &Snapshot, stamps: &[u32], weights: &mut Weights)
+    requires targets { length stamps.now ≡ length snapshot.now.targets }
     requires empty { weights.old.plain.committee ≡ [] }
-    requires spare { length stamps.now ≤ weights.old.member_spare }
-    requires few { length stamps.now ≤ 65536 }
+    requires spare { length snapshot.now.targets ≤ weights.old.member_spare }
     ensures members { weights.new.plain.committee
-        ≡ filter (λ target. nat_lt 0 (slice_index_or stamps.now target 0)) (range_with_len 0 (length stamps.now)) }
+        ≡ filter (λ target. nat_lt 0 (slice_index_or stamps.now target 0)) (range_with_len 0 (length snapshot.now.targets)) }
     ensures edges { weights.new.plain.edges ≡ weights.old.plain.edges }
     ensures room { KeepsRoom weights.old weights.new }
 {
-    for target in 0..stamps.len() {
+    for target in 0..snapshot.target_count() {
         if stamps[target] > 0 {
             weights.push_member(target as u16);
         }
+    }
+}
+
+/// Tells that the score of the weights is another one than the claim.
+pub(crate) fn check_score(
+    snapshot: &Snapshot,
+    claim: &Score,
+    weights: &Weights,
+) -> Result<(), Verdict>
+    requires { IsFeasible snapshot.now weights.now.plain }
+    ensures { result ≡ answer_of (score_fault claim.now weights.now.plain) }
+{
+    // A well-formed snapshot has a seat, and its stakes sum below 2^64.
+    let _seats = snapshot.seats();
+    let score = weights.score();
+    if score == *claim {
+        Ok(())
+    } else {
+        Err(Verdict::WrongScore(score))
     }
 }

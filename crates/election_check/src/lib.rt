@@ -16,4 +16,6 @@ pub use elected::Elected;
 pub use verdict::Verdict;
 
 #[cfg(test)]
+mod packed_tests;
+#[cfg(test)]
 mod tests;

@@ -1,13 +1,15 @@
 //! The check of packed solutions.
-ghost use Rattle.std.specs.Prelude.{◌≡◌, [], ◌∷◌, OnOk, IfOk};
+ghost use Rattle.std.specs.Prelude.{◌≡◌, [], ◌∷◌, OnOk, OnErr, IfOk};
 ghost use Rattle.weight_book.specs.Weights.{no_weights, IsFeasible};
 ghost use Rattle.weight_book.specs.Room.{HasRoom, KeepsRoom};
 ghost use Rattle.election_check.specs.First.{answer_of, first_of};
 ghost use Rattle.election_check.specs.Steps.{outweighed};
-ghost use Rattle.election_check.specs.Packed.{expanded, expand_fault, expand_verdict, score_fault, verdict_solution, verdict_packed, given};
+ghost use Rattle.election_check.specs.Packed.{expanded, expand_fault, expand_verdict, score_fault, verdict_solution, verdict_packed, given, weights_decoded};
+ghost use Rattle.compact_solution.specs.Decoded.{decoded};
 
-use crate::entries::{push_members, take_entries};
-use crate::prescores::{check_prescores, check_size};
+use crate::entries::{check_score, fill_weights};
+use crate::prescores::check_prescores;
+use crate::tables::Tables;
 use crate::{Checker, Verdict};
 use compact_solution::Solution;
 use npos_base::{NoMemory, Score};
@@ -70,6 +72,8 @@ impl Checker {
         requires empty { weights.old.plain ≡ no_weights }
         requires room { HasRoom self.old weights.old }
         ensures verdict { IfOk result (λ verdict. verdict ≡ verdict_packed self.old claim.now bytes.now) }
+        ensures weights { OnOk result (weights.new.plain ≡ weights_decoded self.old (decoded bytes.now)) }
+        ensures refused { OnErr result (weights.new ≡ weights.old) }
         ensures room { KeepsRoom weights.old weights.new }
         ensures snapshot { self.new ≡ self.old }
     {
@@ -93,9 +97,12 @@ impl Checker {
         ensures snapshot { self.new ≡ self.old }
     {
         let Checker { snapshot, tables } = self;
-        take_entries(snapshot, solution, tables, weights)?;
-        push_members(&tables.stamps, weights);
-        check_size(snapshot, weights)
+        let Tables {
+            has_entry,
+            stamps,
+            ..
+        } = tables;
+        fill_weights(snapshot, solution, has_entry, stamps, weights)
     }
 
     /// Tells that the score is another one than the claim, or the lowest target outside that outweighs.
@@ -104,11 +111,8 @@ impl Checker {
         ensures fault { result ≡ answer_of (first_of (score_fault claim.now weights.now.plain ∷ outweighed self.old weights.now.plain ∷ [])) }
         ensures snapshot { self.new ≡ self.old }
     {
-        let score = weights.score();
-        if score != *claim {
-            return Err(Verdict::WrongScore(score));
-        }
         let Checker { snapshot, tables } = self;
+        check_score(snapshot, claim, weights)?;
         check_prescores(snapshot, weights, tables)
     }
 }

@@ -7,10 +7,10 @@ use std::test::Fail;
 use weight_book::Weights;
 
 /// A voter's stake and votes.
-type Voter<'a> = (u64, &'a [u16]);
+pub(crate) type Voter<'a> = (u64, &'a [u16]);
 
 /// The account of 31 bytes 0 and this number.
-const fn at(n: u16) -> AccountId {
+pub(crate) const fn at(n: u16) -> AccountId {
     AccountId {
         hi: 0,
         lo: n as u128,
@@ -25,7 +25,7 @@ const fn edge(voter: u32, target: u16, amount: u64) -> Edge {
     }
 }
 
-fn finished(builder: SnapshotBuilder, seats: u32) -> Result<Snapshot, Fail> {
+pub(crate) fn finished(builder: SnapshotBuilder, seats: u32) -> Result<Snapshot, Fail> {
     match builder.finish(seats) {
         Ok(snapshot) => Ok(snapshot),
         Err((_, fault)) => Err(Fail::from(fault)),
@@ -33,7 +33,7 @@ fn finished(builder: SnapshotBuilder, seats: u32) -> Result<Snapshot, Fail> {
 }
 
 /// Three targets, two voters and two seats.
-fn small(alloc: Global, first: Voter<'_>, second: Voter<'_>) -> Result<Snapshot, Fail> {
+pub(crate) fn small(alloc: Global, first: Voter<'_>, second: Voter<'_>) -> Result<Snapshot, Fail> {
     let mut builder = SnapshotBuilder::new(alloc);
     for n in 1..4 {
         builder.add_target(at(n))?;
@@ -43,7 +43,7 @@ fn small(alloc: Global, first: Voter<'_>, second: Voter<'_>) -> Result<Snapshot,
     finished(builder, 2)
 }
 
-fn checker_of(alloc: Global, snapshot: Snapshot) -> Result<Checker, Fail> {
+pub(crate) fn checker_of(alloc: Global, snapshot: Snapshot) -> Result<Checker, Fail> {
     match Checker::new(alloc, snapshot) {
         Ok(checker) => Ok(checker),
         Err((_, want)) => Err(Fail::from(want)),

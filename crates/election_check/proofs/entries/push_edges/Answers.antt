@@ -18,7 +18,7 @@ overflow_sub-rest c =
     let more = sum_by_more_le (amount_of c.args.stake) items c.loop-share.share-index no_share c.loop-share-test.true in
     let within : sum_by (amount_of c.args.stake) items ≤ c.args.stake =
     subst (λ (s : List Share). sum_by (amount_of c.args.stake) s ≤ c.args.stake) (sym c.shares-share-items.ensures.shares)
-        (shares_within c.args.stake c.args.entry.now c.requires.shares) in
+    (shares_within c.args.stake c.args.entry.now c.requires.shares) in
     omega (arith, more, within, c.share_of-amount.ensures, c.loop-share.invariant.rest_is)
 
 pub loop-share-preserved : goal.loop-share-preserved
@@ -33,8 +33,8 @@ loop-share-preserved c =
           ∙ (ap (λ (es : List Edge). es ++ made c.share_of-amount.result ∷ []) c.loop-share.invariant.edges
           ∙ (append_assoc c.args.weights.now.plain.edges (map (edge_of c.args.stake voter) (take i items)) (made c.share_of-amount.result ∷ [])
           ∙ ap (λ (es : List Edge). c.args.weights.now.plain.edges ++ es)
-              (ap (λ (n : ℕ). map (edge_of c.args.stake voter) (take i items) ++ made n ∷ []) c.share_of-amount.ensures
-              ∙ sym (map_more (edge_of c.args.stake voter) items i no_share c.loop-share-test.true))));
+          (ap (λ (n : ℕ). map (edge_of c.args.stake voter) (take i items) ++ made n ∷ []) c.share_of-amount.ensures
+          ∙ sym (map_more (edge_of c.args.stake voter) items i no_share c.loop-share-test.true))));
       members = c.push_edge.ensures.members ∙ c.loop-share.invariant.members;
       spare = omega (arith, c.push_edge.ensures.edge_spare, c.loop-share.invariant.spare);
       room = keeps_then c.args.weights.now c.loop-share.weights c.push_edge.new.self c.loop-share.invariant.room c.push_edge.ensures.room;

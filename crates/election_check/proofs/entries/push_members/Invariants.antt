@@ -9,6 +9,6 @@ abbrev pub invariant-loop-target : goal.invariant-loop-target
 invariant-loop-target l = record {
   members : l.weights.plain.committee ≡ filter (λ target. nat_lt 0 (slice_index_or l.stamps target 0)) (range_with_len 0 l.target);
   edges : l.weights.plain.edges ≡ l.initial.weights.plain.edges;
-  spare : length l.stamps ≤ l.weights.member_spare + l.target;
+  spare : length l.snapshot.targets ≤ l.weights.member_spare + l.target;
   room : KeepsRoom l.initial.weights l.weights;
 }
