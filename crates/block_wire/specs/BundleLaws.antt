@@ -10,17 +10,18 @@ use Rattle.scale_wire.specs.AccountLaws.{account_laws}
 use Rattle.scale_wire.specs.ValueLaws.{edge_laws, score_laws}
 use Rattle.scale_wire.specs.CompactLaws.{compact_u16_laws, compact_u32_laws, compact_u64_laws, length_laws}
 use Rattle.scale_wire.specs.FormLaws.{nothing_laws, pair_laws, triple_laws, seen_laws, list_laws, byte_list_laws, AreVariants, HasChoice, given_at, enum_laws}
-use Rattle.block_wire.specs.Limits.{most_solution_bytes, most_targets, most_voters, most_votes, most_edges}
+use Rattle.npos_base.specs.declared.limits.TheConstants.{MOST_SOLUTION_BYTES}
+use Rattle.block_wire.specs.declared.limits.TheConstants.{MOST_LISTED_TARGETS, MOST_LISTED_VOTERS, MOST_VOTES, MOST_EDGES}
 use Rattle.block_wire.specs.declared.bundle.Work.{Work}
 use Rattle.block_wire.specs.declared.bundle.Work.TheVariants.{Nothing, Packed, Plain}
 use Rattle.block_wire.specs.Bundles.{voter_form, works, work_choice, work_form, election_form, bundle_form}
 
 pub voter_laws : IsWire voter_form
 voter_laws =
-    seen_laws (triple account_form compact_u64 (list compact_u16 most_votes)) (λ voter. (voter.account, voter.stake, voter.votes))
+    seen_laws (triple account_form compact_u64 (list compact_u16 MOST_VOTES)) (λ voter. (voter.account, voter.stake, voter.votes))
     (λ fields. record { account = fields.0; stake = fields.1; votes = fields.2 }) (λ voter. refl) (λ fields. refl)
-    (triple_laws account_form compact_u64 (list compact_u16 most_votes) account_laws compact_u64_laws
-    (list_laws compact_u16 most_votes (length_laws most_votes (lit< tt)) compact_u16_laws))
+    (triple_laws account_form compact_u64 (list compact_u16 MOST_VOTES) account_laws compact_u64_laws
+    (list_laws compact_u16 MOST_VOTES (length_laws MOST_VOTES (lit< tt)) compact_u16_laws))
 
 -- ## Work
 
@@ -29,13 +30,13 @@ works_are = (
   nothing_laws,
   (λ values. (Nothing, refl)),
   (
-    pair_laws score_form (byte_list most_solution_bytes) score_laws
-        (byte_list_laws most_solution_bytes (length_laws most_solution_bytes (lit< tt)) byte_string_laws),
+    pair_laws score_form (byte_list MOST_SOLUTION_BYTES) score_laws
+        (byte_list_laws MOST_SOLUTION_BYTES (length_laws MOST_SOLUTION_BYTES (lit< tt)) byte_string_laws),
     (λ values. (Packed values.0 values.1, refl)),
     (
-      pair_laws (list compact_u16 most_targets) (list edge_form most_edges)
-          (list_laws compact_u16 most_targets (length_laws most_targets (lit< tt)) compact_u16_laws)
-          (list_laws edge_form most_edges (length_laws most_edges (lit< tt)) edge_laws),
+      pair_laws (list compact_u16 MOST_LISTED_TARGETS) (list edge_form MOST_EDGES)
+          (list_laws compact_u16 MOST_LISTED_TARGETS (length_laws MOST_LISTED_TARGETS (lit< tt)) compact_u16_laws)
+          (list_laws edge_form MOST_EDGES (length_laws MOST_EDGES (lit< tt)) edge_laws),
       (λ values. (Plain values.0 values.1, refl)),
       tt,
     ),
@@ -54,9 +55,9 @@ work_laws = enum_laws works work_choice works_are work_back (tag_laws 3)
 
 election_laws : IsWire election_form
 election_laws =
-    triple_laws (list account_form most_targets) (list voter_form most_voters) work_form
-    (list_laws account_form most_targets (length_laws most_targets (lit< tt)) account_laws)
-    (list_laws voter_form most_voters (length_laws most_voters (lit< tt)) voter_laws) work_laws
+    triple_laws (list account_form MOST_LISTED_TARGETS) (list voter_form MOST_LISTED_VOTERS) work_form
+    (list_laws account_form MOST_LISTED_TARGETS (length_laws MOST_LISTED_TARGETS (lit< tt)) account_laws)
+    (list_laws voter_form MOST_LISTED_VOTERS (length_laws MOST_LISTED_VOTERS (lit< tt)) voter_laws) work_laws
 
 pub bundle_laws : IsWire bundle_form
 bundle_laws =

@@ -6,7 +6,8 @@ use Rattle.scale_wire.specs.Form.{Form}
 use Rattle.scale_wire.specs.Parts.{account_form, compact_u16, compact_u32, compact_u64}
 use Rattle.scale_wire.specs.Values.{edge_form, score_form}
 use Rattle.scale_wire.specs.Composite.{nothing, pair, triple, seen, list, byte_list, Fields, fields, Choice, choice}
-use Rattle.block_wire.specs.Limits.{most_solution_bytes, most_targets, most_voters, most_votes, most_edges}
+use Rattle.npos_base.specs.declared.limits.TheConstants.{MOST_SOLUTION_BYTES}
+use Rattle.block_wire.specs.declared.limits.TheConstants.{MOST_LISTED_TARGETS, MOST_LISTED_VOTERS, MOST_VOTES, MOST_EDGES}
 use Rattle.block_wire.specs.declared.bundle.Bundle.{Bundle}
 use Rattle.block_wire.specs.declared.bundle.BundleVoter.{BundleVoter}
 use Rattle.block_wire.specs.declared.bundle.Work.{Work}
@@ -14,20 +15,20 @@ use Rattle.block_wire.specs.declared.bundle.Work.TheVariants.{Nothing, Packed, P
 
 abbrev pub voter_form : Form BundleVoter
 voter_form = seen
-    (triple account_form compact_u64 (list compact_u16 most_votes))
+    (triple account_form compact_u64 (list compact_u16 MOST_VOTES))
     (λ voter. (voter.account, voter.stake, voter.votes))
 
 -- ## Work
 
 -- a committee, as positions of targets, and its edges
 abbrev pub plain_form : Form (List ℕ × List Edge)
-plain_form = pair (list compact_u16 most_targets) (list edge_form most_edges)
+plain_form = pair (list compact_u16 MOST_LISTED_TARGETS) (list edge_form MOST_EDGES)
 
 -- the fields of each kind of work, in the order of the tags from 0
 abbrev pub works : List Fields
 works =
     fields nothing
-    ∷ fields (pair score_form (byte_list most_solution_bytes))
+    ∷ fields (pair score_form (byte_list MOST_SOLUTION_BYTES))
     ∷ fields plain_form
     ∷ []
 
@@ -43,7 +44,7 @@ work_form = seen (choice works) work_choice
 
 -- the targets, the voters and the work
 abbrev pub election_form : Form (List AccountId × List BundleVoter × Work)
-election_form = triple (list account_form most_targets) (list voter_form most_voters) work_form
+election_form = triple (list account_form MOST_LISTED_TARGETS) (list voter_form MOST_LISTED_VOTERS) work_form
 
 abbrev pub bundle_form : Form Bundle
 bundle_form = seen

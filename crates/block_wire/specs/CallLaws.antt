@@ -10,23 +10,24 @@ use Rattle.scale_wire.specs.AccountLaws.{account_laws}
 use Rattle.scale_wire.specs.ValueLaws.{score_laws}
 use Rattle.scale_wire.specs.CompactLaws.{compact_u32_laws, compact_u64_laws, length_laws}
 use Rattle.scale_wire.specs.FormLaws.{nothing_laws, pair_laws, triple_laws, seen_laws, list_laws, byte_list_laws, AreVariants, HasChoice, given_at, enum_laws}
-use Rattle.block_wire.specs.Limits.{most_calls, most_named, most_points, most_solution_bytes}
+use Rattle.npos_base.specs.declared.limits.TheConstants.{MOST_SOLUTION_BYTES}
+use Rattle.block_wire.specs.declared.limits.TheConstants.{MOST_CALLS, MOST_NAMED, MOST_POINTS}
 use Rattle.block_wire.specs.declared.call.CallKind.{CallKind}
 use Rattle.block_wire.specs.declared.call.CallKind.TheVariants.{Transfer, Bond, BondExtra, Unbond, Rebond, Withdraw, Nominate, Validate, Chill, Rebag, PutInFront, Submit, Points, Payout, Offence}
 use Rattle.block_wire.specs.Calls.{kinds, kind_choice, kind_form, call_form, block_form}
 
 -- ## The kinds of calls
 
-named_laws : IsWire (list account_form most_named)
-named_laws = list_laws account_form most_named (length_laws most_named (lit< tt)) account_laws
+named_laws : IsWire (list account_form MOST_NAMED)
+named_laws = list_laws account_form MOST_NAMED (length_laws MOST_NAMED (lit< tt)) account_laws
 
-points_laws : IsWire (list (pair account_form compact_u32) most_points)
+points_laws : IsWire (list (pair account_form compact_u32) MOST_POINTS)
 points_laws =
-    list_laws (pair account_form compact_u32) most_points (length_laws most_points (lit< tt))
+    list_laws (pair account_form compact_u32) MOST_POINTS (length_laws MOST_POINTS (lit< tt))
     (pair_laws account_form compact_u32 account_laws compact_u32_laws)
 
-solution_laws : IsWire (byte_list most_solution_bytes)
-solution_laws = byte_list_laws most_solution_bytes (length_laws most_solution_bytes (lit< tt)) byte_string_laws
+solution_laws : IsWire (byte_list MOST_SOLUTION_BYTES)
+solution_laws = byte_list_laws MOST_SOLUTION_BYTES (length_laws MOST_SOLUTION_BYTES (lit< tt)) byte_string_laws
 
 -- Each kind keeps the laws, and is given by its tag and its fields.
 abbrev kinds_are : AreVariants kinds (HasChoice kinds kind_choice)
@@ -64,7 +65,7 @@ kinds_are = (
                       account_laws,
                       (λ values. (PutInFront values, refl)),
                       (
-                        triple_laws compact_u32 score_form (byte_list most_solution_bytes) compact_u32_laws score_laws solution_laws,
+                        triple_laws compact_u32 score_form (byte_list MOST_SOLUTION_BYTES) compact_u32_laws score_laws solution_laws,
                         (λ values. (Submit values.0 values.1 values.2, refl)),
                         (
                           points_laws,
@@ -121,7 +122,7 @@ call_laws = seen_laws (pair account_form kind_form) (λ call. (call.who, call.ki
     (pair_laws account_form kind_form account_laws kind_laws)
 
 pub block_laws : IsWire block_form
-block_laws = seen_laws (pair compact_u32 (list call_form most_calls)) (λ block. (block.number, block.calls))
+block_laws = seen_laws (pair compact_u32 (list call_form MOST_CALLS)) (λ block. (block.number, block.calls))
     (λ fields. record { number = fields.0; calls = fields.1 }) (λ block. refl) (λ fields. refl)
-    (pair_laws compact_u32 (list call_form most_calls) compact_u32_laws
-    (list_laws call_form most_calls (length_laws most_calls (lit< tt)) call_laws))
+    (pair_laws compact_u32 (list call_form MOST_CALLS) compact_u32_laws
+    (list_laws call_form MOST_CALLS (length_laws MOST_CALLS (lit< tt)) call_laws))

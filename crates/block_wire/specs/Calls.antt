@@ -4,7 +4,8 @@ use Rattle.scale_wire.specs.Form.{Form}
 use Rattle.scale_wire.specs.Parts.{account_form, compact_u32, compact_u64}
 use Rattle.scale_wire.specs.Values.{score_form}
 use Rattle.scale_wire.specs.Composite.{nothing, pair, triple, seen, list, byte_list, Fields, fields, Choice, choice}
-use Rattle.block_wire.specs.Limits.{most_calls, most_named, most_points, most_solution_bytes}
+use Rattle.npos_base.specs.declared.limits.TheConstants.{MOST_SOLUTION_BYTES}
+use Rattle.block_wire.specs.declared.limits.TheConstants.{MOST_CALLS, MOST_NAMED, MOST_POINTS}
 use Rattle.block_wire.specs.declared.block.Block.{Block}
 use Rattle.block_wire.specs.declared.call.Call.{Call}
 use Rattle.block_wire.specs.declared.call.CallKind.{CallKind}
@@ -21,13 +22,13 @@ kinds =
     ∷ fields compact_u64
     ∷ fields compact_u64
     ∷ fields nothing
-    ∷ fields (list account_form most_named)
+    ∷ fields (list account_form MOST_NAMED)
     ∷ fields compact_u32
     ∷ fields nothing
     ∷ fields account_form
     ∷ fields account_form
-    ∷ fields (triple compact_u32 score_form (byte_list most_solution_bytes))
-    ∷ fields (list (pair account_form compact_u32) most_points)
+    ∷ fields (triple compact_u32 score_form (byte_list MOST_SOLUTION_BYTES))
+    ∷ fields (list (pair account_form compact_u32) MOST_POINTS)
     ∷ fields (pair compact_u32 account_form)
     ∷ fields (triple compact_u32 account_form compact_u32)
     ∷ []
@@ -61,4 +62,4 @@ call_form = seen (pair account_form kind_form) (λ call. (call.who, call.kind))
 
 abbrev pub block_form : Form Block
 block_form =
-    seen (pair compact_u32 (list call_form most_calls)) (λ block. (block.number, block.calls))
+    seen (pair compact_u32 (list call_form MOST_CALLS)) (λ block. (block.number, block.calls))

@@ -4,7 +4,7 @@ use Rattle.npos_base.specs.declared.account.AccountId.{AccountId}
 use Rattle.scale_wire.specs.Form.{Form}
 use Rattle.scale_wire.specs.Parts.{account_form, compact_u32, compact_u64}
 use Rattle.scale_wire.specs.Composite.{pair, triple, seen, list, Fields, fields, Choice, choice}
-use Rattle.block_wire.specs.Limits.{most_thresholds, most_endowments}
+use Rattle.npos_base.specs.declared.limits.TheConstants.{MOST_THRESHOLDS, MOST_ENDOWMENTS}
 use Rattle.block_wire.specs.declared.genesis.Endowment.{Endowment}
 use Rattle.block_wire.specs.declared.genesis.Params.{Params}
 use Rattle.block_wire.specs.declared.genesis.Genesis.{Genesis}
@@ -47,12 +47,12 @@ params_fields params = (
 )
 
 abbrev pub params_form : Form Params
-params_form = seen (triple head_form (list compact_u64 most_thresholds) tail_form) params_fields
+params_form = seen (triple head_form (list compact_u64 MOST_THRESHOLDS) tail_form) params_fields
 
 -- ## The genesis
 
 abbrev pub endowments_form : Form (List Endowment)
-endowments_form = list endowment_form most_endowments
+endowments_form = list endowment_form MOST_ENDOWMENTS
 
 abbrev pub full_form : Form (List Endowment × Params)
 full_form = pair endowments_form params_form

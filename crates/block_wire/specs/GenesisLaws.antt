@@ -9,9 +9,7 @@ use Rattle.scale_wire.specs.CompactLaws.{compact_u32_laws, compact_u64_laws, len
 use Rattle.scale_wire.specs.FormLaws.{pair_laws, triple_laws, seen_laws, list_laws, AreVariants, HasChoice, given_at, enum_laws}
 use Rattle.scale_wire.specs.AccountLaws.{account_laws}
 use Rattle.block_wire.specs.Genesis.{endowment_form, head_form, tail_form, params_form, params_fields, endowments_form, geneses, genesis_choice, genesis_form}
-use Rattle.block_wire.specs.Limits.{most_thresholds, most_endowments}
-use Rattle.block_wire.specs.declared.genesis.Endowment.{Endowment}
-use Rattle.block_wire.specs.declared.genesis.Params.{Params}
+use Rattle.npos_base.specs.declared.limits.TheConstants.{MOST_THRESHOLDS, MOST_ENDOWMENTS}
 use Rattle.block_wire.specs.declared.genesis.Genesis.{Genesis}
 use Rattle.block_wire.specs.declared.genesis.Genesis.TheVariants.{Plain, Full}
 
@@ -32,7 +30,7 @@ tail_laws = pair_laws (triple compact_u32 compact_u32 compact_u64) (pair compact
     (pair_laws compact_u64 compact_u64 compact_u64_laws compact_u64_laws)
 
 pub params_laws : IsWire params_form
-params_laws = seen_laws (triple head_form (list compact_u64 most_thresholds) tail_form) params_fields
+params_laws = seen_laws (triple head_form (list compact_u64 MOST_THRESHOLDS) tail_form) params_fields
     (λ f. record {
       root = f.0.0.0;
       seats = f.0.0.1;
@@ -49,11 +47,11 @@ params_laws = seen_laws (triple head_form (list compact_u64 most_thresholds) tai
       era_reward = f.2.1.1;
     })
     (λ params. refl) (λ f. refl)
-    (triple_laws head_form (list compact_u64 most_thresholds) tail_form head_laws
-    (list_laws compact_u64 most_thresholds (length_laws most_thresholds (lit< tt)) compact_u64_laws) tail_laws)
+    (triple_laws head_form (list compact_u64 MOST_THRESHOLDS) tail_form head_laws
+    (list_laws compact_u64 MOST_THRESHOLDS (length_laws MOST_THRESHOLDS (lit< tt)) compact_u64_laws) tail_laws)
 
 endowments_laws : IsWire endowments_form
-endowments_laws = list_laws endowment_form most_endowments (length_laws most_endowments (lit< tt)) endowment_laws
+endowments_laws = list_laws endowment_form MOST_ENDOWMENTS (length_laws MOST_ENDOWMENTS (lit< tt)) endowment_laws
 
 -- ## The genesis
 

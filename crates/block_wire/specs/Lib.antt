@@ -1,4 +1,3 @@
-pub mod Limits
 pub mod Genesis
 pub mod GenesisLaws
 pub mod Calls
