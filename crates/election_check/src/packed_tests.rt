@@ -152,7 +152,7 @@ fn large(alloc: Global) -> Result<Snapshot, Fail> {
     for n in 0..16384 {
         builder.add_voter(at(n), 16, &[n % 2048])?;
     }
-    finished(builder, 512)
+    Ok(finished(builder, 512)?)
 }
 
 /// A group of this many voters, each for the target that it nominates, and then these bytes.
