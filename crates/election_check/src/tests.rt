@@ -18,8 +18,8 @@ struct Case {
     verdict: Verdict,
 }
 
-/// One for each fault, then what is left at the price of a seat, one unit below it, and a proportional committee with
-/// weights too poor to show it.
+/// One for each fault, then what is left at the price of a seat, one unit below it, and a
+/// proportional committee with weights too poor to show it.
 const CASES: [Case; 12] = [
     Case {
         stakes: [60, 40],
@@ -294,7 +294,8 @@ fn the_first_fault_is_the_verdict(rt: HostRuntime) -> Result<(), Fail> {
     Ok(())
 }
 
-/// The votes of a voter of the largest snapshot: eight targets that are elected, eight that are not.
+/// The votes of a voter of the largest snapshot: eight targets that are elected, eight that are
+/// not.
 fn large_votes(voter: u16) -> [u16; 16] {
     let mut votes = [0; 16];
     for i in 0..8 {
