@@ -27,7 +27,9 @@ const FORTY: Voter<'_> = (40, &[1]);
 /// The bytes of a solution that ends with these groups, all others of which are empty.
 fn whole(alloc: Global, groups: &[u8], empty: usize) -> Result<Vec<u8>, Fail> {
     let mut bytes = groups.to_vec(alloc)?;
-    bytes.resize(groups.len() + empty, 0)?;
+    for _ in 0..empty {
+        bytes.push(0)?;
+    }
     Ok(bytes)
 }
 
@@ -38,8 +40,8 @@ fn judged(
     bytes: &[u8],
     claim: &Score,
 ) -> Result<(Verdict, usize, usize), Fail> {
-    let mut weights = Weights::with_room(alloc, &snapshot)?;
     let mut checker = checker_of(alloc, snapshot)?;
+    let mut weights = Weights::with_room(alloc, checker.snapshot())?;
     let verdict = checker.judge_bytes(alloc, bytes, claim, &mut weights)?;
     Ok((verdict, weights.committee().len(), weights.edges().len()))
 }
