@@ -68,5 +68,5 @@ pub members_few : (snapshot : Snapshot) (weights : Weights) → Follows snapshot
 members_few snapshot weights h =
     let all = range_with_len 0 (length snapshot.targets) in
     let covered = sum_covered (λ _. 1) weights.committee all h.members_distinct
-          (λ k d l. has_range 0 (length snapshot.targets) (get_or weights.committee k d) (omega arith) (omega (arith, h.members_in_range k d l))) in
+    (λ k d l. has_range 0 (length snapshot.targets) (get_or weights.committee k d) (omega arith) (omega (arith, h.members_in_range k d l))) in
     omega (arith, covered, sum_of_ones weights.committee, sum_of_ones all, length-range_with_len 0 (length snapshot.targets))

@@ -43,7 +43,7 @@ stakes_in_order snapshot =
 pub stakes_before : (snapshot : Snapshot) (n : ℕ) → n ≤ length snapshot.voters → sum_by (stake_of snapshot) (range_with_len 0 n) ≤ total_stake snapshot
 stakes_before snapshot n h =
     let split = ap (λ m. sum_by (stake_of snapshot) (range_with_len 0 m)) (whole n (length snapshot.voters) h) ∙ ap (sum_by (stake_of snapshot)) (range_append 0 n (length snapshot.voters - n))
-          ∙ sum_by-append (stake_of snapshot) (range_with_len 0 n) (range_with_len (0 + n) (length snapshot.voters - n)) in
+    ∙ sum_by-append (stake_of snapshot) (range_with_len 0 n) (range_with_len (0 + n) (length snapshot.voters - n)) in
     omega (arith, split, stakes_in_order snapshot)
   where
     whole : (a b : ℕ) → a ≤ b → b ≡ a + (b - a)
@@ -54,7 +54,7 @@ pub amounts_within : (snapshot : Snapshot) (weights : Weights) → IsFeasible sn
 amounts_within snapshot weights feasible =
     let voters = range_with_len 0 (length snapshot.voters) in
     let all = sum_le (λ (edge : Edge). edge.amount) (λ (edge : Edge). cond (has voters edge.voter) edge.amount 0) weights.edges
-          (λ k d h. counted (get_or weights.edges k d) (feasible.follows.voters_in_range k d h)) in
+    (λ k d h. counted (get_or weights.edges k d) (feasible.follows.voters_in_range k d h)) in
     let by_voter = at_least (λ (edge : Edge). edge.voter) (λ (edge : Edge). edge.amount) weights.edges voters in
     let each = sum_le (spent weights.edges) (stake_of snapshot) voters (λ k d h. within k d (length-range_with_len 0 (length snapshot.voters)) h) in
     omega (arith, all, by_voter, each, stakes_in_order snapshot)

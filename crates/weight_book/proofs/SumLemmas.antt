@@ -33,8 +33,11 @@ module _ {X : Type 0} (p : X → Bool) (f : X → ℕ) where
       ∙ ap (λ n. sum_by f (filter p (take i xs)) + n) (single (get_or xs i d))
 
   pub sum_filter-take-le : (xs : List X) (i : ℕ) → sum_by f (filter p (take i xs)) ≤ sum_by f (filter p xs)
-  sum_filter-take-le xs i = omega (arith, ap (λ ys. sum_by f (filter p ys)) (sym (take-append-drop i xs)) ∙ ap (sum_by f) (filter-append p (take i xs) (drop i xs))
-      ∙ sum_by-append f (filter p (take i xs)) (filter p (drop i xs)))
+  sum_filter-take-le xs i = omega (
+    arith,
+    ap (λ ys. sum_by f (filter p ys)) (sym (take-append-drop i xs)) ∙ ap (sum_by f) (filter-append p (take i xs) (drop i xs))
+        ∙ sum_by-append f (filter p (take i xs)) (filter p (drop i xs)),
+  )
 
   pub sum_filter_push : (xs : List X) (x : X) → sum_by f (filter p (xs ++ x ∷ [])) ≡ sum_by f (filter p xs) + cond (p x) (f x) 0
   sum_filter_push xs x = ap (sum_by f) (filter-append p xs (x ∷ []))
