@@ -1,57 +1,69 @@
 -- How a chain begins.
-use Rattle.std.specs.Prelude.{ℕ, List, [], ◌∷◌, Option, Some, None}
+use Rattle.std.specs.Prelude.{ℕ, List, [], ◌∷◌}
 use Rattle.npos_base.specs.declared.account.AccountId.{AccountId}
 use Rattle.scale_wire.specs.Form.{Form}
-use Rattle.scale_wire.specs.Parts.{compact_u32, compact_u64}
-use Rattle.scale_wire.specs.Parts.{account_form}
-use Rattle.scale_wire.specs.Composite.{pair, triple, seen, list, variant, tagged}
+use Rattle.scale_wire.specs.Parts.{account_form, compact_u32, compact_u64}
+use Rattle.scale_wire.specs.Composite.{pair, triple, seen, list, Fields, fields, Choice, choice}
+use Rattle.npos_base.specs.declared.limits.TheConstants.{MOST_THRESHOLDS, MOST_ENDOWMENTS}
 use Rattle.block_wire.specs.declared.genesis.Endowment.{Endowment}
 use Rattle.block_wire.specs.declared.genesis.Params.{Params}
 use Rattle.block_wire.specs.declared.genesis.Genesis.{Genesis}
 use Rattle.block_wire.specs.declared.genesis.Genesis.TheVariants.{Plain, Full}
 
 abbrev pub endowment_form : Form Endowment
-endowment_form = seen (pair account_form compact_u64) (λ endowment. (endowment.who, endowment.value))
+endowment_form =
+    seen (pair account_form compact_u64) (λ endowment. (endowment.who, endowment.value))
 
 -- ## The parameters
 
--- The fields in order. Up to the thresholds: the root and the seats, the phases of an era, and bonding.
-abbrev pub head_form : Form ((AccountId × ℕ) × (ℕ × ℕ × ℕ) × (ℕ × ℕ))
-head_form = triple (pair account_form compact_u32) (triple compact_u32 compact_u32 compact_u32) (pair compact_u32 compact_u64)
+-- The fields in order. Up to the thresholds: the root and the seats, the phases of an era, and
+-- bonding.
+abbrev pub Head : Type 0
+Head = (AccountId × ℕ) × (ℕ × ℕ × ℕ) × (ℕ × ℕ)
+
+abbrev pub head_form : Form Head
+head_form =
+    triple
+    (pair account_form compact_u32)
+    (triple compact_u32 compact_u32 compact_u32)
+    (pair compact_u32 compact_u64)
 
 -- behind the thresholds: submissions, and what is paid
-abbrev pub tail_form : Form ((ℕ × ℕ × ℕ) × (ℕ × ℕ))
+abbrev pub Tail : Type 0
+Tail = (ℕ × ℕ × ℕ) × (ℕ × ℕ)
+
+abbrev pub tail_form : Form Tail
 tail_form = pair (triple compact_u32 compact_u32 compact_u64) (pair compact_u64 compact_u64)
 
-abbrev pub params_fields : Params → ((AccountId × ℕ) × (ℕ × ℕ × ℕ) × (ℕ × ℕ)) × List ℕ × ((ℕ × ℕ × ℕ) × (ℕ × ℕ))
+abbrev pub params_fields : Params → Head × List ℕ × Tail
 params_fields params = (
-  ((params.root, params.seats), (params.era_blocks, params.offset, params.signed), (params.bonding_eras, params.least_bond)),
+  (
+    (params.root, params.seats),
+    (params.era_blocks, params.offset, params.signed),
+    (params.bonding_eras, params.least_bond),
+  ),
   params.thresholds,
   ((params.queue, params.solution_max, params.deposit), (params.reward, params.era_reward)),
 )
 
 abbrev pub params_form : Form Params
-params_form = seen (triple head_form (list compact_u64 200) tail_form) params_fields
+params_form = seen (triple head_form (list compact_u64 MOST_THRESHOLDS) tail_form) params_fields
 
 -- ## The genesis
 
-abbrev pub tag_of_genesis : Genesis → ℕ
-tag_of_genesis (Plain endowments) = 0
-tag_of_genesis (Full endowments params) = 1
-
 abbrev pub endowments_form : Form (List Endowment)
-endowments_form = list endowment_form 65536
+endowments_form = list endowment_form MOST_ENDOWMENTS
 
-abbrev pub plain_fields : Genesis → Option (List Endowment)
-plain_fields (Plain endowments) = Some endowments
-plain_fields _ = None
+abbrev pub full_form : Form (List Endowment × Params)
+full_form = pair endowments_form params_form
 
-abbrev pub full_fields : Genesis → Option (List Endowment × Params)
-full_fields (Full endowments params) = Some (endowments, params)
-full_fields _ = None
+-- the fields of the two kinds of genesis: without elections, and with them
+abbrev pub geneses : List Fields
+geneses = fields endowments_form ∷ fields full_form ∷ []
 
-abbrev pub genesis_variants : List (Form Genesis)
-genesis_variants = variant endowments_form plain_fields ∷ variant (pair endowments_form params_form) full_fields ∷ []
+abbrev pub genesis_choice : Genesis → Choice geneses
+genesis_choice (Plain endowments) = record { tag = 0; values = endowments }
+genesis_choice (Full endowments params) = record { tag = 1; values = (endowments, params) }
 
 abbrev pub genesis_form : Form Genesis
-genesis_form = tagged tag_of_genesis genesis_variants
+genesis_form = seen (choice geneses) genesis_choice

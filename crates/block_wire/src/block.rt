@@ -1,6 +1,7 @@
 //! Blocks: the calls that are made at one step of the chain.
 
 use crate::Call;
+use crate::limits::MOST_CALLS;
 use npos_base::{List, NoMemory};
 use scale_wire::fault::ReadFault;
 use scale_wire::{Cursor, Pen, UpTo, Wire, write_list};
@@ -27,7 +28,7 @@ impl Wire for Block {
     }
 
     fn read(alloc: Global, cursor: &mut Cursor<'_>) -> Result<Block, ReadFault> {
-        let (number, calls) = <(u32, UpTo<Call, 64>)>::read(alloc, cursor)?;
+        let (number, calls) = <(u32, UpTo<Call, MOST_CALLS>)>::read(alloc, cursor)?;
         Ok(Block {
             number,
             calls: calls.into_list(),

@@ -1,14 +1,14 @@
 //! Bundles: an election as one value, with the work that was done on it.
-ghost use Rattle.std.specs.Prelude.{◌≡◌, ◌<◌};
+ghost use Rattle.std.specs.Prelude.{◌<◌, ◌∷◌};
 ghost use Rattle.scale_wire.specs.Reading.{Reads, Writes};
-ghost use Rattle.scale_wire.specs.Values.{edge_form, score_form};
-ghost use Rattle.scale_wire.specs.Parts.{compact_u16};
-ghost use Rattle.scale_wire.specs.Composite.{pair, list, byte_list, variant_at};
-ghost use Rattle.block_wire.specs.Bundles.{tag_of_work, works};
+ghost use Rattle.scale_wire.specs.Composite.{behind_tag};
+ghost use Rattle.block_wire.specs.Bundles.{plain_form, works, work_choice, work_form};
 
+use crate::limits::{MOST_EDGES, MOST_SOLUTION_BYTES, MOST_TARGETS, MOST_VOTERS, MOST_VOTES};
+use crate::writing::{write_fields, write_listed, write_packed};
 use npos_base::{AccountId, Edge, List, NoMemory, Score};
 use scale_wire::fault::ReadFault;
-use scale_wire::{BytesUpTo, Cursor, Pen, UpTo, Wire, write_bytes, write_list, write_tag};
+use scale_wire::{BytesUpTo, Cursor, Pen, UpTo, Wire, write_list};
 use std::alloc::Global;
 
 /// A voter: its stake, in units, and the positions of the targets that it votes for.
@@ -34,7 +34,9 @@ impl Wire for BundleVoter {
     }
 
     fn read(alloc: Global, cursor: &mut Cursor<'_>) -> Result<BundleVoter, ReadFault> {
-        let (account, stake, votes) = <(AccountId, u64, UpTo<u16, 64>)>::read(alloc, cursor)?;
+        let (account, stake, votes) = <(AccountId, u64, UpTo<u16, MOST_VOTES>)>::read(
+            alloc, cursor,
+        )?;
         Ok(BundleVoter {
             account,
             stake,
@@ -69,92 +71,67 @@ impl Wire for Work {
     ghost laws = { work_laws };
 
     fn write(&self, pen: &mut Pen) -> Result<(), NoMemory> {
-        write_tag(work_tag(self), pen)?;
-        write_work_fields(self, pen)
+        write_work(self, pen)
     }
 
     fn read(alloc: Global, cursor: &mut Cursor<'_>) -> Result<Work, ReadFault> {
         let mut here = cursor.fork();
         let tag = here.take_tag(3)?;
-        let work = read_work_fields(alloc, tag, &mut here)?;
+        let work = read_fields(alloc, tag, &mut here)?;
         *cursor = here;
         Ok(work)
     }
 }
 
-fn work_tag(work: &Work) -> u8
-    ensures { result ≡ tag_of_work work.now }
+// The tag and the fields.
+fn write_work(work: &Work, pen: &mut Pen) -> Result<(), NoMemory>
+    requires { work_form.in_range work.now }
+    ensures { Writes (work_form.spelling work.now) pen.old result pen.new }
 {
     match work {
-        Work::Nothing => 0,
-        Work::Packed { .. } => 1,
-        Work::Plain { .. } => 2,
+        Work::Nothing => write_fields(0, &(), pen),
+        Work::Packed { claim, bytes } => write_packed(1, claim, bytes, pen),
+        Work::Plain { committee, edges } => write_plain(committee, edges, pen),
     }
 }
 
-fn read_work_fields(alloc: Global, tag: u8, cursor: &mut Cursor<'_>) -> Result<Work, ReadFault>
+// The fields of the work with this tag.
+fn read_fields(alloc: Global, tag: u8, cursor: &mut Cursor<'_>) -> Result<Work, ReadFault>
     requires { tag < 3 }
-    ensures { Reads (variant_at works tag) cursor.old result cursor.new }
+    ensures { Reads (behind_tag works work_choice tag) cursor.old result cursor.new }
 {
     match tag {
         0 => Ok(Work::Nothing),
-        1 => read_packed(alloc, cursor),
-        _ => read_plain_work(alloc, cursor),
+        1 => {
+            let (claim, bytes) = <(Score, BytesUpTo<MOST_SOLUTION_BYTES>)>::read(alloc, cursor)?;
+            let bytes = bytes.into_list();
+            Ok(Work::Packed { claim, bytes })
+        }
+        _ => {
+            let (committee, edges) = <(Committee, Edges)>::read(alloc, cursor)?;
+            Ok(Work::Plain {
+                committee: committee.into_list(),
+                edges: edges.into_list(),
+            })
+        }
     }
 }
 
-fn read_packed(alloc: Global, cursor: &mut Cursor<'_>) -> Result<Work, ReadFault>
-    ensures { Reads (variant_at works 1) cursor.old result cursor.new }
-{
-    let (claim, bytes) = <(Score, BytesUpTo<2_097_152>)>::read(alloc, cursor)?;
-    Ok(Work::Packed {
-        claim,
-        bytes: bytes.into_list(),
-    })
-}
+type Committee = UpTo<u16, MOST_TARGETS>;
 
-fn read_plain_work(alloc: Global, cursor: &mut Cursor<'_>) -> Result<Work, ReadFault>
-    ensures { Reads (variant_at works 2) cursor.old result cursor.new }
-{
-    let (committee, edges) = <(UpTo<u16, 2048>, UpTo<Edge, 262_144>)>::read(alloc, cursor)?;
-    Ok(Work::Plain {
-        committee: committee.into_list(),
-        edges: edges.into_list(),
-    })
-}
+type Edges = UpTo<Edge, MOST_EDGES>;
 
-fn write_work_fields(work: &Work, pen: &mut Pen) -> Result<(), NoMemory>
-    requires { (variant_at works (tag_of_work work.now)).in_range work.now }
-    ensures { Writes ((variant_at works (tag_of_work work.now)).spelling work.now) pen.old result pen.new }
+#[tactic(auto, using(scale_wire::proofs::ReadLemmas::writes_behind))]
+fn write_plain(committee: &List<u16>, edges: &List<Edge>, pen: &mut Pen) -> Result<(), NoMemory>
+    requires { plain_form.in_range (committee.now, edges.now) }
+    ensures { Writes (2 ∷ plain_form.spelling (committee.now, edges.now)) pen.old result pen.new }
 {
-    match work {
-        Work::Nothing => Ok(()),
-        Work::Packed { claim, bytes } => write_packed(*claim, bytes, pen),
-        Work::Plain { committee, edges } => write_plain_work(committee, edges, pen),
-    }
-}
-
-fn write_packed(claim: Score, bytes: &List<u8>, pen: &mut Pen) -> Result<(), NoMemory>
-    requires { (pair score_form (byte_list 2097152)).in_range (claim, bytes.now) }
-    ensures { Writes ((pair score_form (byte_list 2097152)).spelling (claim, bytes.now)) pen.old result pen.new }
-{
-    claim.write(pen)?;
-    write_bytes(bytes, pen)
-}
-
-fn write_plain_work(
-    committee: &List<u16>,
-    edges: &List<Edge>,
-    pen: &mut Pen,
-) -> Result<(), NoMemory>
-    requires { (pair (list compact_u16 2048) (list edge_form 262144)).in_range (committee.now, edges.now) }
-    ensures { Writes ((pair (list compact_u16 2048) (list edge_form 262144)).spelling (committee.now, edges.now)) pen.old result pen.new }
-{
-    write_list(committee, pen)?;
+    write_listed(2, committee, pen)?;
     write_list(edges, pen)
 }
 
-/// An election: how many seats there are, the targets, the voters, and the work that was done on it.
+/// An election: how many seats there are, the targets, the voters, and the work that was done on
+/// it.
 #[derive(Debug, Drop)]
 pub struct Bundle {
     pub seats: u32,
@@ -164,7 +141,11 @@ pub struct Bundle {
 }
 
 // The targets, the voters and the work.
-type Election = (UpTo<AccountId, 2048>, UpTo<BundleVoter, 16_384>, Work);
+type Election = (
+    UpTo<AccountId, MOST_TARGETS>,
+    UpTo<BundleVoter, MOST_VOTERS>,
+    Work,
+);
 
 impl Wire for Bundle {
     ghost use Rattle.block_wire.specs.Bundles.{bundle_form};

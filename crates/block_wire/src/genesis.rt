@@ -1,12 +1,14 @@
 //! How a chain begins: the endowments, and the parameters of its elections.
-ghost use Rattle.std.specs.Prelude.{◌≡◌, ◌<◌};
+ghost use Rattle.std.specs.Prelude.{◌<◌, ◌∷◌};
 ghost use Rattle.scale_wire.specs.Reading.{Reads, Writes};
-ghost use Rattle.scale_wire.specs.Composite.{pair, list, variant_at};
-ghost use Rattle.block_wire.specs.Genesis.{endowment_form, params_form, tag_of_genesis, genesis_variants};
+ghost use Rattle.scale_wire.specs.Composite.{behind_tag};
+ghost use Rattle.block_wire.specs.Genesis.{full_form, geneses, genesis_choice, genesis_form};
 
+use crate::limits::{MOST_ENDOWMENTS, MOST_THRESHOLDS};
+use crate::writing::write_listed;
 use npos_base::{AccountId, List, NoMemory};
 use scale_wire::fault::ReadFault;
-use scale_wire::{Cursor, Pen, UpTo, Wire, write_list, write_tag};
+use scale_wire::{Cursor, Pen, UpTo, Wire, write_list};
 use std::alloc::Global;
 
 /// An account and the units that it has at the beginning, free.
@@ -34,7 +36,8 @@ impl Wire for Endowment {
     }
 }
 
-/// The parameters of the elections, as the staking and election pallets of Substrate take them at genesis.
+/// The parameters of the elections, as the staking and election pallets of Substrate take them at
+/// genesis.
 #[derive(Debug, Drop)]
 pub struct Params {
     /// The account that gives points and reports offences.
@@ -89,7 +92,9 @@ impl Wire for Params {
     }
 
     fn read(alloc: Global, cursor: &mut Cursor<'_>) -> Result<Params, ReadFault> {
-        let (head, thresholds, tail) = <(Head, UpTo<u64, 200>, Tail)>::read(alloc, cursor)?;
+        let (head, thresholds, tail) = <(Head, UpTo<u64, MOST_THRESHOLDS>, Tail)>::read(
+            alloc, cursor,
+        )?;
         let ((root, seats), (era_blocks, offset, signed), (bonding_eras, least_bond)) = head;
         let ((queue, solution_max, deposit), (reward, era_reward)) = tail;
         Ok(Params {
@@ -124,7 +129,7 @@ pub enum Genesis {
     },
 }
 
-type Endowments = UpTo<Endowment, 65_536>;
+type Endowments = UpTo<Endowment, MOST_ENDOWMENTS>;
 
 impl Wire for Genesis {
     ghost use Rattle.block_wire.specs.Genesis.{genesis_form};
@@ -135,75 +140,49 @@ impl Wire for Genesis {
     ghost laws = { genesis_laws };
 
     fn write(&self, pen: &mut Pen) -> Result<(), NoMemory> {
-        write_tag(genesis_tag(self), pen)?;
-        write_genesis_fields(self, pen)
+        write_genesis(self, pen)
     }
 
     fn read(alloc: Global, cursor: &mut Cursor<'_>) -> Result<Genesis, ReadFault> {
         let mut here = cursor.fork();
         let tag = here.take_tag(2)?;
-        let genesis = read_genesis_fields(alloc, tag, &mut here)?;
+        let genesis = read_fields(alloc, tag, &mut here)?;
         *cursor = here;
         Ok(genesis)
     }
 }
 
-fn genesis_tag(genesis: &Genesis) -> u8
-    ensures { result ≡ tag_of_genesis genesis.now }
+// The tag and the fields.
+fn write_genesis(genesis: &Genesis, pen: &mut Pen) -> Result<(), NoMemory>
+    requires { genesis_form.in_range genesis.now }
+    ensures { Writes (genesis_form.spelling genesis.now) pen.old result pen.new }
 {
     match genesis {
-        Genesis::Plain { .. } => 0,
-        Genesis::Full { .. } => 1,
-    }
-}
-
-fn read_genesis_fields(
-    alloc: Global,
-    tag: u8,
-    cursor: &mut Cursor<'_>,
-) -> Result<Genesis, ReadFault>
-    requires { tag < 2 }
-    ensures { Reads (variant_at genesis_variants tag) cursor.old result cursor.new }
-{
-    match tag {
-        0 => read_plain(alloc, cursor),
-        _ => read_full(alloc, cursor),
-    }
-}
-
-fn read_plain(alloc: Global, cursor: &mut Cursor<'_>) -> Result<Genesis, ReadFault>
-    ensures { Reads (variant_at genesis_variants 0) cursor.old result cursor.new }
-{
-    let endowments = Endowments::read(alloc, cursor)?;
-    Ok(Genesis::Plain {
-        endowments: endowments.into_list(),
-    })
-}
-
-fn read_full(alloc: Global, cursor: &mut Cursor<'_>) -> Result<Genesis, ReadFault>
-    ensures { Reads (variant_at genesis_variants 1) cursor.old result cursor.new }
-{
-    let (endowments, params) = <(Endowments, Params)>::read(alloc, cursor)?;
-    Ok(Genesis::Full {
-        endowments: endowments.into_list(),
-        params,
-    })
-}
-
-fn write_genesis_fields(genesis: &Genesis, pen: &mut Pen) -> Result<(), NoMemory>
-    requires { (variant_at genesis_variants (tag_of_genesis genesis.now)).in_range genesis.now }
-    ensures { Writes ((variant_at genesis_variants (tag_of_genesis genesis.now)).spelling genesis.now) pen.old result pen.new }
-{
-    match genesis {
-        Genesis::Plain { endowments } => write_list(endowments, pen),
+        Genesis::Plain { endowments } => write_listed(0, endowments, pen),
         Genesis::Full { endowments, params } => write_full(endowments, params, pen),
     }
 }
 
-fn write_full(endowments: &List<Endowment>, params: &Params, pen: &mut Pen) -> Result<(), NoMemory>
-    requires { (pair (list endowment_form 65536) params_form).in_range (endowments.now, params.now) }
-    ensures { Writes ((pair (list endowment_form 65536) params_form).spelling (endowments.now, params.now)) pen.old result pen.new }
+// The fields of the genesis with this tag.
+fn read_fields(alloc: Global, tag: u8, cursor: &mut Cursor<'_>) -> Result<Genesis, ReadFault>
+    requires { tag < 2 }
+    ensures { Reads (behind_tag geneses genesis_choice tag) cursor.old result cursor.new }
 {
-    write_list(endowments, pen)?;
+    if tag == 0 {
+        let endowments = Endowments::read(alloc, cursor)?.into_list();
+        Ok(Genesis::Plain { endowments })
+    } else {
+        let (endowments, params) = <(Endowments, Params)>::read(alloc, cursor)?;
+        let endowments = endowments.into_list();
+        Ok(Genesis::Full { endowments, params })
+    }
+}
+
+#[tactic(auto, using(scale_wire::proofs::ReadLemmas::writes_behind))]
+fn write_full(endowments: &List<Endowment>, params: &Params, pen: &mut Pen) -> Result<(), NoMemory>
+    requires { full_form.in_range (endowments.now, params.now) }
+    ensures { Writes (1 ∷ full_form.spelling (endowments.now, params.now)) pen.old result pen.new }
+{
+    write_listed(1, endowments, pen)?;
     params.write(pen)
 }

@@ -1,13 +1,14 @@
-//! What the stream's types are bounded by. Each law is the clause of a function that does nothing. That every type here
-//! has one spelling for each value, and one reading or one fault for all bytes, is said for each `Wire` by the laws of
-//! `scale_wire`.
+//! What the stream's types are bounded by. Each law is the clause of a function that does nothing.
+//! That every type here has one spelling for each value, and one reading or one fault for all
+//! bytes, is said for each `Wire` by the laws of `scale_wire`.
 ghost use Rattle.std.specs.Prelude.{◌<◌, ◌^◌};
 ghost use Rattle.scale_wire.specs.Form.{IsWire};
 ghost use Rattle.scale_wire.specs.Composite.{optional};
 ghost use Rattle.block_wire.specs.Genesis.{genesis_form};
 ghost use Rattle.block_wire.specs.Calls.{block_form};
 
-/// A genesis keeps what every type that is spelled in SCALE keeps, and no spelling of one has 2^23 bytes.
+/// A genesis keeps what every type that is spelled in SCALE keeps, and no spelling of one has 2^23
+/// bytes.
 pub fn a_genesis_is_bounded()
     ensures keeps { IsWire genesis_form }
     ensures longest { genesis_form.longest < 2 ^ 23 }

@@ -1,5 +1,5 @@
-//! What a stream of blocks is made of: the genesis, the blocks and their calls, each as a type with its one spelling in
-//! SCALE.
+//! What a stream of blocks is made of: the genesis, the blocks and their calls, each as a type with
+//! its one spelling in SCALE.
 #![tactic(auto)]
 
 mod block;
@@ -7,8 +7,10 @@ mod bundle;
 mod call;
 mod genesis;
 pub mod laws;
+mod limits;
 #[cfg(test)]
 mod tests;
+mod writing;
 
 pub use block::Block;
 pub use bundle::{Bundle, BundleVoter, Work};

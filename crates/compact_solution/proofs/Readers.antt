@@ -92,7 +92,7 @@ module _ {A : Type 0} (item : ℕ → Form A) where
       → IsRead (row item 0 done) here xs mid → Reads (item done) mid (Err fault) new → Reads (row item 0 count) old (Err fault) old
   row_err count done old here mid new xs (Wire fault) same below read refused =
       subst (λ (o : Place). IsFault (row item 0 count) o fault o) same (row_fault count done here mid new xs fault below read refused)
-  row_err count done old here mid new xs NoMemory same below read refused = tt
+  row_err count done old here mid new xs NoMemory same below read refused = refl
 
   row_more : (first count : ℕ) (xs : List A) (x : A) → IsRow item first count xs → (item (first + count)).in_range x
       → IsRow item first (suc count) (xs ++ x ∷ [])

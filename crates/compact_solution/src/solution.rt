@@ -2,7 +2,8 @@
 ghost use Rattle.std.specs.Prelude.{◌≡◌, ◌-◌, ◌≤◌, [], length, IfOk, slice_index_or};
 ghost use Rattle.scale_wire.specs.Reading.{ReadsWhole};
 ghost use Rattle.compact_solution.specs.Solution.{group_count, solution_form};
-ghost use Rattle.compact_solution.specs.Decoded.{IsDecoded};
+ghost use Rattle.scale_wire.specs.WholeReading.{AnswersAs};
+ghost use Rattle.compact_solution.specs.SolutionLaws.{solution_laws};
 
 use crate::entry::{Entry, GROUPS};
 use crate::reading::read_group;
@@ -37,7 +38,7 @@ impl Solution {
     /// refused as `Trailing`. Memory is taken for entries whose bytes are there, whatever lengths are announced.
     pub fn decode(alloc: Global, bytes: &[u8]) -> Result<Solution, ReadFault>
         ensures grammar { ReadsWhole solution_form bytes.now result }
-        ensures function { IsDecoded bytes.now result }
+        ensures function { AnswersAs solution_form solution_laws bytes.now result }
     {
         read_whole(alloc, bytes)
     }

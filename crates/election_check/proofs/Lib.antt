@@ -3,8 +3,8 @@ pub mod FirstLemmas
 pub mod ListFacts
 pub mod PackedLemmas
 pub mod PassingLemmas
-pub mod SoundLemmas
-pub mod TakingLemmas
 pub mod StepLemmas
 pub mod EdgeLemmas
 pub mod SpendLemmas
+pub mod SoundLemmas
+pub mod TakingLemmas

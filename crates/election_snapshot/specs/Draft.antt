@@ -1,11 +1,11 @@
 -- A snapshot while it is built: what each addition gives, and the first fault that stands.
-use Rattle.std.specs.Prelude.{◌≡◌, ⊤, ℕ, ◌+◌, ◌*◌, ◌^◌, Bool, false, ◌||◌, nat_eq, nat_lt, nat_le, if◌then◌else◌, List, [], ◌∷◌, ◌++◌, length, map, position, Option, Some, None, Result, Ok, Err, OnOk, OnErr, IfErr}
+use Rattle.std.specs.Prelude.{ℕ, ◌+◌, ◌*◌, ◌^◌, Bool, false, ◌||◌, nat_eq, nat_lt, nat_le, if◌then◌else◌, List, [], ◌∷◌, ◌++◌, length, map, position, Option, Some, None}
 use Rattle.std.specs.List.{list_any}
 use Rattle.npos_base.specs.declared.account.AccountId.{AccountId}
 use Rattle.npos_base.specs.Account.{same_account}
 use Rattle.election_snapshot.specs.Snapshot.{Voter, Snapshot, has, total_of}
 use Rattle.election_snapshot.specs.declared.fault.SnapshotFault.{SnapshotFault}
-use Rattle.election_snapshot.specs.declared.fault.SnapshotFault.TheVariants.{Few, Poor, RepeatedTarget, RepeatedVoter, UnknownTarget, RepeatedVote, NoVotes, ZeroStake, TooManyTargets, TooManyVoters, TooManyVotes, TotalTooLarge, BadSeats, NoMemory}
+use Rattle.election_snapshot.specs.declared.fault.SnapshotFault.TheVariants.{Few, Poor, RepeatedTarget, RepeatedVoter, UnknownTarget, RepeatedVote, NoVotes, ZeroStake, TooManyTargets, TooManyVoters, TooManyVotes, TotalTooLarge, BadSeats}
 
 pub record Draft : Type 0 where
   pub targets : List AccountId
@@ -68,19 +68,3 @@ finish_fault draft seats = first_seats_fault (length draft.targets) (total_of dr
 
 abbrev pub seated : Draft → ℕ → Snapshot
 seated draft seats = record { targets = draft.targets; voters = draft.voters; seats = seats }
-
--- the answer that a fault alone determines
-abbrev pub answer_of : Option SnapshotFault → Result (Unit {0}) SnapshotFault
-answer_of None = Ok tt
-answer_of (Some fault) = Err fault
-
--- want of memory is free, any other answer is the fault that stands
-abbrev pub IsDue : Option SnapshotFault → SnapshotFault → Type 0
-IsDue due NoMemory = ⊤
-IsDue due answer = due ≡ Some answer
-
--- no fault stands and the addition is done, or nothing changes and the answer is the fault
-pub record Meets {S T : Type 0} (due : Option SnapshotFault) (done old new : S) (result : Result T SnapshotFault) : Type 0 where
-  pub ok : OnOk result ((due ≡ None) × (new ≡ done))
-  pub refused : IfErr result (IsDue due)
-  pub unchanged : OnErr result (new ≡ old)

@@ -2,8 +2,10 @@
 ghost use Rattle.std.specs.Prelude.{◌≡◌, ◌<◌, ◌≤◌, [], ◌∷◌, ◌++◌, length, Some, None, not, nat_le, IfOk, IfErr, slice_get, slice_index_or, vec_len};
 ghost use Rattle.std.specs.Vec.{vec_capacity};
 ghost use Rattle.std.specs.List.{list_any};
+ghost use Rattle.npos_base.specs.Refusal.{Meets, answer_of};
+ghost use Rattle.election_snapshot.specs.declared.fault.SnapshotFault.TheVariants.{NoMemory};
 ghost use Rattle.election_snapshot.specs.Snapshot.{nobody, stakes_of, total_of, AreVotersOf};
-ghost use Rattle.election_snapshot.specs.Draft.{Draft, Meets, answer_of, place_of, has_repeat, target_fault, with_target, voter_fault, first_voter_fault, with_voter, finish_fault, first_seats_fault, seated};
+ghost use Rattle.election_snapshot.specs.Draft.{Draft, place_of, has_repeat, target_fault, with_target, voter_fault, first_voter_fault, with_voter, finish_fault, first_seats_fault, seated};
 
 use crate::ballot::Ballot;
 use crate::{Snapshot, SnapshotFault};
@@ -58,7 +60,7 @@ impl SnapshotBuilder {
 
     /// Adds a target behind those that stand.
     pub fn add_target(&mut self, who: AccountId) -> Result<(), SnapshotFault>
-        ensures { Meets (target_fault self.old who) (with_target self.old who) self.old self.new result }
+        ensures { Meets NoMemory (target_fault self.old who) (with_target self.old who) self.old self.new result }
     {
         if self.targets.len() >= MOST_TARGETS {
             return Err(SnapshotFault::TooManyTargets);
@@ -87,7 +89,7 @@ impl SnapshotBuilder {
         stake: u64,
         votes: &[u16],
     ) -> Result<(), SnapshotFault>
-        ensures { Meets (voter_fault self.old who stake votes.now) (with_voter self.old who stake votes.now) self.old self.new result }
+        ensures { Meets NoMemory (voter_fault self.old who stake votes.now) (with_voter self.old who stake votes.now) self.old self.new result }
     {
         check_voter(
             self.targets.len(),

@@ -2,3 +2,4 @@ pub mod AccountBytes
 pub mod AccountOrder
 pub mod Appended
 pub mod BigEndian
+pub mod Refusals

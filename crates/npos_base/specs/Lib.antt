@@ -2,4 +2,6 @@ pub mod Account
 pub mod Kept
 pub mod Memory
 pub mod Outside
+pub mod Refusal
 pub mod Room
+pub mod Score

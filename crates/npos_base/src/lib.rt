@@ -4,6 +4,7 @@
 mod account;
 mod figures;
 pub mod laws;
+mod limits;
 mod list;
 mod memory;
 mod no_memory;
@@ -13,7 +14,12 @@ mod room;
 mod standard;
 
 pub use account::AccountId;
-pub use figures::{Edge, Score};
+pub use figures::{Edge, Score, part_of};
+pub use limits::{
+    MOST_ENDOWMENTS, MOST_NOMINATIONS, MOST_PAST_ERAS, MOST_QUEUED, MOST_SEATS,
+    MOST_SOLUTION_BYTES, MOST_TARGETS, MOST_THRESHOLDS, MOST_VALIDATORS, MOST_VOTERS,
+    WHOLE_FRACTION,
+};
 pub use list::List;
 pub use memory::{MemorySink, MemorySource};
 pub use no_memory::NoMemory;

@@ -1,7 +1,7 @@
 //! One walk through the crate's calls with ample memory, which no contract promises.
 use crate::{
-    AccountId, Failed, List, MemorySink, MemorySource, PlainSink, PlainSource, PutFault, Room,
-    Sink, Source, StdinSource, StdoutSink, put_all,
+    AccountId, Failed, List, MemorySink, MemorySource, NoMemory, PlainSink, PlainSource, PutFault,
+    Room, Score, Sink, Source, StdinSource, StdoutSink, laws, part_of, put_all,
 };
 use std::alloc::{AllocError, Global};
 use std::test::Fail;
@@ -15,6 +15,15 @@ fn list_of<T: Copy>(alloc: Global, items: &[T]) -> Result<List<T>, AllocError> {
     Ok(List::from_vec(Vec::from_slice(alloc, items)?))
 }
 
+fn score_of(numbers: (u64, u64, u128)) -> Score {
+    let (minimal, sum, squares) = numbers;
+    Score {
+        minimal,
+        sum,
+        squares,
+    }
+}
+
 #[test]
 fn an_account_is_two_big_endian_halves(rt: HostRuntime) {
     let counted = AccountId::from_bytes(&COUNTED);
@@ -22,6 +31,43 @@ fn an_account_is_two_big_endian_halves(rt: HostRuntime) {
     assert_eq!(rt; counted.lo, 0x10111213_14151617_18191a1b_1c1d1e1f);
     assert_eq!(rt; counted.to_bytes(), COUNTED);
     assert!(rt; AccountId { hi: 1, lo: 0 } > AccountId { hi: 0, lo: 9 });
+}
+
+#[test]
+fn each_law_is_called(_rt: HostRuntime) {
+    let account = AccountId { hi: 1, lo: 2 };
+    let score = Score {
+        minimal: 1,
+        sum: 2,
+        squares: 3,
+    };
+    laws::an_account_keeps_its_bytes(&COUNTED);
+    laws::bytes_keep_their_account(&account);
+    laws::accounts_stand_in_the_order_of_their_bytes(&account, &account);
+    laws::equality_tells_accounts_apart(&account, &account);
+    laws::no_score_is_better_than_itself(&score);
+    laws::better_than_a_better_score_is_better(&score, &score, &score);
+    laws::scores_that_tie_are_equal(&score, &score);
+}
+
+#[test]
+fn scores_and_parts(rt: HostRuntime) {
+    // from the best to the worst
+    let scores = [(41, 1, 9), (40, 100, 5200), (40, 100, 5201), (40, 99, 1)].map(score_of);
+    for (place, score) in scores.iter().enumerate() {
+        for (other_place, other) in scores.iter().enumerate() {
+            assert_eq!(rt; score.better_than(other), place < other_place);
+        }
+    }
+    assert_eq!(rt; part_of(10, 21_845, 65_535), 3);
+    assert_eq!(rt; part_of(u64::MAX, u64::MAX, u64::MAX), u64::MAX);
+}
+
+#[test]
+fn what_failed_says_so(rt: HostRuntime) -> Result<(), Fail> {
+    let text = format!(in rt.alloc(); "{NoMemory:?} {Failed:?} {:?}", PutFault { put: 7 })?;
+    assert_eq!(rt; text.as_str(), "NoMemory Failed PutFault { put: 7 }");
+    Ok(())
 }
 
 #[test]

@@ -21,12 +21,12 @@ pub turn_laws : IsWire (turn npos_machine)
 turn_laws = optional_laws block_form block_laws (tag_laws 2)
 
 pub few_endowments : (genesis : Genesis) → genesis_form.in_range genesis → length (endowments_of genesis) ≤ 65536
-few_endowments (Plain endowments) range = range.1.0
-few_endowments (Full endowments params) range = range.1.0.0
+few_endowments (Plain endowments) range = range.0
+few_endowments (Full endowments params) range = range.0.0
 
 pub few_thresholds : (genesis : Genesis) → genesis_form.in_range genesis → length (thresholds_of genesis) ≤ 200
 few_thresholds (Plain endowments) range = omega arith
-few_thresholds (Full endowments params) range = range.1.1.1.0
+few_thresholds (Full endowments params) range = range.1.1.0
 
 pub few_calls : (block : Block) → block_form.in_range block → length block.calls < 2 ^ 32
 few_calls block range = omega (arith, range.1.0)

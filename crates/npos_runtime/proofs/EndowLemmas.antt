@@ -2,19 +2,16 @@
 use Rattle.std.proofs.Common.{◌≡◌, inl, inr, ℕ, ◌+◌, Bool, true, false, ◌||◌, List, [], ◌∷◌, ◌++◌, Option, Some, None, is_some, refl, sym, ◌∙◌, ap, ap₂, subst, arith, ◌<◌, ◌≤◌, length, take, drop, get_or, nat_lt, if◌then◌else◌}
 use Rattle.std.specs.Option.{option_or}
 use Rattle.std.proofs.lemmas.List.{take_all, drop_all, take_more, drop_more, length-take-le}
-use Rattle.std.specs.Cmp.{Equal-is}
-use Rattle.std.proofs.lemmas.Cmp.{tied_itself}
 use Rattle.std.proofs.lemmas.Bool.{false_from_ne_true}
 use Rattle.std.proofs.lemmas.List.Folds.{list_any-append}
 use Rattle.std.proofs.lemmas.List.Sums.{sum_by-append, sum_by-cons}
 use Rattle.npos_base.specs.declared.account.AccountId.{AccountId}
-use Rattle.npos_base.specs.Account.{account_cmp}
+use Rattle.npos_base.specs.Account.{same_account}
 use Rattle.block_wire.specs.declared.genesis.Endowment.{Endowment}
-use Rattle.stake_ledger.specs.Accounts.{is_same}
 use Rattle.stake_ledger.specs.Rows.{gained}
 use Rattle.stake_ledger.specs.Ledger.{Ledger, row_of, empty_ledger, issuance_cap}
 use Rattle.stake_ledger.specs.Calls.{endowed}
-use Rattle.npos_base.proofs.AccountOrder.{account_total, account_exact}
+use Rattle.npos_base.proofs.AccountOrder.{same_exact, same_itself}
 use Rattle.stake_ledger.proofs.LedgerLemmas.{row_of-changed, others_stay}
 use Rattle.npos_runtime.specs.declared.begin.GenesisFault.{GenesisFault}
 use Rattle.npos_runtime.specs.declared.begin.GenesisFault.TheVariants.{RepeatedAccount, TooMuch}
@@ -37,15 +34,15 @@ endowed_more (x ∷ before) e ledger = endowed_more before e (endowed x.who x.va
 
 -- the account that is endowed is known, and every other one as before
 known_by : (who other : AccountId) (value : ℕ) (ledger : Ledger)
-    → is_some (row_of (endowed who value ledger) other) ≡ (is_some (row_of ledger other) || is_same who other)
+    → is_some (row_of (endowed who value ledger) other) ≡ (is_some (row_of ledger other) || same_account who other)
 known_by who other value ledger = elim (same_or_not other who) [
   | inl same ↦
-      let self : is_same who other ≡ true = ap (is_same who) same ∙ (Equal-is (account_cmp who who)).1 (tied_itself account_total who) in
+      let self : same_account who other ≡ true = ap (same_account who) same ∙ same_itself who in
       let found : is_some (row_of (endowed who value ledger) other) ≡ true =
       ap (λ (w : AccountId). is_some (row_of (endowed who value ledger) w)) same ∙ ap is_some (row_of-changed who (gained value) ledger) in
       found ∙ sym (ap (λ b. is_some (row_of ledger other) || b) self ∙ or-true (is_some (row_of ledger other)))
   | inr differ ↦
-      let apart : is_same who other ≡ false = false_from_ne_true (is_same who other) (λ t. differ (sym (account_exact who other ((Equal-is (account_cmp who other)).0 t)))) in
+      let apart : same_account who other ≡ false = false_from_ne_true (same_account who other) (λ t. differ (sym (same_exact who other t))) in
       ap is_some (others_stay who (gained value) ledger other differ)
       ∙ sym (ap (λ b. is_some (row_of ledger other) || b) apart ∙ or-false (is_some (row_of ledger other)))
 ]
@@ -55,8 +52,8 @@ pub known_more : (before : List Endowment) (e : Endowment) (ledger : Ledger)
     → (other : AccountId) → is_some (row_of (endowed e.who e.value ledger) other) ≡ is_endowed (before ++ e ∷ []) other
 known_more before e ledger known other =
     known_by e.who other e.value ledger
-    ∙ (ap₂ (λ a b. a || b) (known other) (sym (or-false (is_same e.who other)))
-    ∙ sym (list_any-append (λ x. is_same x.who other) before (e ∷ [])))
+    ∙ (ap₂ (λ a b. a || b) (known other) (sym (or-false (same_account e.who other)))
+    ∙ sym (list_any-append (λ x. same_account x.who other) before (e ∷ [])))
 
 pub sum_more : (before : List Endowment) (e : Endowment) → endowment_sum (before ++ e ∷ []) ≡ endowment_sum before + e.value
 sum_more before e = omega (arith, sum_by-append (λ x. x.value) before (e ∷ []), sum_by-cons (λ (x : Endowment). x.value) e [])

@@ -3,11 +3,11 @@ use Rattle.std.specs.Prelude.{◌≡◌, ◌⊎◌, ℕ, ◌+◌, Bool, List, []
 use Rattle.std.specs.List.{list_any}
 use Rattle.std.specs.Option.{option_or}
 use Rattle.npos_base.specs.declared.account.AccountId.{AccountId}
+use Rattle.npos_base.specs.Account.{same_account}
 use Rattle.block_wire.specs.declared.genesis.Endowment.{Endowment}
 use Rattle.block_wire.specs.declared.genesis.Params.{Params}
 use Rattle.block_wire.specs.declared.genesis.Genesis.{Genesis}
 use Rattle.block_wire.specs.declared.genesis.Genesis.TheVariants.{Plain, Full}
-use Rattle.stake_ledger.specs.Accounts.{is_same}
 use Rattle.stake_ledger.specs.Ledger.{Ledger, row_of, empty_ledger, issuance_cap}
 use Rattle.stake_ledger.specs.Calls.{endowed}
 use Rattle.npos_runtime.specs.declared.chain.Chain.{Chain}
@@ -29,7 +29,7 @@ thresholds_of genesis = thresholds_in (params_of genesis)
 
 -- the account is among those endowed
 abbrev pub is_endowed : List Endowment → AccountId → Bool
-is_endowed before who = list_any (λ endowment. is_same endowment.who who) before
+is_endowed before who = list_any (λ endowment. same_account endowment.who who) before
 
 abbrev pub endowment_sum : List Endowment → ℕ
 endowment_sum endowments = sum_by (λ endowment. endowment.value) endowments

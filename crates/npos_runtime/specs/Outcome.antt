@@ -1,5 +1,6 @@
 -- What a part of a step makes of a chain, and what it tells.
-use Rattle.std.specs.Prelude.{◌≡◌, List, [], ◌++◌, Option, Some, None, Result, IfErr, OnOk}
+use Rattle.std.specs.Prelude.{◌≡◌, List, [], ◌++◌, Option, option_map, Result}
+use Rattle.npos_base.specs.Refusal.{MeetsWhileRoom}
 use Rattle.npos_runtime.specs.declared.chain.Chain.{Chain}
 use Rattle.npos_runtime.specs.declared.line.Line.{Line}
 use Rattle.npos_runtime.specs.declared.refusal.Refusal.{Refusal}
@@ -27,13 +28,7 @@ pub record Goes (outcome : Outcome) (new : Chain) (told_old told_new : List Line
   pub state : new ≡ outcome.state
   pub lines : told_new ≡ told_old ++ outcome.lines
 
--- why a call stopped: it is refused, or memory ran out
-abbrev pub IsStop : Option Refusal → Chain → Chain → Stop → Type 0
-IsStop due old new (stops.Refused refusal) = (due ≡ Some refusal) × (new ≡ old)
-IsStop due old new stops.NoMemory = Unit {0}
-
 -- A kind of call: where no refusal is due the chain becomes `done`, and where one is due the chain stays.
 -- Nothing is said after want of memory, which ends the life of a runtime.
-pub record Meets {T : Type 0} (due : Option Refusal) (done old new : Chain) (result : Result T Stop) : Type 0 where
-  pub ok : OnOk result ((due ≡ None) × (new ≡ done))
-  pub refused : IfErr result (IsStop due old new)
+abbrev pub Meets : {T : Type 0} → Option Refusal → Chain → Chain → Chain → Result T Stop → Type 0
+Meets due done old new result = MeetsWhileRoom stops.NoMemory (option_map stops.Refused due) done old new result

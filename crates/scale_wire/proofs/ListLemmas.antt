@@ -3,7 +3,7 @@ use Rattle.std.proofs.Common.{◌≡◌, ℕ, zero, suc, ◌+◌, ◌<◌, List,
 use Rattle.std.specs.Prelude.{Err}
 use Rattle.std.specs.List.{AllByRecursion, flat_map}
 use Rattle.std.proofs.lemmas.Grind.{flat_map-append}
-use Rattle.std.proofs.lemmas.List.{append-nil, take-append-drop}
+use Rattle.std.proofs.lemmas.List.{take-append-drop}
 use Rattle.std.proofs.Math.Seq.{drop-cons}
 use Rattle.scale_wire.specs.declared.fault.Why.{Why}
 use Rattle.scale_wire.specs.declared.fault.WireFault.{WireFault}
@@ -19,7 +19,7 @@ use Rattle.scale_wire.proofs.ReadLemmas.{behind_fault, front_more, front_behind}
 pub list_err : {A : Type 0} (item : Form A) (limit : ℕ) (old here mid new : Place) (count : ℕ) (fault : ReadFault) → here ≡ old → IsRead (length_form limit) here count mid → Reads (items item count) mid (Err fault) new → Reads (list item limit) old (Err fault) old
 list_err item limit old here mid new count (Wire fault) same read refused =
     subst (λ (o : Place). IsFault (list item limit) o fault o) same (behind_fault (length_form limit) (BadItems item) here mid new count fault read refused)
-list_err item limit old here mid new count NoMemory same read refused = tt
+list_err item limit old here mid new count NoMemory same read refused = refl
 
 -- fewer bytes are left than their length says
 pub byte_list_err : (limit : ℕ) (old here mid new : Place) (count : ℕ) (fault : WireFault) → here ≡ old → IsRead (length_form limit) here count mid → IsFault (byte_string count) mid fault new → Reads (byte_list limit) old (Err (Wire fault)) old
@@ -53,24 +53,7 @@ module _ {A : Type 0} (item : Form A) where
   pub items_err : (count done : ℕ) (old here mid new : Place) (xs : List A) (fault : ReadFault) → here ≡ old → done < count → IsRead (items item done) here xs mid → Reads item mid (Err fault) new → Reads (items item count) old (Err fault) old
   items_err count done old here mid new xs (Wire fault) same below read refused =
       subst (λ (o : Place). IsFault (items item count) o fault o) same (items_fault count done here mid new xs fault below read refused)
-  items_err count done old here mid new xs NoMemory same below read refused = tt
-
-  all_more : (xs : List A) (x : A) → AllByRecursion item.in_range xs → item.in_range x → AllByRecursion item.in_range (xs ++ x ∷ [])
-  all_more [] x fits here = (here, tt)
-  all_more (y ∷ xs) x fits here = (fits.0, all_more xs x fits.1 here)
-
-  items_more : (xs : List A) (x : A) → flat_map item.spelling (xs ++ x ∷ []) ≡ flat_map item.spelling xs ++ item.spelling x
-  items_more xs x = flat_map-append item.spelling xs (x ∷ []) ∙ ap (λ (s : List ℕ). flat_map item.spelling xs ++ s) (append-nil (item.spelling x))
-
-  -- one item more was read
-  pub item_read : (done : ℕ) (old mid new : Place) (xs : List A) (x : A) → IsRead (items item done) old xs mid → IsRead item mid x new → IsRead (items item (done + 1)) old (xs ++ x ∷ []) new
-  item_read done old mid new xs x read more = record {
-    in_range = (all_more xs x read.in_range.0 more.in_range, length-append xs (x ∷ []) ∙ ap (λ (n : ℕ). n + 1) read.in_range.1);
-    whole = read.whole ∙ (ap (λ (s : List ℕ). flat_map item.spelling xs ++ s) more.whole
-        ∙ (sym (append_assoc (flat_map item.spelling xs) (item.spelling x) new.rest)
-        ∙ ap (λ (s : List ℕ). s ++ new.rest) (sym (items_more xs x))));
-    at_is = omega (arith, read.at_is, more.at_is, ap length (items_more xs x), length-append (flat_map item.spelling xs) (item.spelling x));
-  }
+  items_err count done old here mid new xs NoMemory same below read refused = refl
 
 -- the items so far were written, and a front of the next one
 pub items_front : {A : Type 0} (f : A → List ℕ) (xs : List A) (i : ℕ) (x : A) (old mid new : List ℕ) → i < length xs → x ≡ get_or xs i x → mid ≡ old ++ flat_map f (take i xs) → HasFront (f x) mid new → HasFront (flat_map f xs) old new

@@ -1,16 +1,16 @@
 -- The steps of reading a compact integer, over plain bytes.
-use Rattle.std.specs.Prelude.{◌≡◌, ℕ, zero, suc, ◌/◌, ◌%◌, ◌^◌, ◌<◌, ◌≤◌, true, false, List, [], ◌∷◌, ◌++◌, length, take, drop, slice_index, nat_lt, nat_le, Some, None, refl}
+use Rattle.std.specs.Prelude.{◌≡◌, ℕ, zero, suc, ◌/◌, ◌%◌, ◌^◌, ◌<◌, ◌≤◌, Bool, true, false, List, [], ◌∷◌, ◌++◌, length, take, drop, slice_index, nat_lt, nat_le, Some, None, refl}
 use Rattle.std.proofs.Common.{sym, ◌∙◌, ap, subst, arith, length-append, length-drop}
 use Rattle.std.specs.Int.{w16, w32, w64, from_le_bytes}
 use Rattle.std.proofs.lemmas.Bool.{lt-ltb, le-ltb}
 use Rattle.scale_wire.specs.declared.fault.Why.{Why}
-use Rattle.scale_wire.specs.declared.fault.Why.TheVariants.{Short, NotShortest, TooWide}
+use Rattle.scale_wire.specs.declared.fault.Why.TheVariants.{NotShortest, TooWide}
 use Rattle.scale_wire.specs.LittleEndian.{number_from}
 use Rattle.scale_wire.specs.LittleEndianLaws.{from_le_bytes-number_from}
-use Rattle.scale_wire.specs.Refusal.{first_reason, lacks}
+use Rattle.scale_wire.specs.Refusal.{first_reason}
 use Rattle.scale_wire.specs.Compact.{Mode, TwoBytes, FourBytes, Big, mode_numbered, compact_reasons, compact_refusal, bytes_in, number_in, announces_over, is_longer_in}
 use Rattle.scale_wire.specs.CompactSteps.{mode_reasons}
-use Rattle.scale_wire.specs.PartLaws.{passed, applied, more_reasons, not_lacking}
+use Rattle.scale_wire.specs.PartLaws.{not_lacking}
 
 -- ## What a mode answers
 
@@ -18,17 +18,13 @@ pub mode_long : (most : ℕ) (mode : Mode) (bytes : List ℕ) → announces_over
     → bytes_in mode bytes ≤ length bytes → is_longer_in mode bytes ≡ true
     → first_reason (mode_reasons most mode bytes) ≡ Some NotShortest
 mode_long most mode bytes announced_fits whole longer =
-    passed (announces_over most mode bytes) TooWide ((lacks (bytes_in mode bytes) bytes, Short) ∷ (is_longer_in mode bytes, NotShortest) ∷ []) (Some NotShortest) announced_fits
-    (passed (lacks (bytes_in mode bytes) bytes) Short ((is_longer_in mode bytes, NotShortest) ∷ []) (Some NotShortest) (not_lacking (bytes_in mode bytes) bytes whole)
-    (applied (is_longer_in mode bytes) NotShortest [] longer))
+    rw (announced_fits, not_lacking (bytes_in mode bytes) bytes whole, longer)
 
 pub mode_none : (most : ℕ) (mode : Mode) (bytes : List ℕ) → announces_over most mode bytes ≡ false
     → bytes_in mode bytes ≤ length bytes → is_longer_in mode bytes ≡ false
     → first_reason (mode_reasons most mode bytes) ≡ None
 mode_none most mode bytes announced_fits whole shortest =
-    passed (announces_over most mode bytes) TooWide ((lacks (bytes_in mode bytes) bytes, Short) ∷ (is_longer_in mode bytes, NotShortest) ∷ []) None announced_fits
-    (passed (lacks (bytes_in mode bytes) bytes) Short ((is_longer_in mode bytes, NotShortest) ∷ []) None (not_lacking (bytes_in mode bytes) bytes whole)
-    (passed (is_longer_in mode bytes) NotShortest [] None shortest refl))
+    rw (announced_fits, not_lacking (bytes_in mode bytes) bytes whole, shortest)
 
 -- ## Two and four bytes
 
@@ -122,9 +118,15 @@ numbered_else (suc zero) three = absurd (omega arith)
 numbered_else (suc (suc zero)) three = absurd (omega arith)
 numbered_else (suc (suc (suc number))) three = refl
 
+refused_before : (reasons more : List (Bool × Why)) (why : Why) → first_reason reasons ≡ Some why
+    → first_reason (reasons ++ more) ≡ Some why
+refused_before [] more why some = cc
+refused_before ((true, first) ∷ reasons) more why some = some
+refused_before ((false, first) ∷ reasons) more why some = refused_before reasons more why some
+
 pub big_refused : (most limit : ℕ) (bytes : List ℕ) (why : Why) → 0 < length bytes → 3 ≤ slice_index bytes 0 % 4
     → first_reason (mode_reasons most Big bytes) ≡ Some why → compact_refusal most limit bytes ≡ Some why
 big_refused most limit bytes why some three refused =
     subst (λ (mode : Mode). first_reason (compact_reasons most limit mode bytes) ≡ Some why) (sym (numbered_else (slice_index bytes 0 % 4) three)) (
-    passed (lacks 1 bytes) Short (mode_reasons most Big bytes ++ (nat_le limit (number_in Big bytes), TooWide) ∷ []) (Some why) (not_lacking 1 bytes some)
-    (more_reasons (mode_reasons most Big bytes) ((nat_le limit (number_in Big bytes), TooWide) ∷ []) why refused))
+    rw (not_lacking 1 bytes some)
+    (refused_before (mode_reasons most Big bytes) ((nat_le limit (number_in Big bytes), TooWide) ∷ []) why refused))

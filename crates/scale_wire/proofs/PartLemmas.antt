@@ -1,21 +1,20 @@
 -- What the cursor's calls answer, over plain bytes.
-use Rattle.std.specs.Prelude.{◌≡◌, ℕ, ◌+◌, ◌%◌, ◌^◌, ◌<◌, ◌≤◌, List, [], ◌∷◌, ◌++◌, length, slice_index, drop, nat_le, Some, None, refl}
+use Rattle.std.specs.Prelude.{◌≡◌, ℕ, ◌+◌, ◌%◌, ◌^◌, ◌<◌, ◌≤◌, List, [], ◌∷◌, ◌++◌, length, slice_index, drop, Some, None, refl}
 use Rattle.std.proofs.Common.{sym, ◌∙◌, ap, subst, arith}
 use Rattle.std.proofs.lemmas.Bool.{le-leb}
-use Rattle.scale_wire.specs.declared.fault.Why.TheVariants.{Short, BadTag, TooMany}
+use Rattle.scale_wire.specs.declared.fault.Why.TheVariants.{BadTag, TooMany}
 use Rattle.scale_wire.specs.declared.fault.WireFault.{WireFault}
 use Rattle.scale_wire.specs.Form.{IsBytes}
 use Rattle.scale_wire.specs.Reading.{Place, IsRead, IsFault}
 use Rattle.scale_wire.specs.LittleEndian.{little_endian, number_from}
 use Rattle.scale_wire.specs.LittleEndianLaws.{little_endian-number_from, number_from-bound}
-use Rattle.scale_wire.specs.Refusal.{lacks}
 use Rattle.scale_wire.specs.Compact.{mode_of, number_in, bytes_in, compact_bytes, compact_refusal}
 use Rattle.scale_wire.specs.Parts.{account_form, fixed, fixed_u8, byte_string, tag_form, tag_refusal, compact_form, compact_u32, length_form, length_refusal}
 use Rattle.npos_base.specs.Account.{account_bytes, account_of}
 use Rattle.npos_base.specs.declared.account.AccountId.{AccountId}
 use Rattle.scale_wire.specs.AccountLaws.{fits_account, account_is}
-use Rattle.scale_wire.specs.PartLaws.{passed, applied, not_lacking}
-use Rattle.scale_wire.specs.CompactWriting.{Suits}
+use Rattle.scale_wire.specs.CompactRange.{Suits}
+use Rattle.scale_wire.specs.PartLaws.{some_left}
 use Rattle.scale_wire.specs.CompactLaws.{compact_part, too_many}
 
 -- the bytes that were taken are a number
@@ -48,9 +47,7 @@ tag_read below old new tag read fits =
     }
 
 bad_tag : (below tag : ℕ) (rest : List ℕ) → below ≤ tag → tag_refusal below (tag ∷ rest) ≡ Some BadTag
-bad_tag below tag rest over =
-    passed (lacks 1 (tag ∷ rest)) Short ((nat_le below tag, BadTag) ∷ []) (Some BadTag) (not_lacking 1 (tag ∷ rest) (omega arith))
-    (applied (nat_le below tag) BadTag [] (le-leb below tag over))
+bad_tag below tag rest over = rw (some_left tag rest, le-leb below tag over)
 
 pub tag_fault : (below : ℕ) (old new : Place) (tag : ℕ) (fault : WireFault) → IsRead fixed_u8 old tag new → below ≤ tag
     → fault ≡ record { at = old.at; why = BadTag } → IsFault (tag_form below) old fault old

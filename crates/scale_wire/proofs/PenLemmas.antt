@@ -3,7 +3,7 @@ use Rattle.std.specs.Prelude.{◌≡◌, ℕ, zero, suc, ◌+◌, ◌-◌, ◌*�
 use Rattle.std.proofs.Common.{sym, ◌∙◌, ap, ap₂, arith, append-nil}
 use Rattle.scale_wire.specs.LittleEndian.{little_endian}
 use Rattle.scale_wire.specs.Compact.{compact_bytes, least_bytes}
-use Rattle.scale_wire.specs.CompactSpelling.{compact_one, compact_two, compact_four, compact_big}
+use Rattle.scale_wire.specs.CompactSpellingLaws.{compact_one, compact_two, compact_four, compact_big}
 
 take_little_endian : (count total number : ℕ) → count ≤ total → take count (little_endian total number) ≡ little_endian count number
 unfolding little_endian

@@ -1,5 +1,5 @@
 -- What readers and writers answer, where one part stands behind another.
-use Rattle.std.proofs.Common.{◌≡◌, ◌≢◌, ℕ, ◌+◌, ◌<◌, List, [], ◌∷◌, ◌++◌, length, refl, sym, ◌∙◌, ap, subst, inr, arith, append_assoc, zero-add}
+use Rattle.std.proofs.Common.{◌≡◌, ◌≢◌, ℕ, ◌+◌, ◌<◌, List, [], ◌∷◌, ◌++◌, length, refl, sym, ◌∙◌, ap, subst, inr, arith, append_assoc, append-nil}
 use Rattle.std.specs.Prelude.{Result, Ok, Err}
 use Rattle.scale_wire.specs.declared.fault.Why.{Why}
 use Rattle.scale_wire.specs.declared.fault.Why.TheVariants.{Trailing}
@@ -7,10 +7,9 @@ use Rattle.scale_wire.specs.declared.fault.WireFault.{WireFault}
 use Rattle.scale_wire.specs.declared.fault.ReadFault.{ReadFault}
 use Rattle.scale_wire.specs.declared.fault.ReadFault.TheVariants.{Wire, NoMemory}
 use Rattle.scale_wire.specs.Form.{Form}
-use Rattle.scale_wire.specs.FormLaws.{AreVariants, variant_at_agrees}
-use Rattle.scale_wire.specs.Composite.{BadThen, pair, triple, optional, BadOptional, variant_at, tagged}
+use Rattle.scale_wire.specs.Composite.{BadThen, pair, triple, seen, optional, BadOptional, Fields, variant_at, Choice, choice, behind_tag}
 use Rattle.scale_wire.specs.Parts.{tag_form}
-use Rattle.scale_wire.specs.Reading.{Place, Passes, Refuses, IsRead, IsFault, Reads, HasRest, BadWhole, HasFront, Writes}
+use Rattle.scale_wire.specs.Reading.{Place, Refuses, IsRead, IsFault, Reads, HasRest, BadWhole, HasFront, Writes}
 
 -- what is refused behind the head is refused as the whole
 pub behind_fault : {A : Type 0} (head : Form A) (bad : A → List ℕ → ℕ → Why → Type 0) (old mid new : Place) (first : A) (fault : WireFault) → IsRead head old first mid → Refuses (bad first) mid fault new → Refuses (BadThen head bad) old fault old
@@ -32,12 +31,12 @@ behind_fault head bad old mid new first fault read refused = record {
 -- the second of a pair was refused
 pub pair_err : {A B : Type 0} (a : Form A) (b : Form B) (old mid new : Place) (first : A) (fault : ReadFault) → IsRead a old first mid → Reads b mid (Err fault) new → Reads (pair a b) old (Err fault) old
 pair_err a b old mid new first (Wire fault) read refused = behind_fault a (λ _. b.bad) old mid new first fault read refused
-pair_err a b old mid new first NoMemory read refused = tt
+pair_err a b old mid new first NoMemory read refused = refl
 
 -- what follows the first of a triple was refused
 pub triple_err : {A B C : Type 0} (a : Form A) (b : Form B) (c : Form C) (old mid new : Place) (first : A) (fault : ReadFault) → IsRead a old first mid → Reads (pair b c) mid (Err fault) new → Reads (triple a b c) old (Err fault) old
 triple_err a b c old mid new first (Wire fault) read refused = behind_fault a (λ _. (pair b c).bad) old mid new first fault read refused
-triple_err a b c old mid new first NoMemory read refused = tt
+triple_err a b c old mid new first NoMemory read refused = refl
 
 -- a byte follows the value that was read
 pub bad_whole : {V : Type 0} (form : Form V) (bytes : List ℕ) (value : V) (end : Place) → IsRead form (record { at = 0; rest = bytes }) value end → 0 < length end.rest → BadWhole form bytes end.at Trailing
@@ -87,7 +86,7 @@ optional_err value old here mid new tag (Wire fault) same not_none read refused 
       at_is = refused.at_is;
       unchanged = refused.unchanged;
     })
-optional_err value old here mid new tag NoMemory same not_none read refused = tt
+optional_err value old here mid new tag NoMemory same not_none read refused = refl
 
 -- the first of three was appended, and a front of the second
 pub second_front : (first second third old mid new : List ℕ) → mid ≡ old ++ first → HasFront second mid new → HasFront (first ++ (second ++ third)) old new
@@ -98,27 +97,17 @@ pub third_written : {E : Type 0} (first second third old mid next : List ℕ) (r
 third_written first second third old mid next result new first_is second_is written =
     writes_behind first (second ++ third) old mid result new first_is (writes_behind second third mid next result new second_is written)
 
+pub nothing_written : (old : List ℕ) → old ≡ old ++ []
+nothing_written old = sym (append-nil old)
+
 -- ## Enums
 
-module _ {W : Type 0} (tag_of : W → ℕ) (variants : List (Form W)) where
+module _ {W : Type 0} (variants : List Fields) (choose : W → Choice variants) where
   -- the fields behind the tag were refused; `here` is a copy of the cursor as it was
-  pub tagged_err : (old here mid new : Place) (tag : ℕ) (fault : ReadFault) → here ≡ old → IsRead (tag_form (length variants)) here tag mid → Reads (variant_at variants tag) mid (Err fault) new → Reads (tagged tag_of variants) old (Err fault) old
-  tagged_err old here mid new tag (Wire fault) same read refused =
-      subst (λ (o : Place). IsFault (tagged tag_of variants) o fault o) same
-      (behind_fault (tag_form (length variants)) (λ t. (variant_at variants t).bad) here mid new tag fault read refused)
-  tagged_err old here mid new tag NoMemory same read refused = tt
-
-  -- the tag was read, and the fields behind it
-  pub tagged_ok : AreVariants tag_of 0 variants → (old here mid new : Place) (tag : ℕ) (value : W) → here ≡ old → IsRead (tag_form (length variants)) here tag mid → IsRead (variant_at variants tag) mid value new → IsRead (tagged tag_of variants) old value new
-  tagged_ok are old here mid new tag value same read more =
-      let has_tag : tag ≡ tag_of value = sym (variant_at_agrees tag_of 0 variants are tag value more.in_range ∙ zero-add tag) in
-      subst (λ (o : Place). IsRead (tagged tag_of variants) o value new) same (tagged_at tag (tag_of value) has_tag here mid new value read more)
-    where
-      tagged_at : (tag tag' : ℕ) → tag ≡ tag' → (here mid new : Place) (value : W) → IsRead (tag_form (length variants)) here tag mid → IsRead (variant_at variants tag) mid value new
-          → Passes ((tag' < length variants) × (variant_at variants tag').in_range value) (tag' ∷ (variant_at variants tag').spelling value) here new
-      tagged_at tag tag' has_tag here mid new value read more =
-          subst (λ (t : ℕ). Passes ((t < length variants) × (variant_at variants t).in_range value) (t ∷ (variant_at variants t).spelling value) here new) has_tag record {
-            in_range = (read.in_range, more.in_range);
-            whole = read.whole ∙ ap (λ (s : List ℕ). tag ∷ s) more.whole;
-            at_is = omega (arith, read.at_is, more.at_is);
-          }
+  pub fields_err : (old here mid new : Place) (tag : ℕ) (fault : ReadFault) → here ≡ old
+      → IsRead (tag_form (length variants)) here tag mid → Reads (behind_tag variants choose tag) mid (Err fault) new
+      → Reads (seen (choice variants) choose) old (Err fault) old
+  fields_err old here mid new tag (Wire fault) same read refused =
+      subst (λ (o : Place). IsFault (seen (choice variants) choose) o fault o) same
+      (behind_fault (tag_form (length variants)) (λ t. (variant_at variants t).form.bad) here mid new tag fault read refused)
+  fields_err old here mid new tag NoMemory same read refused = refl

@@ -1,5 +1,5 @@
--- Compact integers. The low two bits of the first byte are the mode, which says how many bytes the spelling
--- has and how the number stands in them.
+-- Compact integers. The low two bits of the first byte are the mode, which says how many bytes the
+-- spelling has and how the number stands in them.
 use Rattle.std.specs.Prelude.{ℕ, zero, suc, ◌+◌, ◌-◌, ◌*◌, ◌/◌, ◌%◌, ◌^◌, ◌<◌, ◌≤◌, Bool, false, ◌||◌, List, [], ◌∷◌, take, drop, slice_index, Option, if◌then◌else◌, nat_lt, nat_le, nat_eq}
 use Rattle.scale_wire.specs.declared.fault.Why.{Why}
 use Rattle.scale_wire.specs.declared.fault.Why.TheVariants.{Short, NotShortest, TooWide}
@@ -23,7 +23,8 @@ least_bytes number =
     else if nat_lt number (256 ^ 7) then 7
     else 8
 
--- The lowest two bits are the mode. The longest mode says by the upper six how many value bytes follow.
+-- The lowest two bits are the mode. The longest mode says by the upper six how many value bytes
+-- follow.
 unfoldable pub compact_bytes : ℕ → List ℕ
 compact_bytes number =
     if nat_lt number 64 then little_endian 1 (4 * number)
@@ -78,10 +79,11 @@ abbrev pub is_longer_in : Mode → List ℕ → Bool
 is_longer_in OneByte bytes = false
 is_longer_in TwoBytes bytes = nat_lt (number_in TwoBytes bytes) 64
 is_longer_in FourBytes bytes = nat_lt (number_in FourBytes bytes) (2 ^ 14)
-is_longer_in Big bytes = nat_lt (number_in Big bytes) (2 ^ 30) || nat_eq (slice_index bytes (announced bytes)) 0
+is_longer_in Big bytes =
+    nat_lt (number_in Big bytes) (2 ^ 30) || nat_eq (slice_index bytes (announced bytes)) 0
 
--- the reasons to refuse bytes as a compact integer of a type that has at most `most` value bytes and the
--- numbers below `limit`
+-- the reasons to refuse bytes as a compact integer of a type that has at most `most` value bytes
+-- and the numbers below `limit`
 abbrev pub compact_reasons : ℕ → ℕ → Mode → List ℕ → List (Bool × Why)
 compact_reasons most limit mode bytes =
     (lacks 1 bytes, Short)

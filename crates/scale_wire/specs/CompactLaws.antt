@@ -1,20 +1,22 @@
--- Compact integers keep the laws of a form.
-use Rattle.std.specs.Prelude.{◌≡◌, ◌≢◌, ℕ, suc, ◌+◌, ◌*◌, ◌/◌, ◌^◌, ◌<◌, ◌≤◌, Bool, false, ◌||◌, List, [], ◌∷◌, ◌++◌, length, take, drop, slice_index, nat_lt, nat_le, nat_eq, Option, Some, None, refl}
+-- Proofs: compact integers keep the laws of a form.
+use Rattle.std.specs.Prelude.{◌≡◌, ◌≢◌, ℕ, suc, ◌+◌, ◌*◌, ◌/◌, ◌^◌, ◌<◌, ◌≤◌, Bool, false, ◌||◌, List, [], ◌∷◌, ◌++◌, length, take, drop, slice_index, nat_lt, nat_eq, Option, Some, None, refl}
 use Rattle.std.proofs.Common.{sym, ◌∙◌, ap, ap₂, subst, inl, inr, arith, length-append, lit≤}
 use Rattle.std.proofs.lemmas.Bool.{cases_lt, ltb-true, ltb-false, lt-ltb, le-ltb}
 use Rattle.std.proofs.lemmas.List.{take-append-drop, length-take-le, take-append-le, get_or_append_left}
 use Rattle.scale_wire.specs.declared.fault.Why.{Why}
-use Rattle.scale_wire.specs.declared.fault.Why.TheVariants.{Short, NotShortest, TooWide, TooMany}
+use Rattle.scale_wire.specs.declared.fault.Why.TheVariants.{Short, TooMany, Trailing}
 use Rattle.scale_wire.specs.Form.{IsWire, IsBytes, part}
 use Rattle.scale_wire.specs.LittleEndian.{number_from}
 use Rattle.scale_wire.specs.LittleEndianLaws.{length-little_endian}
-use Rattle.scale_wire.specs.Refusal.{first_reason, lacks}
+use Rattle.scale_wire.specs.Refusal.{first_reason}
 use Rattle.scale_wire.specs.Compact.{Mode, OneByte, TwoBytes, FourBytes, Big, mode_of, announced, bytes_in, number_in, announces_over, is_longer_in, least_bytes, compact_bytes, compact_reasons, compact_refusal}
 use Rattle.scale_wire.specs.Parts.{compact_form, length_form, length_refusal, compact_u16, compact_u32, compact_u64}
-use Rattle.scale_wire.specs.PartLaws.{IsHead, IsPart, part_laws, none_applies, one_applies, passed, applied, not_lacking}
-use Rattle.scale_wire.specs.CompactSpelling.{compact_one, compact_two, compact_four, compact_big, least_bytes_is}
-use Rattle.scale_wire.specs.CompactReading.{from_width, from_shortest, from_whole, from_announced, kept_from, kept_to, spelled_in}
-use Rattle.scale_wire.specs.CompactWriting.{Suits, gives_back}
+use Rattle.scale_wire.specs.PartLaws.{IsHead, IsPart, part_laws, not_lacking, some_left}
+use Rattle.scale_wire.specs.TableLaws.{by_reason}
+use Rattle.scale_wire.specs.CompactSpellingLaws.{compact_one, compact_two, compact_four, compact_big, least_bytes_is}
+use Rattle.scale_wire.specs.CompactReadingLaws.{kept_from, kept_to, spelled_in}
+use Rattle.scale_wire.specs.CompactWritingLaws.{gives_back}
+use Rattle.scale_wire.specs.CompactRange.{Suits}
 
 -- ## More bytes behind
 
@@ -65,60 +67,39 @@ persists_in : (most limit : ℕ) (mode : Mode) (byte : ℕ) (rest more : List �
     → why ≢ Short
     → first_reason (compact_reasons most limit mode (byte ∷ rest) ++ tail (number_in mode (byte ∷ rest))) ≡ Some why
     → first_reason (compact_reasons most limit mode (byte ∷ (rest ++ more)) ++ tail (number_in mode (byte ∷ (rest ++ more)))) ≡ Some why
-persists_in most limit mode byte rest more tail why not_short some =
-    elim (one_applies (lacks 1 (byte ∷ rest)) Short (from_announced most limit mode (byte ∷ rest) (tail (number_in mode (byte ∷ rest)))) why some) [
-      | inl here ↦ absurd (not_short here.1)
-      | inr later ↦
-          passed (lacks 1 (byte ∷ (rest ++ more))) Short
-          (from_announced most limit mode (byte ∷ (rest ++ more)) (tail (number_in mode (byte ∷ (rest ++ more))))) (Some why)
-          (not_lacking 1 (byte ∷ (rest ++ more)) (omega arith))
-          (after_one later.1)
-    ]
-  where
-    after_whole : bytes_in mode (byte ∷ rest) ≤ length (byte ∷ rest)
-        → first_reason (from_shortest limit mode (byte ∷ rest) (tail (number_in mode (byte ∷ rest)))) ≡ Some why
-        → first_reason (from_shortest limit mode (byte ∷ (rest ++ more)) (tail (number_in mode (byte ∷ (rest ++ more))))) ≡ Some why
-    after_whole whole some =
-        let same = same_in mode byte rest more whole in
-        ap₂ (λ (longer : Bool) (n : ℕ). first_reason ((longer, NotShortest) ∷ (nat_le limit n, TooWide) ∷ tail n)) same.longer_is same.number_is ∙ some
-
-    after_two : first_reason (from_whole limit mode (byte ∷ rest) (tail (number_in mode (byte ∷ rest)))) ≡ Some why
-        → first_reason (from_whole limit mode (byte ∷ (rest ++ more)) (tail (number_in mode (byte ∷ (rest ++ more))))) ≡ Some why
-    after_two some =
-        elim (one_applies (lacks (bytes_in mode (byte ∷ rest)) (byte ∷ rest)) Short (from_shortest limit mode (byte ∷ rest) (tail (number_in mode (byte ∷ rest)))) why some) [
-          | inl here ↦ absurd (not_short here.1)
-          | inr later ↦
-              let whole : bytes_in mode (byte ∷ rest) ≤ length (byte ∷ rest) = ltb-false (length (byte ∷ rest)) (bytes_in mode (byte ∷ rest)) later.0 in
+persists_in most limit mode byte rest more tail why not_short =
+    by_reason (λ answer. answer ≡ Some why → first_reason (compact_reasons most limit mode (byte ∷ (rest ++ more)) ++ tail (number_in mode (byte ∷ (rest ++ more)))) ≡ Some why)
+    (compact_reasons most limit mode (byte ∷ rest)) (tail (number_in mode (byte ∷ rest))) (
+      (λ lacking is. absurd (not_short cc)),
+      (λ some. (
+        (λ over is. rw (some_left byte (rest ++ more), same_announced most mode byte rest more ∙ over) is),
+        (λ announced_fits. (
+          (λ lacking is. absurd (not_short cc)),
+          (λ whole.
+              let whole : bytes_in mode (byte ∷ rest) ≤ length (byte ∷ rest) = ltb-false (length (byte ∷ rest)) (bytes_in mode (byte ∷ rest)) whole in
               let size_is : bytes_in mode (byte ∷ (rest ++ more)) ≡ bytes_in mode (byte ∷ rest) = same_size mode byte rest more in
-              passed (lacks (bytes_in mode (byte ∷ (rest ++ more))) (byte ∷ (rest ++ more))) Short
-              (from_shortest limit mode (byte ∷ (rest ++ more)) (tail (number_in mode (byte ∷ (rest ++ more))))) (Some why)
-              (not_lacking (bytes_in mode (byte ∷ (rest ++ more))) (byte ∷ (rest ++ more)) (omega (arith, length-append rest more)))
-              (after_whole whole later.1)
-        ]
-
-    after_one : first_reason (from_announced most limit mode (byte ∷ rest) (tail (number_in mode (byte ∷ rest)))) ≡ Some why
-        → first_reason (from_announced most limit mode (byte ∷ (rest ++ more)) (tail (number_in mode (byte ∷ (rest ++ more))))) ≡ Some why
-    after_one some =
-        elim (one_applies (announces_over most mode (byte ∷ rest)) TooWide (from_whole limit mode (byte ∷ rest) (tail (number_in mode (byte ∷ rest)))) why some) [
-          | inl here ↦
-              applied (announces_over most mode (byte ∷ (rest ++ more))) TooWide
-              (from_whole limit mode (byte ∷ (rest ++ more)) (tail (number_in mode (byte ∷ (rest ++ more)))))
-              (same_announced most mode byte rest more ∙ here.0)
-              ∙ ap (λ (w : Why). Some w) (sym here.1)
-          | inr later ↦
-              passed (announces_over most mode (byte ∷ (rest ++ more))) TooWide
-              (from_whole limit mode (byte ∷ (rest ++ more)) (tail (number_in mode (byte ∷ (rest ++ more))))) (Some why)
-              (same_announced most mode byte rest more ∙ later.0) (after_two later.1)
-        ]
+              let same = same_in mode byte rest more whole in
+              let more_whole = not_lacking (bytes_in mode (byte ∷ (rest ++ more))) (byte ∷ (rest ++ more)) (omega (arith, length-append rest more)) in (
+                (λ longer is. rw (some_left byte (rest ++ more), same_announced most mode byte rest more ∙ announced_fits, more_whole, same.longer_is ∙ longer) is),
+                (λ shortest. (
+                  (λ wide is. rw (some_left byte (rest ++ more), same_announced most mode byte rest more ∙ announced_fits, more_whole, same.longer_is ∙ shortest, same.number_is, wide) is),
+                  (λ below is. rw (some_left byte (rest ++ more), same_announced most mode byte rest more ∙ announced_fits, more_whole, same.longer_is ∙ shortest, same.number_is, below) is),
+                )),
+              )),
+        )),
+      )),
+    )
 
 -- ## A compact integer, with whatever is asked of its number besides
 
--- `tail` has the further reasons to refuse a number below `limit`, none of which is want of bytes.
+-- `tail` has the further reasons to refuse a number below `limit`, none of which is that bytes are
+-- missing or left.
 pub record HasTail (limit : ℕ) (fits : ℕ → Type 0) (tail : ℕ → List (Bool × Why)) : Type 0 where
   pub enters : (number : ℕ) → number < limit → first_reason (tail number) ≡ None → fits number
   pub below : (number : ℕ) → fits number → number < limit
   pub passes : (number : ℕ) → fits number → first_reason (tail number) ≡ None
   pub not_short : (number : ℕ) → first_reason (tail number) ≡ Some Short → ⊥
+  pub no_trailing : (number : ℕ) → first_reason (tail number) ≡ Some Trailing → ⊥
 
 abbrev pub tailed_refusal : ℕ → ℕ → (ℕ → List (Bool × Why)) → List ℕ → Option Why
 tailed_refusal most limit tail bytes =
@@ -164,30 +145,29 @@ compact_bound most limit longest number suits fits =
 module _ (most limit longest : ℕ) (fits : ℕ → Type 0) (tail : ℕ → List (Bool × Why)) (suits : Suits most limit longest) (tails : HasTail limit fits tail) where
   tailed_short : (mode : Mode) (bytes : List ℕ)
       → first_reason (compact_reasons most limit mode bytes ++ tail (number_in mode bytes)) ≡ Some Short → length bytes < longest
-  tailed_short mode bytes some =
-      elim (one_applies (lacks 1 bytes) Short (from_announced most limit mode bytes (tail (number_in mode bytes))) Short some) [
-        | inl here ↦ let less : length bytes < 1 = ltb-true (length bytes) 1 here.0 in let four = suits.four in omega arith
-        | inr later ↦
-            elim (one_applies (announces_over most mode bytes) TooWide (from_whole limit mode bytes (tail (number_in mode bytes))) Short later.1) [
-              | inl here ↦ let other : Short ≡ TooWide = here.1 in cc
-              | inr later' ↦
-                  elim (one_applies (lacks (bytes_in mode bytes) bytes) Short (from_shortest limit mode bytes (tail (number_in mode bytes))) Short later'.1) [
-                    | inl here ↦
-                        let less : length bytes < bytes_in mode bytes = ltb-true (length bytes) (bytes_in mode bytes) here.0 in
-                        let bound : bytes_in mode bytes ≤ longest = size_bound most limit longest mode bytes suits later'.0 in
-                        omega arith
-                    | inr last ↦
-                        elim (one_applies (is_longer_in mode bytes) NotShortest (from_width limit mode bytes (tail (number_in mode bytes))) Short last.1) [
-                          | inl here ↦ let other : Short ≡ NotShortest = here.1 in cc
-                          | inr last' ↦
-                              elim (one_applies (nat_le limit (number_in mode bytes)) TooWide (tail (number_in mode bytes)) Short last'.1) [
-                                | inl here ↦ let other : Short ≡ TooWide = here.1 in cc
-                                | inr in_tail ↦ absurd (tails.not_short (number_in mode bytes) in_tail.1)
-                              ]
-                        ]
-                  ]
-            ]
-      ]
+  tailed_short mode bytes =
+      by_reason (λ answer. answer ≡ Some Short → length bytes < longest)
+      (compact_reasons most limit mode bytes) (tail (number_in mode bytes)) (
+        (λ lacking is. let less : length bytes < 1 = ltb-true (length bytes) 1 lacking in let four = suits.four in omega arith),
+        (λ some. (
+          (λ _ is. cc),
+          (λ announced_fits. (
+            (λ lacking is.
+                let less : length bytes < bytes_in mode bytes = ltb-true (length bytes) (bytes_in mode bytes) lacking in
+                let bound : bytes_in mode bytes ≤ longest = size_bound most limit longest mode bytes suits announced_fits in
+                omega arith),
+            (λ whole. ((λ _ is. cc), (λ shortest. ((λ _ is. cc), (λ below is. absurd (tails.not_short (number_in mode bytes) is)))))),
+          )),
+        )),
+      )
+
+  tailed_no_trailing : (mode : Mode) (bytes : List ℕ)
+      → first_reason (compact_reasons most limit mode bytes ++ tail (number_in mode bytes)) ≡ Some Trailing → ⊥
+  tailed_no_trailing mode bytes =
+      by_reason (λ answer. answer ≡ Some Trailing → ⊥) (compact_reasons most limit mode bytes) (tail (number_in mode bytes)) (
+        (λ _ is. cc),
+        (λ _. ((λ _ is. cc), (λ _. ((λ _ is. cc), (λ _. ((λ _ is. cc), (λ _. ((λ _ is. cc), (λ _. tails.no_trailing (number_in mode bytes)))))))))),
+      )
 
   tailed_persists : (bytes more : List ℕ) (why : Why) → why ≢ Short → tailed_refusal most limit tail bytes ≡ Some why
       → tailed_refusal most limit tail (bytes ++ more) ≡ Some why
@@ -236,6 +216,7 @@ module _ (most limit longest : ℕ) (fits : ℕ → Type 0) (tail : ℕ → List
     kept = tailed_kept;
     back = tailed_back;
     persists = tailed_persists;
+    no_trailing = λ bytes some. tailed_no_trailing (mode_of bytes) bytes some;
     bounded = tailed_bounded;
     short = λ bytes some. tailed_short (mode_of bytes) bytes some;
   }
@@ -275,6 +256,7 @@ no_tail limit = record {
   below = λ number fits. fits;
   passes = λ number fits. refl;
   not_short = λ number some. cc;
+  no_trailing = λ number some. cc;
 }
 
 pub compact_part : (most limit longest : ℕ) → Suits most limit longest
@@ -301,13 +283,14 @@ length_tail limit number = (nat_lt limit number, TooMany) ∷ []
 
 limit_tail : (limit : ℕ) → limit < 2 ^ 32 → HasTail (2 ^ 32) (λ number. number ≤ limit) (length_tail limit)
 limit_tail limit fits = record {
-  enters = λ number _ none. ltb-false limit number (none_applies (nat_lt limit number) TooMany [] none).0;
+  enters = λ number below. by_reason (λ answer. answer ≡ None → number ≤ limit) (length_tail limit number) []
+      ((λ over is. cc), (λ within is. ltb-false limit number within));
   below = λ number within. omega arith;
-  passes = λ number within. passed (nat_lt limit number) TooMany [] None (le-ltb limit number within) refl;
-  not_short = λ number some. elim (one_applies (nat_lt limit number) TooMany [] Short some) [
-    | inl here ↦ let other : Short ≡ TooMany = here.1 in cc
-    | inr end ↦ let other : None ≡ Some Short = end.1 in cc
-  ];
+  passes = λ number within. rw (le-ltb limit number within);
+  not_short = λ number. by_reason (λ answer. answer ≡ Some Short → ⊥) (length_tail limit number) []
+      ((λ over is. cc), (λ within is. cc));
+  no_trailing = λ number. by_reason (λ answer. answer ≡ Some Trailing → ⊥) (length_tail limit number) []
+      ((λ over is. cc), (λ within is. cc));
 }
 
 pub length_part : (limit : ℕ) → limit < 2 ^ 32
@@ -325,4 +308,4 @@ pub too_many : (limit number : ℕ) (rest : List ℕ) → limit < 2 ^ 32 → num
     → length_refusal limit (compact_bytes number ++ rest) ≡ Some TooMany
 too_many limit number rest fits below over =
     tail_decides 4 (2 ^ 32) 5 (λ number. number ≤ limit) (length_tail limit) suits_u32 (limit_tail limit fits) number rest (Some TooMany) below
-    (applied (nat_lt limit number) TooMany [] (lt-ltb limit number over))
+    (rw (lt-ltb limit number over))

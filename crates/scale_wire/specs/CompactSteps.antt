@@ -16,7 +16,8 @@ mode_reasons most mode bytes =
 -- the number of a mode, or the first reason to refuse it
 abbrev pub ReadsMode : ℕ → Mode → List ℕ → Result ℕ Why → Type 0
 ReadsMode most mode bytes result = MatchResult result
-    (λ number. (first_reason (mode_reasons most mode bytes) ≡ None) × (number ≡ number_in mode bytes))
+    (λ number.
+    (first_reason (mode_reasons most mode bytes) ≡ None) × (number ≡ number_in mode bytes))
     (λ why. first_reason (mode_reasons most mode bytes) ≡ Some why)
 
 -- the number and how many bytes it has, or the first reason to refuse it

@@ -1,16 +1,17 @@
--- Types that are made of parts: pairs, triples, structs, rows of items, and one part behind another. Their
--- spellings stand one behind the other, and bytes are refused where the first part is refused that the parts
--- before it leave due.
-use Rattle.std.specs.Prelude.{◌≡◌, ◌⊎◌, ℕ, zero, suc, ◌+◌, ◌*◌, ◌<◌, ◌≤◌, max, List, [], ◌∷◌, ◌++◌, length, Option, Some, None, IfSome, IsSomeAnd}
+-- Types that are made of parts: pairs, triples, structs, rows of items, and one part behind
+-- another. Their spellings stand one behind the other, and bytes are refused where the first part
+-- is refused that the parts before it leave due.
+use Rattle.std.specs.Prelude.{◌≡◌, ◌⊎◌, ℕ, zero, suc, ◌+◌, ◌*◌, ◌≤◌, max, List, [], ◌∷◌, ◌++◌, length, Option, Some, None, IfSome}
 use Rattle.std.specs.List.{AllByRecursion, flat_map}
 use Rattle.scale_wire.specs.declared.fault.Why.{Why}
 use Rattle.scale_wire.specs.Form.{IsBytes, Form}
 use Rattle.scale_wire.specs.Compact.{compact_bytes}
 use Rattle.scale_wire.specs.Parts.{byte_string, length_form, tag_form}
 
--- The first bytes spell a value of the head, whole, and those behind it are refused as what that value leaves
--- due.
-pub record Behind {A : Type 0} (head : Form A) (bad : A → List ℕ → ℕ → Why → Type 0) (bytes : List ℕ) (at : ℕ) (why : Why) : Type 0 where
+-- The first bytes spell a value of the head, whole, and those behind it are refused as what that
+-- value leaves due.
+pub record Behind {A : Type 0} (head : Form A) (bad : A → List ℕ → ℕ → Why → Type 0)
+    (bytes : List ℕ) (at : ℕ) (why : Why) : Type 0 where
   pub first : A
   pub in_range : head.in_range first
   pub rest : List ℕ
@@ -20,7 +21,8 @@ pub record Behind {A : Type 0} (head : Form A) (bad : A → List ℕ → ℕ →
   pub refused : bad first rest place why
 
 -- refused as the head, or behind it
-abbrev pub BadThen : {A : Type 0} → Form A → (A → List ℕ → ℕ → Why → Type 0) → List ℕ → ℕ → Why → Type 0
+abbrev pub BadThen : {A : Type 0}
+    → Form A → (A → List ℕ → ℕ → Why → Type 0) → List ℕ → ℕ → Why → Type 0
 BadThen head bad bytes at why = head.bad bytes at why ⊎ Behind head bad bytes at why
 
 -- ## Pairs and triples
@@ -89,7 +91,8 @@ IsRow item first _ _ = ⊥
 
 abbrev pub BadRow : {A : Type 0} → (ℕ → Form A) → ℕ → ℕ → List ℕ → ℕ → Why → Type 0
 BadRow item first zero bytes at why = ⊥
-BadRow item first (suc more) bytes at why = BadThen (item first) (λ _. BadRow item (suc first) more) bytes at why
+BadRow item first (suc more) bytes at why =
+    BadThen (item first) (λ _. BadRow item (suc first) more) bytes at why
 
 abbrev pub longest_row : {A : Type 0} → (ℕ → Form A) → ℕ → ℕ → ℕ
 longest_row item first zero = 0
@@ -144,42 +147,50 @@ optional value = record {
   longest = 1 + value.longest;
 }
 
--- One variant of an enum: `fields` gives the fields of the values of that variant, and of no others.
-abbrev pub variant_bytes : {V : Type 0} → Form V → Option V → List ℕ
-variant_bytes fields None = []
-variant_bytes fields (Some v) = fields.spelling v
+-- the fields of one variant of an enum: the type of what they are together, and its form
+pub record Fields : Type 1 where
+  pub Values : Type 0
+  pub form : Form Values
 
-abbrev pub variant : {V W : Type 0} → Form V → (W → Option V) → Form W
-variant fields fields_of = record {
-  spelling = λ w. variant_bytes fields (fields_of w);
-  in_range = λ w. IsSomeAnd (fields_of w) fields.in_range;
-  bad = fields.bad;
-  longest = fields.longest;
+abbrev pub fields : {V : Type 0} → Form V → Fields
+fields {V} form_of = record { Values = V; form = form_of }
+
+-- behind a tag that no variant has there is no value
+abbrev pub no_fields : Fields
+no_fields = record {
+  Values = ⊥;
+  form = record { spelling = λ _. []; in_range = λ _. ⊥; bad = λ _ _ _. ⊥; longest = 0 };
 }
 
--- what no value has: behind a tag that no variant has
-abbrev pub no_variant : {W : Type 0} → Form W
-no_variant = record {
-  spelling = λ _. [];
-  in_range = λ _. ⊥;
-  bad = λ _ _ _. ⊥;
-  longest = 0;
-}
-
-abbrev pub variant_at : {W : Type 0} → List (Form W) → ℕ → Form W
-variant_at [] tag = no_variant
+-- the variant that has the tag
+abbrev pub variant_at : List Fields → ℕ → Fields
+variant_at [] tag = no_fields
 variant_at (variant ∷ variants) zero = variant
 variant_at (variant ∷ variants) (suc tag) = variant_at variants tag
 
-abbrev pub longest_variant : {W : Type 0} → List (Form W) → ℕ
+abbrev pub longest_variant : List Fields → ℕ
 longest_variant [] = 0
-longest_variant (variant ∷ variants) = max variant.longest (longest_variant variants)
+longest_variant (variant ∷ variants) = max variant.form.longest (longest_variant variants)
 
--- an enum is its tag, the number of its variant, and then the fields of that variant
-abbrev pub tagged : {W : Type 0} → (W → ℕ) → List (Form W) → Form W
-tagged tag_of variants = record {
-  spelling = λ w. tag_of w ∷ (variant_at variants (tag_of w)).spelling w;
-  in_range = λ w. (tag_of w < length variants) × (variant_at variants (tag_of w)).in_range w;
-  bad = BadThen (tag_form (length variants)) (λ tag. (variant_at variants tag).bad);
+-- a value of an enum: its tag, the number of its variant from 0, and the fields of that variant
+pub record Choice (variants : List Fields) : Type 0 where
+  pub tag : ℕ
+  pub values : (variant_at variants tag).Values
+
+abbrev pub choice : (variants : List Fields) → Form (Choice variants)
+choice variants = record {
+  spelling = λ chosen. chosen.tag ∷ (variant_at variants chosen.tag).form.spelling chosen.values;
+  in_range = λ chosen. (variant_at variants chosen.tag).form.in_range chosen.values;
+  bad = BadThen (tag_form (length variants)) (λ tag. (variant_at variants tag).form.bad);
   longest = 1 + longest_variant variants;
+}
+
+-- what follows the tag of an enum, whose values `choose` sees as a tag and its fields
+abbrev pub behind_tag : {W : Type 0} (variants : List Fields) → (W → Choice variants) → ℕ → Form W
+behind_tag variants choose tag = record {
+  spelling = λ w. (variant_at variants (choose w).tag).form.spelling (choose w).values;
+  in_range = λ w.
+      ((choose w).tag ≡ tag) × (variant_at variants (choose w).tag).form.in_range (choose w).values;
+  bad = (variant_at variants tag).form.bad;
+  longest = (variant_at variants tag).form.longest;
 }

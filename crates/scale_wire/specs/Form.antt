@@ -1,18 +1,17 @@
--- What a type is in SCALE, the byte format of Substrate: how its values are spelled, and where and why
--- other bytes are refused.
+-- What a type is in SCALE, the byte format of Substrate: how its values are spelled, and where and
+-- why other bytes are refused.
 use Rattle.std.specs.Prelude.{◌≡◌, ◌≢◌, ◌⊎◌, ℕ, ◌<◌, ◌≤◌, List, ◌++◌, length, Option, Some}
 use Rattle.std.specs.List.{AllByRecursion}
 use Rattle.scale_wire.specs.declared.fault.Why.{Why}
-use Rattle.scale_wire.specs.declared.fault.Why.TheVariants.{Short}
+use Rattle.scale_wire.specs.declared.fault.Why.TheVariants.{Short, Trailing}
 
 -- a list of bytes
 abbrev pub IsBytes : List ℕ → Type 0
 IsBytes = AllByRecursion (λ byte. byte < 256)
 
--- `spelling` is the byte list of a value, and `in_range` says which values have one.
--- `bad bytes at why` says that the first `at` bytes spell the parts before some part, whole, and that the
--- bytes behind them are refused as that part, for that reason.
--- No spelling is longer than `longest`.
+-- `spelling` is the byte list of a value, and `in_range` says which values have one. `bad bytes at
+-- why` says that the first `at` bytes spell the parts before some part, whole, and that the bytes
+-- behind them are refused as that part, for that reason. No spelling is longer than `longest`.
 pub record Form (V : Type 0) : Type 1 where
   pub spelling : V → List ℕ
   pub in_range : V → Type 0
@@ -37,17 +36,21 @@ pub record IsRefused {V : Type 0} (form : Form V) (bytes : List ℕ) : Type 0 wh
 --   covers, exclusive: bytes begin with a spelling or are refused, and never both
 --   one_fault: bytes are refused at one place and for one reason
 --   persists: a refusal stands whatever follows, unless bytes are missing
---   bounded, short: a spelling has at most `longest` bytes, and where bytes are missing there are fewer
+--   no_trailing: no part is refused as Trailing; that is for bytes behind a whole value alone
+--   bounded, short: a spelling has at most `longest` bytes; where bytes are missing there are fewer
 pub record IsWire {V : Type 0} (form : Form V) : Type 0 where
   pub one_reading : (x y : V) (rest more : List ℕ) → form.in_range x → form.in_range y
       → form.spelling x ++ rest ≡ form.spelling y ++ more → (x ≡ y) × (rest ≡ more)
   pub covers : (bytes : List ℕ) → IsBytes bytes → Begins form bytes ⊎ IsRefused form bytes
   pub exclusive : (x : V) (rest : List ℕ) (at : ℕ) (why : Why) → form.in_range x
       → form.bad (form.spelling x ++ rest) at why → ⊥
-  pub one_fault : (bytes : List ℕ) (at at' : ℕ) (why why' : Why) → form.bad bytes at why → form.bad bytes at' why'
+  pub one_fault : (bytes : List ℕ) (at at' : ℕ) (why why' : Why)
+      → form.bad bytes at why → form.bad bytes at' why'
       → (at ≡ at') × (why ≡ why')
-  pub persists : (bytes more : List ℕ) (at : ℕ) (why : Why) → IsBytes bytes → why ≢ Short → form.bad bytes at why
+  pub persists : (bytes more : List ℕ) (at : ℕ) (why : Why)
+      → IsBytes bytes → why ≢ Short → form.bad bytes at why
       → form.bad (bytes ++ more) at why
+  pub no_trailing : (bytes : List ℕ) (at : ℕ) → form.bad bytes at Trailing → ⊥
   pub bounded : (x : V) → form.in_range x → length (form.spelling x) ≤ form.longest
   pub short : (bytes : List ℕ) (at : ℕ) → form.bad bytes at Short → length bytes < form.longest
 

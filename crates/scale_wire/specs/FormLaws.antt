@@ -1,12 +1,12 @@
--- Forms that are made of others keep the laws of a form.
-use Rattle.std.specs.Prelude.{◌≡◌, ◌≢◌, ◌⊎◌, ℕ, zero, suc, ◌+◌, ◌*◌, ◌%◌, ◌^◌, ◌<◌, ◌≤◌, List, [], ◌∷◌, ◌++◌, length, Option, Some, None, IfSome, IsSomeAnd, refl}
+-- Proofs: forms that are made of others keep the laws of a form.
+use Rattle.std.specs.Prelude.{◌≡◌, ◌≢◌, ◌⊎◌, ℕ, zero, suc, ◌+◌, ◌*◌, ◌%◌, ◌^◌, ◌<◌, ◌≤◌, List, [], ◌∷◌, ◌++◌, length, Option, Some, None, IfSome, refl}
 use Rattle.std.proofs.Common.{sym, ◌∙◌, ap, ap₂, subst, inl, inr, arith, lit<, append_assoc, length-append}
 use Rattle.std.proofs.Math.Nat.{mul-le-mul_right, mod-lt}
 use Rattle.scale_wire.specs.declared.fault.Why.{Why}
-use Rattle.scale_wire.specs.declared.fault.Why.TheVariants.{Short}
+use Rattle.scale_wire.specs.declared.fault.Why.TheVariants.{Short, Trailing}
 use Rattle.scale_wire.specs.Form.{Form, Begins, IsRefused, IsWire, IsBytes}
 use Rattle.scale_wire.specs.Parts.{byte_string, length_form, tag_form}
-use Rattle.scale_wire.specs.Composite.{BadThen, pair, triple, seen, nothing, items, row, IsRow, list, byte_list, optional, optional_bytes, BadOptional, variant, variant_bytes, variant_at, longest_variant, tagged}
+use Rattle.scale_wire.specs.Composite.{BadThen, pair, triple, seen, nothing, items, row, IsRow, list, byte_list, optional, optional_bytes, BadOptional, Fields, variant_at, longest_variant, Choice, choice, behind_tag}
 
 pub IsBytes-rest : (front rest : List ℕ) → IsBytes (front ++ rest) → IsBytes rest
 IsBytes-rest [] rest bytes = bytes
@@ -71,6 +71,7 @@ module _ {V W : Type 0} (form : Form V) (of : Form W) (make : W → V) (made : I
         laws.one_fault bytes at at' why why' (made.bad_from bytes at why bad) (made.bad_from bytes at' why' bad');
     persists = λ bytes more at why are_bytes not_short bad.
         made.bad_to (bytes ++ more) at why (laws.persists bytes more at why are_bytes not_short (made.bad_from bytes at why bad));
+    no_trailing = λ bytes at bad. laws.no_trailing bytes at (made.bad_from bytes at Trailing bad);
     bounded = λ x x_fits.
         let from = made.comes x x_fits in
         let bound : length (of.spelling from.0) ≤ of.longest = laws.bounded from.0 from.1 in
@@ -90,6 +91,7 @@ nothing_laws = record {
   exclusive = λ x rest at why x_fits bad. bad;
   one_fault = λ bytes at at' why why' bad bad'. absurd bad;
   persists = λ bytes more at why are_bytes not_short bad. bad;
+  no_trailing = λ bytes at bad. bad;
   bounded = λ x x_fits. omega arith;
   short = λ bytes at bad. absurd bad;
 }
@@ -200,6 +202,13 @@ module _ {A W : Type 0} (head : Form A) (first_of : W → A) (tail : A → Form 
         }
       ]
 
+  followed_no_trailing : (bytes : List ℕ) (at : ℕ) → (followed head first_of tail most).bad bytes at Trailing → ⊥
+  followed_no_trailing bytes at bad =
+      elim bad [
+        | inl here ↦ head_laws.no_trailing bytes at here
+        | inr there ↦ (tail_laws there.first there.in_range).no_trailing there.rest there.place there.refused
+      ]
+
   followed_bounded : (x : W) → (followed head first_of tail most).in_range x → length ((followed head first_of tail most).spelling x) ≤ head.longest + most
   followed_bounded x x_fits =
       let here : length (head.spelling (first_of x)) ≤ head.longest = head_laws.bounded (first_of x) x_fits.0 in
@@ -227,6 +236,7 @@ module _ {A W : Type 0} (head : Form A) (first_of : W → A) (tail : A → Form 
     exclusive = followed_exclusive;
     one_fault = followed_one_fault;
     persists = followed_persists;
+    no_trailing = followed_no_trailing;
     bounded = followed_bounded;
     short = followed_short;
   }
@@ -376,10 +386,14 @@ module _ {A : Type 0} (value : Form A) (value_laws : IsWire value) where
   option_tag None = 0
   option_tag (Some x) = 1
 
+  abbrev some_bytes : Option A → List ℕ
+  some_bytes None = []
+  some_bytes (Some x) = value.spelling x
+
   -- what follows the tag of an option
   abbrev option_tail : ℕ → Form (Option A)
   option_tail tag = record {
-    spelling = variant_bytes value;
+    spelling = some_bytes;
     in_range = λ option. IfSome option value.in_range × (option_tag option ≡ tag);
     bad = BadOptional value tag;
     longest = value.longest;
@@ -432,48 +446,90 @@ module _ {A : Type 0} (value : Form A) (value_laws : IsWire value) where
 
 -- ## Enums
 
-pub some_of : {V : Type 0} (o : Option V) (P : V → Type 0) → IsSomeAnd o P → (v : V) × P v × (o ≡ Some v)
-some_of None P holds = absurd holds
-some_of (Some v) P holds = (v, holds, refl)
+-- each variant keeps the laws
+abbrev pub AreLawful : List Fields → Type 0
+AreLawful [] = Unit {0}
+AreLawful (variant ∷ variants) = IsWire variant.form × AreLawful variants
 
--- the fields of one variant make the values of that variant, and no others
-pub variant_laws : {V W : Type 0} (fields : Form V) (fields_of : W → Option V) (make : V → W) → ((v : V) → fields_of (make v) ≡ Some v) → ((w : W) (v : V) → fields_of w ≡ Some v → make v ≡ w) → IsWire fields → IsWire (variant fields fields_of)
-variant_laws {V} {W} fields fields_of make forth back laws = made_laws (variant fields fields_of) fields make record {
-  fits = λ v fits. rw (forth v) fits;
-  spelled = λ v fits. ap (variant_bytes fields) (forth v);
-  comes = λ w fits.
-      let some = some_of (fields_of w) fields.in_range fits in
-      (some.0, some.1, back w some.0 some.2);
-  bad_from = λ bytes at why bad. bad;
-  bad_to = λ bytes at why bad. bad;
-  within = omega arith;
-} laws
+variant_at_laws : (variants : List Fields) → AreLawful variants → (tag : ℕ) → tag < length variants
+    → IsWire (variant_at variants tag).form
+variant_at_laws [] lawful tag below = absurd (omega (arith, below))
+variant_at_laws (variant ∷ variants) lawful zero below = lawful.0
+variant_at_laws (variant ∷ variants) lawful (suc tag) below = variant_at_laws variants lawful.1 tag (omega (arith, below))
 
--- from the tag `first` on, each variant keeps the laws and has the values with its tag
-abbrev pub AreVariants : {W : Type 0} → (W → ℕ) → ℕ → List (Form W) → Type 0
-AreVariants tag_of first [] = Unit {0}
-AreVariants {W} tag_of first (variant ∷ variants) = IsWire variant × ((w : W) → variant.in_range w → tag_of w ≡ first) × AreVariants tag_of (suc first) variants
+variant_at_within : (variants : List Fields) (tag : ℕ) → (variant_at variants tag).form.longest ≤ longest_variant variants
+variant_at_within [] tag = omega arith
+variant_at_within (variant ∷ variants) zero = omega arith
+variant_at_within (variant ∷ variants) (suc tag) =
+    let within : (variant_at variants tag).form.longest ≤ longest_variant variants = variant_at_within variants tag in omega arith
 
-module _ {W : Type 0} (tag_of : W → ℕ) where
-  variant_at_laws : (first : ℕ) (variants : List (Form W)) → AreVariants tag_of first variants → (tag : ℕ) → tag < length variants → IsWire (variant_at variants tag)
-  variant_at_laws first [] are tag below = absurd (omega (arith, below))
-  variant_at_laws first (variant ∷ variants) are zero below = are.0
-  variant_at_laws first (variant ∷ variants) are (suc tag) below = variant_at_laws (suc first) variants are.2 tag (omega (arith, below))
+-- only a tag of a variant has values
+tag_below : (variants : List Fields) (tag : ℕ) (values : (variant_at variants tag).Values)
+    → (variant_at variants tag).form.in_range values → tag < length variants
+tag_below [] tag values fits = absurd fits
+tag_below (variant ∷ variants) zero values fits = omega arith
+tag_below (variant ∷ variants) (suc tag) values fits =
+    let below : tag < length variants = tag_below variants tag values fits in omega arith
 
-  pub variant_at_agrees : (first : ℕ) (variants : List (Form W)) → AreVariants tag_of first variants → (tag : ℕ) (w : W) → (variant_at variants tag).in_range w → tag_of w ≡ first + tag
-  variant_at_agrees first [] are tag w fits = absurd fits
-  variant_at_agrees first (variant ∷ variants) are zero w fits = are.1 w fits ∙ omega arith
-  variant_at_agrees first (variant ∷ variants) are (suc tag) w fits =
-      let e : tag_of w ≡ suc first + tag = variant_at_agrees (suc first) variants are.2 tag w fits in omega arith
+module _ (variants : List Fields) (tag_laws : IsWire (tag_form (length variants))) (lawful : AreLawful variants) where
+  -- what follows a tag
+  abbrev choice_tail : ℕ → Form (Choice variants)
+  choice_tail = behind_tag variants (λ chosen. chosen)
 
-  variant_at_within : (variants : List (Form W)) (tag : ℕ) → (variant_at variants tag).longest ≤ longest_variant variants
-  variant_at_within [] tag = omega arith
-  variant_at_within (variant ∷ variants) zero = omega arith
-  variant_at_within (variant ∷ variants) (suc tag) =
-      let within : (variant_at variants tag).longest ≤ longest_variant variants = variant_at_within variants tag in omega arith
+  tail_comes : (tag : ℕ) (chosen : Choice variants) → (choice_tail tag).in_range chosen
+      → (values : (variant_at variants tag).Values) × (variant_at variants tag).form.in_range values
+      × (record { tag = tag; values = values } ≡ chosen)
+  tail_comes tag chosen fits =
+      subst (λ (t : ℕ). (values : (variant_at variants t).Values) × (variant_at variants t).form.in_range values
+      × (record { tag = t; values = values } ≡ chosen)) fits.0 (chosen.values, fits.1, refl)
 
-  pub tagged_laws : (variants : List (Form W)) → IsWire (tag_form (length variants)) → AreVariants tag_of 0 variants → IsWire (tagged tag_of variants)
-  tagged_laws variants tag_laws are = followed_laws (tag_form (length variants)) tag_of (variant_at variants) (longest_variant variants) tag_laws
-      (λ tag below. variant_at_laws 0 variants are tag below)
-      (λ tag w fits. variant_at_agrees 0 variants are tag w fits ∙ omega arith)
-      (λ tag below. variant_at_within variants tag)
+  choice_tail_laws : (tag : ℕ) → tag < length variants → IsWire (choice_tail tag)
+  choice_tail_laws tag below = made_laws (choice_tail tag) (variant_at variants tag).form (λ values. record { tag = tag; values = values }) record {
+    fits = λ values fits. (refl, fits);
+    spelled = λ values fits. refl;
+    comes = tail_comes tag;
+    bad_from = λ bytes at why bad. bad;
+    bad_to = λ bytes at why bad. bad;
+    within = omega arith;
+  } (variant_at_laws variants lawful tag below)
+
+  pub choice_laws : IsWire (choice variants)
+  choice_laws = made_laws (choice variants) (followed (tag_form (length variants)) (λ chosen. chosen.tag) choice_tail (longest_variant variants)) (λ chosen. chosen) record {
+    fits = λ chosen fits. fits.1.1;
+    spelled = λ chosen fits. refl;
+    comes = λ chosen fits. (chosen, (tag_below variants chosen.tag chosen.values fits, (refl, fits)), refl);
+    bad_from = λ bytes at why bad. bad;
+    bad_to = λ bytes at why bad. bad;
+    within = omega arith;
+  } (followed_laws (tag_form (length variants)) (λ chosen. chosen.tag) choice_tail (longest_variant variants) tag_laws
+      choice_tail_laws (λ tag chosen fits. fits.0) (λ tag below. variant_at_within variants tag))
+
+-- Each variant keeps the laws, and each choice of it is given by something.
+abbrev pub AreVariants : (variants : List Fields) → ((tag : ℕ) → (variant_at variants tag).Values → Type 0) → Type 0
+AreVariants [] Given = Unit {0}
+AreVariants (variant ∷ variants) Given =
+    IsWire variant.form × ((values : variant.Values) → Given 0 values) × AreVariants variants (λ tag. Given (suc tag))
+
+variants_lawful : (variants : List Fields) (Given : (tag : ℕ) → (variant_at variants tag).Values → Type 0)
+    → AreVariants variants Given → AreLawful variants
+variants_lawful [] Given are = tt
+variants_lawful (variant ∷ variants) Given are = (are.0, variants_lawful variants (λ tag. Given (suc tag)) are.2)
+
+abbrev pub given_at : (variants : List Fields) (Given : (tag : ℕ) → (variant_at variants tag).Values → Type 0)
+    → AreVariants variants Given → (tag : ℕ) (values : (variant_at variants tag).Values) → Given tag values
+given_at [] Given are tag values = absurd values
+given_at (variant ∷ variants) Given are zero values = are.1 values
+given_at (variant ∷ variants) Given are (suc tag) values = given_at variants (λ t. Given (suc t)) are.2 tag values
+
+-- the value whose choice this is
+abbrev pub HasChoice : {W : Type 0} (variants : List Fields) → (W → Choice variants) → (tag : ℕ) → (variant_at variants tag).Values → Type 0
+HasChoice {W} variants choose tag values = (w : W) × (choose w ≡ record { tag = tag; values = values })
+
+-- An enum has one value for each choice: the one that `are` gives, and by `back` no other.
+pub enum_laws : {W : Type 0} (variants : List Fields) (choose : W → Choice variants) (are : AreVariants variants (HasChoice variants choose))
+    → ((w : W) → (given_at variants (HasChoice variants choose) are (choose w).tag (choose w).values).0 ≡ w)
+    → IsWire (tag_form (length variants)) → IsWire (seen (choice variants) choose)
+enum_laws variants choose are back tag_laws =
+    let given = given_at variants (HasChoice variants choose) are in
+    seen_laws (choice variants) choose (λ c. (given c.tag c.values).0) back (λ c. (given c.tag c.values).1)
+    (choice_laws variants tag_laws (variants_lawful variants (HasChoice variants choose) are))

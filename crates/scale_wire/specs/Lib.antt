@@ -1,20 +1,28 @@
-pub mod LittleEndian
-pub mod LittleEndianLaws
+-- What SCALE is.
+pub mod Form
+pub mod Reason
 pub mod Refusal
+pub mod LittleEndian
 pub mod Compact
 pub mod Parts
-pub mod PartLaws
-pub mod CompactSpelling
-pub mod CompactReading
-pub mod CompactWriting
-pub mod CompactLaws
-pub mod CompactSteps
-pub mod AccountLaws
-pub mod Values
-pub mod Writing
-pub mod Reason
-pub mod Form
-pub mod Reading
 pub mod Composite
-pub mod FormLaws
+pub mod Values
+-- What the functions do, and what follows for every type.
+pub mod Reading
+pub mod Writing
+pub mod CompactSteps
+pub mod CompactRange
 pub mod Laws
+pub mod WholeReading
+-- Proofs that each form keeps its laws. No meaning rests on them.
+pub mod TableLaws
+pub mod FormLaws
+pub mod PartLaws
+pub mod AccountLaws
+pub mod LittleEndianLaws
+pub mod CompactSpellingLaws
+pub mod CompactReadingLaws
+pub mod CompactWritingLaws
+pub mod CompactLaws
+pub mod ValueLaws
+pub mod DecidedLaws

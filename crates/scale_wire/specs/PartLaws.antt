@@ -1,15 +1,16 @@
--- Parts keep the laws of a form.
-use Rattle.std.specs.Prelude.{◌≡◌, ◌≢◌, ◌⊎◌, ℕ, ◌^◌, ◌<◌, ◌≤◌, Bool, true, false, List, [], ◌∷◌, ◌++◌, length, take, drop, slice_index, nat_le, Option, Some, None, refl}
+-- Proofs: parts keep the laws of a form.
+use Rattle.std.specs.Prelude.{◌≡◌, ◌≢◌, ◌⊎◌, ℕ, ◌^◌, ◌<◌, ◌≤◌, Bool, false, List, [], ◌∷◌, ◌++◌, length, take, drop, slice_index, nat_le, Option, Some, None, refl}
 use Rattle.std.proofs.Common.{sym, ◌∙◌, ap, subst, inl, inr, arith, length-append}
 use Rattle.std.proofs.lemmas.Bool.{ltb-true, ltb-false, le-ltb, leb-false, lt-leb}
 use Rattle.std.proofs.lemmas.List.{append_cancel_left, take-append-drop, length-take-le, take_at}
 use Rattle.scale_wire.specs.declared.fault.Why.{Why}
-use Rattle.scale_wire.specs.declared.fault.Why.TheVariants.{Short, BadTag}
+use Rattle.scale_wire.specs.declared.fault.Why.TheVariants.{Short, BadTag, Trailing}
 use Rattle.scale_wire.specs.Form.{Form, Begins, IsRefused, IsWire, IsBytes, part}
 use Rattle.scale_wire.specs.FormLaws.{IsBytes-front}
+use Rattle.scale_wire.specs.TableLaws.{by_reason}
 use Rattle.scale_wire.specs.LittleEndian.{little_endian, number_from}
 use Rattle.scale_wire.specs.LittleEndianLaws.{length-little_endian, number_from-little_endian, little_endian-number_from, number_from-bound}
-use Rattle.scale_wire.specs.Refusal.{first_reason, lacks}
+use Rattle.scale_wire.specs.Refusal.{lacks}
 use Rattle.scale_wire.specs.Parts.{missing_refusal, fixed, byte_string, tag_refusal, tag_form}
 
 -- ## A part with a way to read it
@@ -27,6 +28,7 @@ pub record IsPart {V : Type 0} (spelling : V → List ℕ) (fits : V → Type 0)
   pub kept : (x : V) (rest : List ℕ) → fits x → refusal (spelling x ++ rest) ≡ None
   pub back : (x : V) (rest : List ℕ) → fits x → value (spelling x ++ rest) ≡ x
   pub persists : (bytes more : List ℕ) (why : Why) → why ≢ Short → refusal bytes ≡ Some why → refusal (bytes ++ more) ≡ Some why
+  pub no_trailing : (bytes : List ℕ) → refusal bytes ≡ Some Trailing → ⊥
   pub bounded : (x : V) → fits x → length (spelling x) ≤ most
   pub short : (bytes : List ℕ) → refusal bytes ≡ Some Short → length bytes < most
 
@@ -56,58 +58,32 @@ module _ {V : Type 0} (spelling : V → List ℕ) (fits : V → Type 0) (refusal
     exclusive = λ x rest at why x_fits bad. let kept : refusal (spelling x ++ rest) ≡ None = laws.kept x rest x_fits in let no : refusal (spelling x ++ rest) ≡ Some why = bad.1 in cc;
     one_fault = λ bytes at at' why why' bad bad'. let one : refusal bytes ≡ Some why = bad.1 in let other : refusal bytes ≡ Some why' = bad'.1 in (bad.0 ∙ sym bad'.0, cc);
     persists = λ bytes more at why are_bytes not_short bad. (bad.0, laws.persists bytes more why not_short bad.1);
+    no_trailing = λ bytes at bad. laws.no_trailing bytes bad.1;
     bounded = laws.bounded;
     short = λ bytes at bad. laws.short bytes bad.1;
   }
 
--- ## Tables of reasons
-
--- no reason applies: neither the first nor one of the others
-pub none_applies : (applies : Bool) (why : Why) (more : List (Bool × Why))
-    → first_reason ((applies, why) ∷ more) ≡ None → (applies ≡ false) × (first_reason more ≡ None)
-none_applies true why more none = cc
-none_applies false why more none = (refl, none)
-
--- the first reason applies, or else the first of the others that does
-pub one_applies : (applies : Bool) (why : Why) (more : List (Bool × Why)) (given : Why)
-    → first_reason ((applies, why) ∷ more) ≡ Some given
-    → ((applies ≡ true) × (given ≡ why)) ⊎ ((applies ≡ false) × (first_reason more ≡ Some given))
-one_applies true why more given some = inl (refl, cc)
-one_applies false why more given some = inr (refl, some)
-
-pub passed : (applies : Bool) (why : Why) (more : List (Bool × Why)) (answer : Option Why)
-    → applies ≡ false → first_reason more ≡ answer → first_reason ((applies, why) ∷ more) ≡ answer
-passed true why more answer is_false rest = cc
-passed false why more answer is_false rest = rest
-
-pub applied : (applies : Bool) (why : Why) (more : List (Bool × Why))
-    → applies ≡ true → first_reason ((applies, why) ∷ more) ≡ Some why
-applied true why more is_true = refl
-applied false why more is_true = cc
-
-pub more_reasons : (reasons more : List (Bool × Why)) (why : Why) → first_reason reasons ≡ Some why → first_reason (reasons ++ more) ≡ Some why
-more_reasons [] more why some = cc
-more_reasons ((true, first) ∷ reasons) more why some = some
-more_reasons ((false, first) ∷ reasons) more why some = more_reasons reasons more why some
+-- ## Parts of a fixed number of bytes
 
 pub not_lacking : (count : ℕ) (bytes : List ℕ) → count ≤ length bytes → lacks count bytes ≡ false
 not_lacking count bytes whole = le-ltb (length bytes) count whole
 
--- ## Parts of a fixed number of bytes
+pub some_left : (byte : ℕ) (bytes : List ℕ) → lacks 1 (byte ∷ bytes) ≡ false
+some_left byte bytes = not_lacking 1 (byte ∷ bytes) (omega arith)
 
 pub whole_from_none : (count : ℕ) (bytes : List ℕ) → missing_refusal count bytes ≡ None → count ≤ length bytes
-whole_from_none count bytes none = ltb-false (length bytes) count (none_applies (lacks count bytes) Short [] none).0
+whole_from_none count bytes =
+    by_reason (λ answer. answer ≡ None → count ≤ length bytes) ((lacks count bytes, Short) ∷ []) []
+    ((λ lacking is. cc), (λ enough is. ltb-false (length bytes) count enough))
 
 pub none_from_whole : (count : ℕ) (bytes : List ℕ) → count ≤ length bytes → missing_refusal count bytes ≡ None
-none_from_whole count bytes whole = passed (lacks count bytes) Short [] None (not_lacking count bytes whole) refl
+none_from_whole count bytes whole = rw (not_lacking count bytes whole)
 
 pub short_from_some : (count : ℕ) (bytes : List ℕ) (why : Why) → missing_refusal count bytes ≡ Some why
     → (why ≡ Short) × (length bytes < count)
-short_from_some count bytes why some =
-    elim (one_applies (lacks count bytes) Short [] why some) [
-      | inl here ↦ (here.1, ltb-true (length bytes) count here.0)
-      | inr later ↦ let no : None ≡ Some why = later.1 in cc
-    ]
+short_from_some count bytes why =
+    by_reason (λ answer. answer ≡ Some why → (why ≡ Short) × (length bytes < count)) ((lacks count bytes, Short) ∷ []) []
+    ((λ lacking is. (cc, ltb-true (length bytes) count lacking)), (λ enough is. cc))
 
 -- What reads exactly `count` bytes, and is given back by its spelling, makes a part.
 pub record IsFixedSize {V : Type 0} (count : ℕ) (spelling : V → List ℕ) (fits : V → Type 0) (value : List ℕ → V) : Type 0 where
@@ -135,6 +111,7 @@ module _ {V : Type 0} (count : ℕ) (spelling : V → List ℕ) (fits : V → Ty
     kept = λ x rest x_fits. let long : length (spelling x) ≡ count = whole.long x x_fits in none_from_whole count (spelling x ++ rest) (omega (arith, length-append (spelling x) rest));
     back = λ x rest x_fits. ap value (take_at (spelling x) rest count (whole.long x x_fits)) ∙ whole.back x x_fits;
     persists = λ bytes more why not_short some. absurd (not_short (short_from_some count bytes why some).0);
+    no_trailing = λ bytes some. let other : Trailing ≡ Short = (short_from_some count bytes Trailing some).0 in cc;
     bounded = λ x x_fits. let long : length (spelling x) ≡ count = whole.long x x_fits in omega arith;
     short = λ bytes some. (short_from_some count bytes Short some).1;
   }
@@ -153,12 +130,6 @@ fixed_whole count = record {
 pub fixed_laws : (count : ℕ) → IsWire (fixed count)
 fixed_laws count = whole_laws count (little_endian count) (λ number. number < 256 ^ count) number_from (fixed_whole count)
 
-pub fixed_head : (count : ℕ) (bytes : List ℕ) → IsBytes bytes → count ≤ length bytes
-    → IsHead (fixed count) bytes (number_from (take count bytes)) count
-fixed_head count bytes are_bytes whole =
-    (whole_part count (little_endian count) (λ number. number < 256 ^ count) number_from (fixed_whole count)).head bytes are_bytes
-    (none_from_whole count bytes whole)
-
 string_whole : (count : ℕ) → IsFixedSize count (λ bytes. bytes) (λ bytes. (length bytes ≡ count) × IsBytes bytes) (λ bytes. bytes)
 string_whole count = record {
   long = λ x x_fits. x_fits.0;
@@ -173,48 +144,41 @@ byte_string_laws count =
 
 -- ## Tags
 
+abbrev tag_reasons : ℕ → List ℕ → List (Bool × Why)
+tag_reasons below bytes = (lacks 1 bytes, Short) ∷ (nat_le below (slice_index bytes 0), BadTag) ∷ []
+
 tag_head : (below : ℕ) (bytes : List ℕ) → IsBytes bytes → tag_refusal below bytes ≡ None
     → IsHead (tag_form below) bytes (slice_index bytes 0) 1
 tag_head below [] are_bytes none = cc
 tag_head below (tag ∷ rest) are_bytes none =
-    let fits = none_applies (lacks 1 (tag ∷ rest)) Short ((nat_le below tag, BadTag) ∷ []) none in
-    let fits' = none_applies (nat_le below tag) BadTag [] fits.1 in
-    record { in_range = leb-false below tag fits'.0; whole = refl; size_is = refl }
-
-tag_kept : (below tag : ℕ) (rest : List ℕ) → tag < below → tag_refusal below (tag ∷ rest) ≡ None
-tag_kept below tag rest fits =
-    passed (lacks 1 (tag ∷ rest)) Short ((nat_le below tag, BadTag) ∷ []) None (not_lacking 1 (tag ∷ rest) (omega arith))
-    (passed (nat_le below tag) BadTag [] None (lt-leb below tag fits) refl)
+    by_reason (λ answer. answer ≡ None → IsHead (tag_form below) (tag ∷ rest) tag 1) (tag_reasons below (tag ∷ rest)) [] (
+      (λ lacking is. cc),
+      (λ some. ((λ bad is. cc), (λ fits is. record { in_range = leb-false below tag fits; whole = refl; size_is = refl }))),
+    ) none
 
 tag_persists : (below : ℕ) (bytes more : List ℕ) (why : Why) → why ≢ Short → tag_refusal below bytes ≡ Some why
     → tag_refusal below (bytes ++ more) ≡ Some why
 tag_persists below [] more why not_short some = absurd (not_short cc)
-tag_persists below (tag ∷ rest) more why not_short some =
-    elim (one_applies (lacks 1 (tag ∷ rest)) Short ((nat_le below tag, BadTag) ∷ []) why some) [
-      | inl here ↦ absurd (not_short here.1)
-      | inr later ↦
-          passed (lacks 1 (tag ∷ (rest ++ more))) Short ((nat_le below tag, BadTag) ∷ []) (Some why)
-          (not_lacking 1 (tag ∷ (rest ++ more)) (omega arith)) later.1
-    ]
+tag_persists below (tag ∷ rest) more why not_short some = rw (some_left tag (rest ++ more)) (rw (some_left tag rest) at some)
 
 tag_short : (below : ℕ) (bytes : List ℕ) → tag_refusal below bytes ≡ Some Short → length bytes < 1
-tag_short below bytes some =
-    elim (one_applies (lacks 1 bytes) Short ((nat_le below (slice_index bytes 0), BadTag) ∷ []) Short some) [
-      | inl here ↦ ltb-true (length bytes) 1 here.0
-      | inr later ↦
-          elim (one_applies (nat_le below (slice_index bytes 0)) BadTag [] Short later.1) [
-            | inl here ↦ let other : Short ≡ BadTag = here.1 in cc
-            | inr end ↦ let other : None ≡ Some Short = end.1 in cc
-          ]
-    ]
+tag_short below bytes =
+    by_reason (λ answer. answer ≡ Some Short → length bytes < 1) (tag_reasons below bytes) []
+    ((λ lacking is. ltb-true (length bytes) 1 lacking), (λ some. ((λ bad is. cc), (λ fits is. cc))))
+
+tag_no_trailing : (below : ℕ) (bytes : List ℕ) → tag_refusal below bytes ≡ Some Trailing → ⊥
+tag_no_trailing below bytes =
+    by_reason (λ answer. answer ≡ Some Trailing → ⊥) (tag_reasons below bytes) []
+    ((λ lacking is. cc), (λ some. ((λ bad is. cc), (λ fits is. cc))))
 
 tag_part : (below : ℕ)
     → IsPart (λ tag. tag ∷ []) (λ tag. tag < below) (tag_refusal below) 1 (λ bytes. slice_index bytes 0) (λ _. 1)
 tag_part below = record {
   head = tag_head below;
-  kept = tag_kept below;
+  kept = λ tag rest fits. rw (some_left tag rest, lt-leb below tag fits);
   back = λ x rest _. refl;
   persists = tag_persists below;
+  no_trailing = tag_no_trailing below;
   bounded = λ x _. omega arith;
   short = tag_short below;
 }

@@ -1,4 +1,5 @@
--- The parts that values are made of. A part is refused at its first byte, for the first reason that applies.
+-- The parts that values are made of. A part is refused at its first byte, for the first reason that
+-- applies.
 use Rattle.std.specs.Prelude.{◌≡◌, ℕ, ◌^◌, ◌<◌, ◌≤◌, List, [], ◌∷◌, ◌++◌, length, Option, slice_index, nat_lt, nat_le}
 use Rattle.scale_wire.specs.declared.fault.Why.{Why}
 use Rattle.scale_wire.specs.declared.fault.Why.TheVariants.{Short, BadTag, TooMany}
@@ -15,7 +16,8 @@ missing_refusal count bytes = first_reason ((lacks count bytes, Short) ∷ [])
 
 -- a number in a fixed number of bytes, the least significant first
 abbrev pub fixed : ℕ → Form ℕ
-fixed count = part (little_endian count) (λ number. number < 256 ^ count) (missing_refusal count) count
+fixed count =
+    part (little_endian count) (λ number. number < 256 ^ count) (missing_refusal count) count
 
 abbrev pub fixed_u8 : Form ℕ
 fixed_u8 = fixed 1
@@ -29,14 +31,18 @@ fixed_u128 = fixed 16
 -- an account, its 32 bytes as they are
 abbrev pub account_form : Form AccountId
 account_form =
-    part account_bytes (λ account. (account.hi < 2 ^ 128) × (account.lo < 2 ^ 128)) (missing_refusal 32) 32
+    part account_bytes (λ account. (account.hi < 2 ^ 128) × (account.lo < 2 ^ 128))
+    (missing_refusal 32) 32
 
 -- as many bytes as a length before them says
 abbrev pub byte_string : ℕ → Form (List ℕ)
-byte_string count = part (λ bytes. bytes) (λ bytes. (length bytes ≡ count) × IsBytes bytes) (missing_refusal count) count
+byte_string count =
+    part (λ bytes. bytes) (λ bytes. (length bytes ≡ count) × IsBytes bytes)
+    (missing_refusal count) count
 
 abbrev pub tag_refusal : ℕ → List ℕ → Option Why
-tag_refusal below bytes = first_reason ((lacks 1 bytes, Short) ∷ (nat_le below (slice_index bytes 0), BadTag) ∷ [])
+tag_refusal below bytes =
+    first_reason ((lacks 1 bytes, Short) ∷ (nat_le below (slice_index bytes 0), BadTag) ∷ [])
 
 -- one byte below a number
 abbrev pub tag_form : ℕ → Form ℕ
@@ -44,7 +50,8 @@ tag_form below = part (λ tag. tag ∷ []) (λ tag. tag < below) (tag_refusal be
 
 -- a compact integer of a type with at most `most` value bytes and the numbers below `limit`
 abbrev pub compact_form : ℕ → ℕ → ℕ → Form ℕ
-compact_form most limit longest = part compact_bytes (λ number. number < limit) (compact_refusal most limit) longest
+compact_form most limit longest =
+    part compact_bytes (λ number. number < limit) (compact_refusal most limit) longest
 
 abbrev pub compact_u16 : Form ℕ
 compact_u16 = compact_form 0 (2 ^ 16) 4
@@ -57,7 +64,9 @@ compact_u64 = compact_form 8 (2 ^ 64) 9
 
 abbrev pub length_refusal : ℕ → List ℕ → Option Why
 length_refusal limit bytes =
-    first_reason (compact_reasons 4 (2 ^ 32) (mode_of bytes) bytes ++ (nat_lt limit (number_in (mode_of bytes) bytes), TooMany) ∷ [])
+    let mode = mode_of bytes in
+    first_reason (compact_reasons 4 (2 ^ 32) mode bytes
+    ++ (nat_lt limit (number_in mode bytes), TooMany) ∷ [])
 
 -- the length of a list that has at most `limit` items: a compact u32
 abbrev pub length_form : ℕ → Form ℕ

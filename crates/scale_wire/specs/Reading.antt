@@ -18,9 +18,10 @@ pub record Passes (InRange : Type 0) (bytes : List ℕ) (old new : Place) : Type
   pub whole : old.rest ≡ bytes ++ new.rest
   pub at_is : new.at ≡ old.at + length bytes
 
--- the bytes left are refused, at the place and for the reason that the fault names, and the cursor stands
--- where it stood
-pub record Refuses (Bad : List ℕ → ℕ → Why → Type 0) (old : Place) (fault : WireFault) (new : Place) : Type 0 where
+-- the bytes left are refused, at the place and for the reason that the fault names, and the cursor
+-- stands where it stood
+pub record Refuses (Bad : List ℕ → ℕ → Why → Type 0) (old : Place) (fault : WireFault) (new : Place)
+    : Type 0 where
   pub place : ℕ
   pub bad : Bad old.rest place fault.why
   pub at_is : fault.at ≡ old.at + place
@@ -37,11 +38,12 @@ abbrev pub Takes : {V : Type 0} → Form V → Place → Result V WireFault → 
 Takes form old (Ok value) new = IsRead form old value new
 Takes form old (Err fault) new = IsFault form old fault new
 
--- a reader that takes memory: want of memory is no fault of the bytes
+-- a reader that takes memory: want of memory is no fault of the bytes, and leaves the cursor where
+-- it stood
 abbrev pub Reads : {V : Type 0} → Form V → Place → Result V ReadFault → Place → Type 0
 Reads form old (Ok value) new = IsRead form old value new
 Reads form old (Err (faults.Wire fault)) new = IsFault form old fault new
-Reads form old (Err faults.NoMemory) new = Unit {0}
+Reads form old (Err faults.NoMemory) new = new ≡ old
 
 -- a front of the spelling was appended
 pub record HasFront (spelling old new : List ℕ) : Type 0 where
@@ -52,7 +54,8 @@ pub record HasFront (spelling old new : List ℕ) : Type 0 where
 
 -- a writer appends the spelling, or a front of it where memory runs out
 abbrev pub Writes : {E : Type 0} → List ℕ → List ℕ → Result Unit E → List ℕ → Type 0
-Writes spelling old result new = MatchResult result (λ _. new ≡ old ++ spelling) (λ _. HasFront spelling old new)
+Writes spelling old result new =
+    MatchResult result (λ _. new ≡ old ++ spelling) (λ _. HasFront spelling old new)
 
 -- the first `at` bytes spell a value in range, and a byte follows
 pub record HasRest {V : Type 0} (form : Form V) (bytes : List ℕ) (at : ℕ) : Type 0 where

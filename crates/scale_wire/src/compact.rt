@@ -7,8 +7,8 @@ ghost use Rattle.scale_wire.specs.CompactSteps.{ReadsMode, ReadsCompact};
 
 use crate::fault::Why;
 
-// The compact integer that the bytes begin with, of a type that has at most `most` value bytes and the numbers
-// up to `max`; and how many bytes it has.
+// The compact integer that the bytes begin with, of a type that has at most `most` value bytes and
+// the numbers up to `max`; and how many bytes it has.
 pub(crate) fn read_compact(bytes: &[u8], most: usize, max: u64) -> Result<(u64, usize), Why>
     requires { most ≤ 8 }
     ensures read { ReadsCompact most (max + 1) bytes.now result }

@@ -3,16 +3,16 @@ ghost use Rattle.std.specs.Prelude.{◌≡◌, ◌≢◌, ℕ, ◌+◌, ◌^◌,
 ghost use Rattle.scale_wire.specs.Form.{IsBytes};
 ghost use Rattle.scale_wire.specs.Reading.{Takes, IsRead, IsFault};
 ghost use Rattle.scale_wire.specs.Parts.{fixed_u8, fixed_u32, fixed_u128, byte_string, tag_form, compact_form, compact_u16, compact_u32, compact_u64, length_form, account_form};
-ghost use Rattle.scale_wire.specs.CompactWriting.{Suits};
+ghost use Rattle.scale_wire.specs.CompactRange.{Suits};
 
 use crate::compact::read_compact;
 use crate::fault::{Why, WireFault};
 use npos_base::AccountId;
 use std::marker::Model;
 
-/// A place in bytes and what is left of them. Each `take_` call reads one part of a SCALE value at the
-/// place and moves behind it. Where it refuses, it names that place and the first reason that applies, and
-/// the cursor stays as it was. No call takes memory.
+/// A place in bytes and what is left of them. Each `take_` call reads one part of a SCALE value at
+/// the place and moves behind it. Where it refuses, it names that place and the first reason that
+/// applies, and the cursor stays as it was. No call takes memory.
 #[derive(Drop)]
 pub struct Cursor<'a> {
     at: u64,
@@ -66,7 +66,8 @@ impl<'a> Cursor<'a> {
         }
     }
 
-    /// The next `n` bytes, borrowed from the input. They are refused as `Short` where fewer are left.
+    /// The next `n` bytes, borrowed from the input. They are refused as `Short` where fewer are
+    /// left.
     pub fn take_bytes(&mut self, n: usize) -> Result<&'a [u8], WireFault>
         ensures { MatchResult result
             (λ bytes. IsRead (byte_string n) self.old bytes.now self.new)
@@ -99,14 +100,16 @@ impl<'a> Cursor<'a> {
         Ok(byte)
     }
 
-    /// A number in four bytes, the least significant first, refused as `Short` where fewer are left.
+    /// A number in four bytes, the least significant first, refused as `Short` where fewer are
+    /// left.
     pub fn take_u32(&mut self) -> Result<u32, WireFault>
         ensures { Takes fixed_u32 self.old result self.new }
     {
         Ok(u32::from_le_bytes(self.take_array()?))
     }
 
-    /// A number in sixteen bytes, the least significant first, refused as `Short` where fewer are left.
+    /// A number in sixteen bytes, the least significant first, refused as `Short` where fewer are
+    /// left.
     pub fn take_u128(&mut self) -> Result<u128, WireFault>
         ensures { Takes fixed_u128 self.old result self.new }
     {
@@ -150,8 +153,8 @@ impl<'a> Cursor<'a> {
         self.take_compact(8, u64::MAX)
     }
 
-    /// The length of a list of at most `limit` items: a compact integer below 2^32, which is refused as `TooMany`
-    /// over the limit.
+    /// The length of a list of at most `limit` items: a compact integer below 2^32, which is
+    /// refused as `TooMany` over the limit.
     pub fn take_length(&mut self, limit: u32) -> Result<u32, WireFault>
         ensures { Takes (length_form limit) self.old result self.new }
     {
@@ -199,8 +202,8 @@ impl<'a> Cursor<'a> {
 // The first `n` bytes and those behind them, if there are as many.
 fn split_front(bytes: &[u8], n: usize) -> Option<(&[u8], &[u8])>
     ensures { MatchOption result (length bytes.now < n)
-        (λ parts. (n ≤ length bytes.now) × (parts.0.now ≡ take n bytes.now) × (parts.1.now ≡ drop n bytes.now)
-        × IsBytes parts.0.now) }
+        (λ parts. (n ≤ length bytes.now) × (parts.0.now ≡ take n bytes.now)
+        × (parts.1.now ≡ drop n bytes.now) × IsBytes parts.0.now) }
 {
     if n <= bytes.len() {
         Some(bytes.split_at(n))

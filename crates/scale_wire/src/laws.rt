@@ -1,19 +1,20 @@
-//! What follows for every type that is spelled in SCALE. Each law is the clause of a function that does nothing.
+//! What follows for every type that is spelled in SCALE. Each law is the clause of a function that
+//! does nothing.
 ghost use Rattle.scale_wire.specs.Form.{IsWire};
 ghost use Rattle.scale_wire.specs.Compact.{IsLeast, least_bytes};
 ghost use Rattle.scale_wire.specs.Parts.{fixed_u8, fixed_u32, fixed_u128, byte_string, tag_form, length_form};
-ghost use Rattle.scale_wire.specs.Laws.{IsReadBack, IsDecided, IsDecidedWhole, FaultsPersist, IsBounded};
+ghost use Rattle.scale_wire.specs.Laws.{IsReadBack, IsDecided, IsDecidedWhole, FaultsPersist, NeverTrails, IsBounded};
 
 use crate::Wire;
 
-/// A value is read back from its spelling, whatever follows: no spelling begins another, and no two values in range
-/// have one spelling.
+/// A value is read back from its spelling, whatever follows: no spelling begins another, and no two
+/// values in range have one spelling.
 pub fn values_are_read_back<T: Wire>()
     ensures { IsReadBack T.form }
 {}
 
-/// All bytes begin with the spelling of exactly one value in range, or are refused at exactly one place and for exactly
-/// one reason.
+/// All bytes begin with the spelling of exactly one value in range, or are refused at exactly one
+/// place and for exactly one reason.
 pub fn bytes_are_decided<T: Wire>()
     ensures { IsDecided T.form }
 {}
@@ -28,7 +29,13 @@ pub fn faults_persist<T: Wire>()
     ensures { FaultsPersist T.form }
 {}
 
-/// No spelling is longer than the form's `longest`, and bytes that are refused as `Short` are fewer than that.
+/// No reader answers `Trailing`, which is for a byte behind a value that must be the whole input.
+pub fn only_whole_inputs_trail<T: Wire>()
+    ensures { NeverTrails T.form }
+{}
+
+/// No spelling is longer than the form's `longest`, and bytes that are refused as `Short` are fewer
+/// than that.
 pub fn spellings_are_bounded<T: Wire>()
     ensures { IsBounded T.form }
 {}
@@ -55,7 +62,8 @@ pub fn lengths_keep_the_laws(limit: u32)
     ensures { IsWire (length_form limit) }
 {}
 
-/// The value bytes of a compact integer in its longest mode are the fewest, from four on, that hold it.
+/// The value bytes of a compact integer in its longest mode are the fewest, from four on, that hold
+/// it.
 pub fn value_bytes_are_the_fewest(number: u64)
     ensures { IsLeast number (least_bytes number) }
 {}

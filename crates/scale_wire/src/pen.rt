@@ -9,8 +9,8 @@ use npos_base::{AccountId, List, NoMemory};
 use std::alloc::Global;
 use std::marker::Model;
 
-/// The bytes written so far. Each `put_` call appends the spelling of one part of a SCALE value; where
-/// memory runs out, it leaves the bytes as they were.
+/// The bytes written so far. Each `put_` call appends the spelling of one part of a SCALE value;
+/// where memory runs out, it leaves the bytes as they were.
 #[derive(Drop)]
 pub struct Pen {
     bytes: Vec<u8>,
@@ -85,7 +85,8 @@ impl Pen {
         }
     }
 
-    // A compact integer that only the longest mode holds: how many value bytes follow, and these bytes.
+    // A compact integer that only the longest mode holds: how many value bytes follow, and these
+    // bytes.
     fn put_big(&mut self, value: u64) -> Result<(), NoMemory>
         requires { 2 ^ 30 ≤ value }
         ensures { Appends (compact_bytes value) result self.old self.new }

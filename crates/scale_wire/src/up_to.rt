@@ -8,8 +8,8 @@ use npos_base::{List, NoMemory};
 use std::alloc::Global;
 use std::marker::Model;
 
-/// A list that is spelled where it has at most `LIMIT` items, so that it can stand in a pair or a triple. Contracts see it
-/// as its items.
+/// A list that is spelled where it has at most `LIMIT` items, so that it can stand in a pair or a
+/// triple. Contracts see it as its items.
 #[derive(Drop)]
 pub struct UpTo<T, const LIMIT: u32> {
     items: List<T>,
@@ -42,7 +42,8 @@ impl<T: Wire, const LIMIT: u32> Wire for UpTo<T, LIMIT> {
     // The remainder is the limit itself: it tells the laws that a u32 is below 2^32.
     ghost form = { list T.form (LIMIT % 2 ^ 32) };
 
-    ghost laws = { list_laws T.form (LIMIT % 2 ^ 32) (length_laws (LIMIT % 2 ^ 32) (limit_fits LIMIT)) T.laws };
+    ghost laws = { list_laws T.form (LIMIT % 2 ^ 32)
+        (length_laws (LIMIT % 2 ^ 32) (limit_fits LIMIT)) T.laws };
 
     fn write(&self, pen: &mut Pen) -> Result<(), NoMemory> {
         write_list(&self.items, pen)
@@ -54,7 +55,8 @@ impl<T: Wire, const LIMIT: u32> Wire for UpTo<T, LIMIT> {
     }
 }
 
-/// A list of bytes that is spelled where it has at most `LIMIT` bytes. Contracts see it as its bytes.
+/// A list of bytes that is spelled where it has at most `LIMIT` bytes. Contracts see it as its
+/// bytes.
 #[derive(Drop)]
 pub struct BytesUpTo<const LIMIT: u32> {
     bytes: List<u8>,
@@ -86,7 +88,8 @@ impl<const LIMIT: u32> Wire for BytesUpTo<LIMIT> {
 
     ghost form = { byte_list (LIMIT % 2 ^ 32) };
 
-    ghost laws = { byte_list_laws (LIMIT % 2 ^ 32) (length_laws (LIMIT % 2 ^ 32) (limit_fits LIMIT)) byte_string_laws };
+    ghost laws = { byte_list_laws (LIMIT % 2 ^ 32)
+        (length_laws (LIMIT % 2 ^ 32) (limit_fits LIMIT)) byte_string_laws };
 
     fn write(&self, pen: &mut Pen) -> Result<(), NoMemory> {
         write_bytes(&self.bytes, pen)

@@ -6,6 +6,25 @@ use crate::{Cursor, Pen, Wire};
 use npos_base::{AccountId, Edge, NoMemory, Score};
 use std::alloc::Global;
 
+/// Nothing: no byte spells it.
+impl Wire for () {
+    ghost use Rattle.scale_wire.specs.Composite.{nothing};
+    ghost use Rattle.scale_wire.specs.FormLaws.{nothing_laws};
+
+    ghost form = { nothing };
+
+    ghost laws = { nothing_laws };
+
+    #[tactic(auto, using(crate::proofs::ReadLemmas::nothing_written))]
+    fn write(&self, _pen: &mut Pen) -> Result<(), NoMemory> {
+        Ok(())
+    }
+
+    fn read(_alloc: Global, _cursor: &mut Cursor<'_>) -> Result<(), ReadFault> {
+        Ok(())
+    }
+}
+
 impl Wire for u16 {
     ghost use Rattle.scale_wire.specs.Parts.{compact_u16};
     ghost use Rattle.scale_wire.specs.CompactLaws.{compact_u16_laws};
@@ -87,7 +106,8 @@ impl Wire for Fixed {
 
     ghost form = { seen fixed_u128 (λ number. number.0) };
 
-    ghost laws = { seen_laws fixed_u128 (λ number. number.0) (λ n. record { 0 = n }) (λ _. refl) (λ _. refl) (fixed_laws 16) };
+    ghost laws = { seen_laws fixed_u128 (λ number. number.0)
+        (λ n. record { 0 = n }) (λ _. refl) (λ _. refl) (fixed_laws 16) };
 
     fn write(&self, pen: &mut Pen) -> Result<(), NoMemory> {
         pen.put_u128(self.0)
@@ -98,9 +118,11 @@ impl Wire for Fixed {
     }
 }
 
-/// The fields in order: the minimal support and the sum as compact integers, the squares in sixteen bytes.
+/// The fields in order: the minimal support and the sum as compact integers, the squares in sixteen
+/// bytes.
 impl Wire for Score {
-    ghost use Rattle.scale_wire.specs.Values.{score_form, score_laws};
+    ghost use Rattle.scale_wire.specs.Values.{score_form};
+    ghost use Rattle.scale_wire.specs.ValueLaws.{score_laws};
 
     ghost form = { score_form };
 
@@ -122,7 +144,8 @@ impl Wire for Score {
 
 /// The fields in order, all as compact integers.
 impl Wire for Edge {
-    ghost use Rattle.scale_wire.specs.Values.{edge_form, edge_laws};
+    ghost use Rattle.scale_wire.specs.Values.{edge_form};
+    ghost use Rattle.scale_wire.specs.ValueLaws.{edge_laws};
 
     ghost form = { edge_form };
 

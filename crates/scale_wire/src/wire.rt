@@ -1,11 +1,12 @@
 //! Values that have a spelling in SCALE.
 ghost use Rattle.std.specs.Prelude.{◌≡◌, ◌+◌, [], ◌∷◌, ◌++◌, ◌<◌, ◌≤◌, ◌^◌, length, flat_map};
 ghost use Rattle.std.specs.List.{AllByRecursion};
-ghost use Rattle.scale_wire.specs.Form.{Form, IsWire};
+ghost use Rattle.scale_wire.specs.Form.{IsBytes, Form, IsWire};
 ghost use Rattle.scale_wire.specs.Composite.{pair, items as items_of, list, list_bytes, byte_list};
 ghost use Rattle.scale_wire.specs.Compact.{compact_bytes};
 ghost use Rattle.scale_wire.specs.Writing.{Appends};
 ghost use Rattle.scale_wire.specs.Reading.{Reads, Writes, ReadsWhole};
+ghost use Rattle.scale_wire.specs.WholeReading.{AnswersAs};
 
 use crate::fault::{ReadFault, Why, WireFault};
 use crate::{Cursor, Pen};
@@ -14,8 +15,8 @@ use std::alloc::Global;
 
 /// A type whose values are spelled in SCALE, the byte format of Substrate.
 ///
-/// `form` says how a value is spelled, which values have a spelling, where and why other bytes are refused, and how
-/// long a spelling is at most; `laws` are what every such form keeps (`IsWire`).
+/// `form` says how a value is spelled, which values have a spelling, where and why other bytes are
+/// refused, and how long a spelling is at most; `laws` are what every such form keeps (`IsWire`).
 pub trait Wire: Drop {
     ghost form: { Form Self };
 
@@ -26,7 +27,8 @@ pub trait Wire: Drop {
         requires { form.in_range self.now }
         ensures { Writes (form.spelling self.now) pen.old result pen.new };
 
-    /// Reads a value at the cursor's place and moves the cursor behind it, or refuses the bytes there.
+    /// Reads a value at the cursor's place and moves the cursor behind it, or refuses the bytes
+    /// there.
     fn read(alloc: Global, cursor: &mut Cursor<'_>) -> Result<Self, ReadFault>
         ensures { Reads form cursor.old result cursor.new };
 }
@@ -119,16 +121,27 @@ pub fn write_tag(tag: u8, pen: &mut Pen) -> Result<(), NoMemory>
 /// Appends the first and then the second, as a pair of the two is spelled.
 pub fn write_both<A: Wire, B: Wire>(first: &A, second: &B, pen: &mut Pen) -> Result<(), NoMemory>
     requires { (pair A.form B.form).in_range (first.now, second.now) }
-    ensures { Writes ((pair A.form B.form).spelling (first.now, second.now)) pen.old result pen.new }
+    ensures { Writes
+        ((pair A.form B.form).spelling (first.now, second.now)) pen.old result pen.new }
 {
     first.write(pen)?;
     second.write(pen)
 }
 
-/// Reads a value that must be the whole input. The first byte behind it is refused as `Trailing`.
-#[tactic(auto, using(crate::proofs::ReadLemmas::bad_whole))]
+/// Reads a value that must be the whole input. The first byte behind it is refused as `Trailing`. The bytes determine
+/// every answer but want of memory.
 pub fn read_whole<T: Wire>(alloc: Global, bytes: &[u8]) -> Result<T, ReadFault>
-    ensures { ReadsWhole T.form bytes.now result }
+    ensures grammar { ReadsWhole T.form bytes.now result }
+    ensures function { AnswersAs T.form T.laws bytes.now result }
+{
+    read_to_end(alloc, bytes)
+}
+
+// The same by the grammar alone.
+#[tactic(auto, using(crate::proofs::ReadLemmas::bad_whole))]
+fn read_to_end<T: Wire>(alloc: Global, bytes: &[u8]) -> Result<T, ReadFault>
+    ensures grammar { ReadsWhole T.form bytes.now result }
+    ensures bytes { IsBytes bytes.now }
 {
     let mut cursor = Cursor::new(bytes, 0);
     let value = T::read(alloc, &mut cursor)?;

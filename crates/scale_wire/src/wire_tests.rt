@@ -1,5 +1,5 @@
 use crate::fault::{ReadFault, Why, WireFault};
-use crate::{BytesUpTo, Pen, UpTo, Wire, read_whole};
+use crate::{BytesUpTo, Pen, UpTo, Wire, laws, read_whole};
 use std::alloc::Global;
 use std::test::Fail;
 
@@ -46,4 +46,19 @@ fn fault_of(alloc: Global, bytes: &[u8]) -> Option<WireFault> {
         Err(ReadFault::Wire(fault)) => Some(fault),
         _ => None,
     }
+}
+
+#[test]
+fn the_laws_can_be_called() {
+    laws::values_are_read_back::<Sample>();
+    laws::bytes_are_decided::<Sample>();
+    laws::whole_inputs_are_decided::<Sample>();
+    laws::faults_persist::<Sample>();
+    laws::only_whole_inputs_trail::<Sample>();
+    laws::spellings_are_bounded::<Sample>();
+    laws::fixed_numbers_keep_the_laws();
+    laws::byte_strings_keep_the_laws(2);
+    laws::tags_keep_the_laws(2);
+    laws::lengths_keep_the_laws(2);
+    laws::value_bytes_are_the_fewest(1);
 }

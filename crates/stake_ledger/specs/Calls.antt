@@ -1,10 +1,10 @@
 -- When each call refuses, by the first reason that applies, and what it makes of the books.
 use Rattle.std.specs.Prelude.{ℕ, ◌+◌, ◌-◌, min, Option, Some, None, nat_lt, ◌==◌, not, if◌then◌else◌}
 use Rattle.npos_base.specs.declared.account.AccountId.{AccountId}
+use Rattle.npos_base.specs.Account.{same_account}
 use Rattle.stake_ledger.specs.declared.refusal.LedgerRefusal.{LedgerRefusal}
 use Rattle.stake_ledger.specs.declared.refusal.LedgerRefusal.TheVariants.{LowFunds, NotBonded, AlreadyBonded, BelowMinimum, NoChunk, ZeroValue, SameAccount, IssuanceCap}
 use Rattle.stake_ledger.specs.declared.row.Row.{Row}
-use Rattle.stake_ledger.specs.Accounts.{is_same}
 use Rattle.stake_ledger.specs.Chunks.{chunk_sum, chunk_refusal, is_empty, released}
 use Rattle.stake_ledger.specs.Rows.{is_bonded, gained, paid}
 use Rattle.stake_ledger.specs.Ledger.{Ledger, row_at, changed, issuance_cap}
@@ -19,7 +19,7 @@ endowed who value ledger = record (changed who (gained value) ledger) { genesis 
 abbrev pub transfer_refusal : Ledger → AccountId → AccountId → ℕ → Option LedgerRefusal
 transfer_refusal ledger from to value =
     if value == 0 then Some ZeroValue
-    else if is_same from to then Some SameAccount
+    else if same_account from to then Some SameAccount
     else if nat_lt (row_at ledger from).free value then Some LowFunds
     else None
 

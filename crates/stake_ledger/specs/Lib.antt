@@ -1,5 +1,4 @@
 pub mod Refusals
-pub mod Accounts
 pub mod Chunks
 pub mod Joining
 pub mod Rows

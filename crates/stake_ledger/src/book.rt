@@ -1,6 +1,7 @@
 //! The books.
 ghost use Rattle.std.specs.Prelude.{◌≡◌, ◌≢◌, ◌-◌, ◌+◌, ◌≤◌, None, Some, OnErr, OnOk, IfErr, IfOk, is_some, All};
-ghost use Rattle.stake_ledger.specs.Refusals.{IsDue};
+ghost use Rattle.npos_base.specs.Refusal.{IsDue};
+ghost use Rattle.stake_ledger.specs.declared.refusal.LedgerRefusal.TheVariants as refusals;
 ghost use Rattle.stake_ledger.specs.Chunks.{IsSchedule};
 ghost use Rattle.stake_ledger.specs.Rows.{is_bonded, bonded, unbonded, rebonded, withdrawn};
 ghost use Rattle.stake_ledger.specs.Ledger.{empty_ledger, row_of, row_at, changed, totals_of, issuance_cap, IsBalanced, OthersStay};
@@ -65,7 +66,7 @@ impl Book {
         requires unminted { self.old.minted ≡ 0 }
         ensures ok { OnOk result ((endow_refusal self.old value ≡ None) × (self.new ≡ endowed who value self.old)) }
         ensures err { OnErr result (self.new ≡ self.old) }
-        ensures refused { IfErr result (IsDue (endow_refusal self.old value)) }
+        ensures refused { IfErr result (IsDue refusals.NoMemory (endow_refusal self.old value)) }
         ensures others { OthersStay who self.old self.new }
     {
         if value > CAP - self.genesis {
@@ -89,7 +90,7 @@ impl Book {
     ) -> Result<(), LedgerRefusal>
         ensures ok { OnOk result ((transfer_refusal self.old from to value ≡ None) × (self.new ≡ transferred from to value self.old)) }
         ensures err { OnErr result (self.new ≡ self.old) }
-        ensures refused { IfErr result (IsDue (transfer_refusal self.old from to value)) }
+        ensures refused { IfErr result (IsDue refusals.NoMemory (transfer_refusal self.old from to value)) }
         ensures others { (other : AccountId) → other ≢ from → other ≢ to → row_of self.new other ≡ row_of self.old other }
     {
         if value == 0 {
@@ -149,7 +150,7 @@ impl Book {
             × (self.new ≡ changed who (unbonded (unbond_amount (row_at self.old who) value) release) self.old)) }
         ensures amount { IfOk result (λ amount. amount ≡ unbond_amount (row_at self.old who) value) }
         ensures err { OnErr result (self.new ≡ self.old) }
-        ensures refused { IfErr result (IsDue (unbond_refusal (row_at self.old who) value release least)) }
+        ensures refused { IfErr result (IsDue refusals.NoMemory (unbond_refusal (row_at self.old who) value release least)) }
         ensures others { OthersStay who self.old self.new }
     {
         let amount = self.rows.unbond(who, value, release, least)?;

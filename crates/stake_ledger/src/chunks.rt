@@ -1,6 +1,7 @@
 //! Stake on its way out.
 ghost use Rattle.std.specs.Prelude.{◌≡◌, ◌+◌, ◌^◌, ◌<◌, ◌≤◌, ◌↔◌, [], length, IsTrue, OnErr, OnOk, IfErr};
-ghost use Rattle.stake_ledger.specs.Refusals.{IsDue};
+ghost use Rattle.npos_base.specs.Refusal.{IsDue};
+ghost use Rattle.stake_ledger.specs.declared.refusal.LedgerRefusal.TheVariants as refusals;
 ghost use Rattle.stake_ledger.specs.Chunks.{chunk_sum, chunk_refusal, is_empty, with_chunk, without_latest, released, unreleased};
 ghost use Rattle.stake_ledger.specs.Joining.{joins_last};
 
@@ -82,7 +83,7 @@ impl Chunks {
         requires few { length self.old ≤ 32 }
         ensures ok { OnOk result ((chunk_refusal amount release self.old ≡ None) × (self.new ≡ with_chunk amount release self.old)) }
         ensures err { OnErr result (self.new ≡ self.old) }
-        ensures refused { IfErr result (IsDue (chunk_refusal amount release self.old)) }
+        ensures refused { IfErr result (IsDue refusals.NoMemory (chunk_refusal amount release self.old)) }
     {
         if self.joins_last(release) {
             let last = self.items.len() - 1;

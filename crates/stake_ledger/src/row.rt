@@ -1,7 +1,7 @@
 //! What one account has.
 ghost use Rattle.std.specs.Prelude.{◌≡◌, ◌+◌, ◌^◌, ◌<◌, ◌≤◌, IsTrue, OnErr, OnOk, IfErr, IfOk, None, Some, length};
 ghost use Rattle.stake_ledger.specs.declared.refusal.LedgerRefusal.TheVariants as refusals;
-ghost use Rattle.stake_ledger.specs.Refusals.{IsDue};
+ghost use Rattle.npos_base.specs.Refusal.{IsDue};
 ghost use Rattle.stake_ledger.specs.Rows.{empty_row, worth, is_bonded, paid, bonded, unbonded, rebonded, withdrawn};
 ghost use Rattle.stake_ledger.specs.Calls.{bond_refusal, bond_extra_refusal, unbond_refusal, unbond_amount, rebond_refusal, rebond_amount, withdraw_refusal, withdraw_amount};
 
@@ -105,7 +105,7 @@ impl Row {
             × (self.new ≡ unbonded (unbond_amount self.old value) release self.old)) }
         ensures amount { IfOk result (λ amount. amount ≡ unbond_amount self.old value) }
         ensures err { OnErr result (self.new ≡ self.old) }
-        ensures refused { IfErr result (IsDue (unbond_refusal self.old value release least)) }
+        ensures refused { IfErr result (IsDue refusals.NoMemory (unbond_refusal self.old value release least)) }
     {
         if value == 0 {
             return Err(LedgerRefusal::ZeroValue);

@@ -5,7 +5,8 @@ ghost use Rattle.std.specs.List.Sorted.{IsStrictlySortedBy};
 ghost use Rattle.std.specs.Map.{keys_of};
 ghost use Rattle.npos_base.specs.Account.{account_cmp};
 ghost use Rattle.stake_ledger.specs.declared.refusal.LedgerRefusal.TheVariants as refusals;
-ghost use Rattle.stake_ledger.specs.Refusals.{IsDue, MayRefuse};
+ghost use Rattle.stake_ledger.specs.Refusals.{MayRefuse};
+ghost use Rattle.npos_base.specs.Refusal.{IsDue};
 ghost use Rattle.stake_ledger.specs.Rows.{worth, gained, paid, bonded, unbonded, rebonded, withdrawn};
 ghost use Rattle.stake_ledger.specs.Ledger.{row_in, row_of_entries, with_row};
 ghost use Rattle.stake_ledger.specs.Calls.{bond_refusal, bond_extra_refusal, unbond_refusal, unbond_amount, rebond_refusal, rebond_amount, withdraw_refusal, withdraw_amount};
@@ -194,7 +195,7 @@ impl Rows {
         ensures ok { OnOk result (self.new ≡ with_row who (unbonded (unbond_amount (row_in self.old who) value) release) self.old) }
         ensures amount { IfOk result (λ amount. amount ≡ unbond_amount (row_in self.old who) value) }
         ensures err { OnErr result (self.new ≡ self.old) }
-        ensures refused { IfErr result (IsDue (unbond_refusal (row_in self.old who) value release least)) }
+        ensures refused { IfErr result (IsDue refusals.NoMemory (unbond_refusal (row_in self.old who) value release least)) }
     {
         match self.places.find(who) {
             Some(place) => self.rows[place].unbond(value, release, least),

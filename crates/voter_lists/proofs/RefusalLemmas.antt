@@ -1,39 +1,11 @@
--- An answer that was found beforehand.
-use Rattle.std.proofs.Common.{◌≡◌, ◌≢◌, ◌≤◌, ◌<◌, ℕ, true, false, nat_eq, nat_le, refl, ap, ◌∙◌, subst, arith, Option, Some, None, Ok, Err}
-use Rattle.voter_lists.specs.declared.refusal.ListRefusal.{ListRefusal}
-use Rattle.voter_lists.specs.declared.refusal.ListRefusal.TheVariants.{NoTargets, TooManyTargets, RepeatedTarget, NotValidator, TooManyValidators, BadFraction, NotListed, SameBag, OtherBag, NotHeavier, NoMemory}
+-- Why an account is not put in front of another.
+use Rattle.std.proofs.Common.{◌≡◌, ◌≢◌, ◌≤◌, ◌<◌, ℕ, true, false, nat_eq, nat_le, refl, ap, ◌∙◌, arith, Some, None}
+use Rattle.voter_lists.specs.declared.refusal.ListRefusal.TheVariants.{NotListed, OtherBag, NotHeavier}
 use Rattle.std.proofs.lemmas.Bool.Decides.{nat_tests}
 use Rattle.npos_base.specs.declared.account.AccountId.{AccountId}
 use Rattle.voter_lists.specs.Bags.{Listing, number_of, arranged, placed_before, left, put_in_front, put_in_front_refusal}
 use Rattle.npos_base.specs.Account.{same_account}
 use Rattle.voter_lists.proofs.HomeLemmas.{number_test, number_same}
-use Rattle.voter_lists.specs.Refusal.{IsDue, answer_of, Meets}
-
-due_itself : (refusal : ListRefusal) → IsDue (Some refusal) refusal
-due_itself NoTargets = refl
-due_itself TooManyTargets = refl
-due_itself RepeatedTarget = refl
-due_itself NotValidator = refl
-due_itself TooManyValidators = refl
-due_itself BadFraction = refl
-due_itself NotListed = refl
-due_itself SameBag = refl
-due_itself OtherBag = refl
-due_itself NotHeavier = refl
-due_itself NoMemory = tt
-
-pub due_answer : (due : Option ListRefusal) (refusal : ListRefusal) → answer_of due ≡ Err refusal → IsDue due refusal
-due_answer None refusal e = absurd (cc)
-due_answer (Some other) refusal e = let same : other ≡ refusal = cc in subst (λ r. IsDue (Some other) r) same (due_itself other)
-
-pub meets_answer : {S T : Type 0} (due : Option ListRefusal) (refusal : ListRefusal) (done old : S) → answer_of due ≡ Err refusal → Meets {T = T} due done old old (Err refusal)
-meets_answer due refusal done old e = record { ok = tt; refused = due_answer due refusal e; unchanged = refl }
-
-pub refused_meets : {S T : Type 0} (due : Option ListRefusal) (refusal : ListRefusal) (done old : S) → due ≡ Some refusal → Meets {T = T} due done old old (Err refusal)
-refused_meets due refusal done old e = meets_answer due refusal done old (ap answer_of e)
-
-pub done_meets : {S : Type 0} (due : Option ListRefusal) (done old new : S) → due ≡ None → new ≡ done → Meets {T = Unit {0}} due done old new (Ok tt)
-done_meets due done old new e f = record { ok = (e, f); refused = tt; unchanged = tt }
 
 -- when an account is put in front of another
 module _ (listing : Listing) (who lighter : AccountId) (score lighter_score : ℕ) where

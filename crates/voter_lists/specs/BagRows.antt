@@ -5,6 +5,7 @@ use Rattle.std.specs.Map.{lookup}
 use Rattle.std.specs.BTreeMap.{is_at}
 use Rattle.npos_base.specs.declared.account.AccountId.{AccountId}
 use Rattle.npos_base.specs.Account.{account_cmp, same_account}
+use Rattle.npos_base.specs.declared.limits.TheConstants.{MOST_THRESHOLDS}
 use Rattle.voter_lists.specs.Bags.{Order, IsRisingFrom, is_in}
 
 -- the accounts of the bags, those of the last first
@@ -35,7 +36,7 @@ AreNoted home number (bag ∷ bags) = ((who : AccountId) → holds bag who ≡ i
 
 -- one bag more than there are thresholds, and each account noted with its bag
 pub record AreHomes (thresholds : List ℕ) (bags : List (List AccountId)) (home : AccountId → Option ℕ) : Type 0 where
-  pub few : length thresholds ≤ 200
+  pub few : length thresholds ≤ MOST_THRESHOLDS
   pub rising : IsRisingFrom 0 thresholds
   pub count : length bags ≡ length thresholds + 1
   pub noted : AreNoted home 0 bags

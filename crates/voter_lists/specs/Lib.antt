@@ -2,5 +2,4 @@ pub mod Bag
 pub mod BagRows
 pub mod Bags
 pub mod Ranked
-pub mod Refusal
 pub mod Roles

@@ -5,6 +5,7 @@ use Rattle.std.specs.Map.{lookup, remove_entry}
 use Rattle.std.specs.BTreeMap.{is_at, insert_entry}
 use Rattle.npos_base.specs.declared.account.AccountId.{AccountId}
 use Rattle.npos_base.specs.Account.{account_cmp, same_account}
+use Rattle.npos_base.specs.declared.limits.TheConstants.{MOST_NOMINATIONS, MOST_VALIDATORS, WHOLE_FRACTION}
 use Rattle.voter_lists.specs.declared.refusal.ListRefusal.{ListRefusal}
 use Rattle.voter_lists.specs.declared.refusal.ListRefusal.TheVariants.{NoTargets, TooManyTargets, RepeatedTarget, NotValidator, TooManyValidators, BadFraction, NotListed}
 use Rattle.voter_lists.specs.declared.standing.Standing.{Standing}
@@ -76,7 +77,7 @@ is_no_target roles who target = not (is_validator roles target) || same_account 
 abbrev pub nominate_refusal : RoleList → AccountId → List AccountId → Option ListRefusal
 nominate_refusal roles who targets =
     if nat_eq (length targets) 0 then Some NoTargets
-    else if nat_lt 16 (length targets) then Some TooManyTargets
+    else if nat_lt MOST_NOMINATIONS (length targets) then Some TooManyTargets
     else if has_repeat targets then Some RepeatedTarget
     else if list_any (λ target. is_no_target roles who target) targets then Some NotValidator
     else None
@@ -87,8 +88,8 @@ nominated roles who targets = with_standing roles who (standing.Nominator target
 -- a newcomer among validators of the full number is refused
 abbrev pub validate_refusal : RoleList → AccountId → ℕ → Option ListRefusal
 validate_refusal roles who commission =
-    if nat_lt 1000000000 commission then Some BadFraction
-    else if not (is_validator roles who) && nat_le 2048 (length (validators_of roles)) then Some TooManyValidators
+    if nat_lt WHOLE_FRACTION commission then Some BadFraction
+    else if not (is_validator roles who) && nat_le MOST_VALIDATORS (length (validators_of roles)) then Some TooManyValidators
     else None
 
 abbrev pub validating : RoleList → AccountId → ℕ → RoleList

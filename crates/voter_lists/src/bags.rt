@@ -1,6 +1,8 @@
 //! The bags, after Substrate's bags-list pallet: accounts by coarse score, so that no list is ever sorted.
 ghost use Rattle.std.specs.Prelude.{◌≡◌, ◌≢◌, ◌≤◌, [], ◌∷◌, length, IsTrue, Some, None, Ok, IfOk, OnOk, OnErr, not, true, false, slice_get};
-ghost use Rattle.voter_lists.specs.Refusal.{Meets};
+ghost use Rattle.npos_base.specs.declared.limits.TheConstants.{MOST_THRESHOLDS};
+ghost use Rattle.npos_base.specs.Refusal.{Meets};
+ghost use Rattle.voter_lists.specs.declared.refusal.ListRefusal.TheVariants as refusals;
 ghost use Rattle.voter_lists.specs.Bags.{Listing, IsRisingFrom, bag_of, is_listed, walk, account_after, inserted, removed, moved, updated, is_at_home, rebag_refusal, put_in_front, put_in_front_refusal};
 
 use crate::ListRefusal;
@@ -36,7 +38,7 @@ impl Model for Bags {
 impl Bags {
     /// Empty bags, one more than there are thresholds.
     pub fn new(alloc: Global, thresholds: List<u64>) -> Result<Bags, NoMemory>
-        requires few { length thresholds ≤ 200 }
+        requires few { length thresholds ≤ MOST_THRESHOLDS }
         requires rising { IsRisingFrom 0 thresholds }
         ensures { IfOk result (λ bags. bags ≡ record { thresholds = thresholds; order = [] }) }
     {
@@ -107,7 +109,7 @@ impl Bags {
 
     /// Moves the account to the tail of the bag of this score.
     pub fn rebag(&mut self, who: AccountId, score: u64) -> Result<(), ListRefusal>
-        ensures { Meets (rebag_refusal self.old who score) (moved self.old who score) self.old self.new result }
+        ensures { Meets refusals.NoMemory (rebag_refusal self.old who score) (moved self.old who score) self.old self.new result }
     {
         if !self.contains(who) {
             return Err(ListRefusal::NotListed);
@@ -126,7 +128,7 @@ impl Bags {
         lighter: AccountId,
         lighter_score: u64,
     ) -> Result<(), ListRefusal>
-        ensures { Meets (put_in_front_refusal self.old who score lighter lighter_score) (put_in_front self.old who lighter) self.old self.new result }
+        ensures { Meets refusals.NoMemory (put_in_front_refusal self.old who score lighter lighter_score) (put_in_front self.old who lighter) self.old self.new result }
     {
         let Some(home) = home_of(&self.homes, who) else {
             return Err(ListRefusal::NotListed);

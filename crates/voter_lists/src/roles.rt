@@ -2,23 +2,18 @@
 ghost use Rattle.std.specs.Prelude.{◌≡◌, ◌≢◌, ◌<◌, ◌≤◌, [], ◌∷◌, length, Some, slice_get};
 ghost use Rattle.std.specs.List.{list_any};
 ghost use Rattle.npos_base.specs.Account.{account_cmp};
-ghost use Rattle.voter_lists.specs.Refusal.{Meets, answer_of};
+ghost use Rattle.npos_base.specs.declared.limits.TheConstants.{MOST_VALIDATORS};
+ghost use Rattle.npos_base.specs.Refusal.{Meets, answer_of};
+ghost use Rattle.voter_lists.specs.declared.refusal.ListRefusal.TheVariants as refusals;
 ghost use Rattle.voter_lists.specs.Roles.{role_of, nominated_by, validators_of, is_validator, KeepsOthers, has_repeat, is_no_target, nominate_refusal, nominated, validate_refusal, validating, chill_refusal, without_role};
 
 use crate::ListRefusal;
 use crate::ranks::{enter, leave};
 use crate::standing::{Role, Standing};
-use npos_base::{AccountId, List};
+use npos_base::{AccountId, List, MOST_NOMINATIONS, MOST_VALIDATORS, WHOLE_FRACTION};
 use std::alloc::Global;
 use std::collections::BTreeMap;
 use std::marker::Model;
-
-/// The most validators that there are at a time.
-const MOST_VALIDATORS: usize = 2048;
-/// The most targets of one nominator.
-const MOST_TARGETS: usize = 16;
-/// The whole, in billionths.
-const BILLION: u32 = 1_000_000_000;
 
 /// Who is a validator and who a nominator. Contracts see the list of accounts with their standings, by rising account.
 #[derive(Drop)]
@@ -52,7 +47,7 @@ impl Roles {
 
     /// The account becomes a nominator of these targets, in place of any role that it had.
     pub fn nominate(&mut self, who: AccountId, targets: List<AccountId>) -> Result<(), ListRefusal>
-        ensures meets { Meets (nominate_refusal self.old who targets) (nominated self.old who targets) self.old self.new result }
+        ensures meets { Meets refusals.NoMemory (nominate_refusal self.old who targets) (nominated self.old who targets) self.old self.new result }
         ensures others { KeepsOthers self.old self.new who }
     {
         self.check_targets(who, targets.as_slice())?;
@@ -63,10 +58,10 @@ impl Roles {
 
     /// The account becomes a validator with this commission in billionths, in place of any role that it had.
     pub fn validate(&mut self, who: AccountId, commission: u32) -> Result<(), ListRefusal>
-        ensures meets { Meets (validate_refusal self.old who commission) (validating self.old who commission) self.old self.new result }
+        ensures meets { Meets refusals.NoMemory (validate_refusal self.old who commission) (validating self.old who commission) self.old self.new result }
         ensures others { KeepsOthers self.old self.new who }
     {
-        if commission > BILLION {
+        if commission > WHOLE_FRACTION {
             return Err(ListRefusal::BadFraction);
         }
         if !self.is_validator(who) && self.validators.len() >= MOST_VALIDATORS {
@@ -81,7 +76,7 @@ impl Roles {
 
     /// The account has no role any more. It takes no memory.
     pub fn chill(&mut self, who: AccountId) -> Result<(), ListRefusal>
-        ensures meets { Meets (chill_refusal self.old who) (without_role self.old who) self.old self.new result }
+        ensures meets { Meets refusals.NoMemory (chill_refusal self.old who) (without_role self.old who) self.old self.new result }
         ensures answer { result ≡ answer_of (chill_refusal self.old who) }
         ensures others { KeepsOthers self.old self.new who }
     {
@@ -119,7 +114,7 @@ impl Roles {
     /// How many validators there are, at most 2,048.
     pub fn validator_count(&self) -> usize
         ensures count { result ≡ length (validators_of self.now) }
-        ensures most { result ≤ 2048 }
+        ensures most { result ≤ MOST_VALIDATORS }
     {
         self.validators.len()
     }
@@ -145,7 +140,7 @@ impl Roles {
         if targets.is_empty() {
             return Err(ListRefusal::NoTargets);
         }
-        if targets.len() > MOST_TARGETS {
+        if targets.len() > MOST_NOMINATIONS {
             return Err(ListRefusal::TooManyTargets);
         }
         if repeats(targets) {

@@ -1,4 +1,4 @@
-use Rattle.scale_wire.specs.CompactSpelling.{least_bytes_is}
+use Rattle.scale_wire.specs.CompactSpellingLaws.{least_bytes_is}
 use Rattle.scale_wire.proofs.laws.value_bytes_are_the_fewest.Goals as goal
 
 pub returns : goal.returns

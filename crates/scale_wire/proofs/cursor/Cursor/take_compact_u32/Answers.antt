@@ -1,5 +1,5 @@
 use Rattle.std.proofs.Common.{ℕ, ◌+◌, ◌^◌, sym, subst, arith}
-use Rattle.scale_wire.specs.CompactWriting.{Suits}
+use Rattle.scale_wire.specs.CompactRange.{Suits}
 use Rattle.scale_wire.specs.CompactLaws.{suits_u32}
 use Rattle.scale_wire.proofs.PartLemmas.{suits_within}
 use Rattle.scale_wire.proofs.cursor.Cursor.take_compact_u32.Goals as goal

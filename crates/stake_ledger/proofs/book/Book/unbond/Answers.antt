@@ -1,4 +1,5 @@
 use Rattle.std.proofs.Common.{arith}
+use Rattle.std.proofs.lemmas.Result.{err_from_is_err_and}
 use Rattle.stake_ledger.specs.Rows.{unbonded}
 use Rattle.stake_ledger.specs.Ledger.{row_in}
 use Rattle.stake_ledger.specs.Calls.{unbond_amount}
@@ -18,6 +19,11 @@ overflow_sub-self c = omega (arith, active_within c.args.who _ _ c.self.invarian
 pub overflow_add-self : goal.overflow_add-self
 overflow_add-self c =
     omega (arith, totals_within _ _ c.self.invariant, active_within c.args.who _ _ c.self.invariant, c.in_ok-amount.ensures.amount)
+
+pub returns-in_err-amount-clause-refused : goal.returns-in_err-amount-clause-refused
+returns-in_err-amount-clause-refused c =
+    let p = err_from_is_err_and c.from_residual.result c.from_residual.ensures.1 in
+    rw (p.1, p.2) (rw (← c.self.view_is) c.in_err-amount.ensures.refused)
 
 pub invariant_of-self-2 : goal.invariant_of-self-2
 invariant_of-self-2 c =

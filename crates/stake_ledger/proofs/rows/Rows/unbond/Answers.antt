@@ -1,5 +1,6 @@
 use Rattle.std.proofs.Common.{◌≡◌, None, IfErr, IfOk, OnOk, slice_set, sym, ◌∙◌, subst}
-use Rattle.stake_ledger.specs.Refusals.{IsDue}
+use Rattle.npos_base.specs.Refusal.{IsDue}
+use Rattle.stake_ledger.specs.declared.refusal.LedgerRefusal.TheVariants as refusals
 use Rattle.stake_ledger.specs.Rows.{unbonded}
 use Rattle.stake_ledger.specs.Ledger.{with_row}
 use Rattle.stake_ledger.specs.Places.{rows_placed}
@@ -29,4 +30,4 @@ returns-in-Some-clause-amount c =
 
 pub returns-in-Some-clause-refused : goal.returns-in-Some-clause-refused
 returns-in-Some-clause-refused c =
-    subst (λ row. IfErr c.unbond.result (IsDue (unbond_refusal row c.args.value c.args.release c.args.least))) (row_found _ _ _ _ _ _ c.self.invariant c.self.view_is (sym c.find.ensures ∙ c.in-Some.is) c.index_mut.ensures.value) c.unbond.ensures.refused
+    subst (λ row. IfErr c.unbond.result (IsDue refusals.NoMemory (unbond_refusal row c.args.value c.args.release c.args.least))) (row_found _ _ _ _ _ _ c.self.invariant c.self.view_is (sym c.find.ensures ∙ c.in-Some.is) c.index_mut.ensures.value) c.unbond.ensures.refused
