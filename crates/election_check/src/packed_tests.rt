@@ -1,6 +1,6 @@
 //! Worked verdicts on packed solutions.
 use crate::Verdict;
-use crate::tests::{Voter, at, checker_of, finished, small};
+use crate::tests::{at, checker_of, finished};
 use compact_solution::Solution;
 use election_snapshot::{Snapshot, SnapshotBuilder};
 use npos_base::{List, Score};
@@ -19,15 +19,31 @@ const fn claim(minimal: u64, sum: u64, squares: u128) -> Score {
     }
 }
 
+/// A voter's stake and votes.
+type Voter<'a> = (u64, &'a [u16]);
+
 /// Two voters with a target each.
 const SIXTY: Voter<'_> = (60, &[0]);
 
 const FORTY: Voter<'_> = (40, &[1]);
 
+/// Three targets, two voters and two seats.
+fn small(alloc: Global, first: Voter<'_>, second: Voter<'_>) -> Result<Snapshot, Fail> {
+    let mut builder = SnapshotBuilder::new(alloc);
+    for n in 1..4 {
+        builder.add_target(at(n))?;
+    }
+    builder.add_voter(at(4), first.0, first.1)?;
+    builder.add_voter(at(5), second.0, second.1)?;
+    Ok(finished(builder, 2)?)
+}
+
 /// The bytes of a solution that ends with these groups, all others of which are empty.
 fn whole(alloc: Global, groups: &[u8], empty: usize) -> Result<Vec<u8>, Fail> {
     let mut bytes = groups.to_vec(alloc)?;
-    bytes.resize(groups.len() + empty, 0)?;
+    for _ in 0..empty {
+        bytes.push(0)?;
+    }
     Ok(bytes)
 }
 
@@ -38,8 +54,8 @@ fn judged(
     bytes: &[u8],
     claim: &Score,
 ) -> Result<(Verdict, usize, usize), Fail> {
-    let mut weights = Weights::with_room(alloc, &snapshot)?;
     let mut checker = checker_of(alloc, snapshot)?;
+    let mut weights = Weights::with_room(alloc, checker.snapshot())?;
     let verdict = checker.judge_bytes(alloc, bytes, claim, &mut weights)?;
     Ok((verdict, weights.committee().len(), weights.edges().len()))
 }
