@@ -11,6 +11,7 @@ use Rattle.npos_base.proofs.AccountOrder.{same_exact, same_itself}
 use Rattle.voter_lists.specs.Bags.{Order, in_bag, joined, left, placed_before, number_of, is_in}
 use Rattle.voter_lists.specs.Bag.{without, with_before}
 use Rattle.voter_lists.specs.BagRows.{numbered, walk_from, holds, AreNoted}
+use Rattle.voter_lists.specs.Nodes.{NotedAnew}
 
 pub number_test : (a b : ℕ) → a ≢ b → nat_eq a b ≡ false
 number_test a b differ = grind (arith, nat_tests)
@@ -163,11 +164,6 @@ noted_at home number (suc place) (bag ∷ bags) d h l who =
     noted_at home (number + 1) place bags d (omega (arith, h)) l.1 who ∙ ap (λ n. is_in (home who) n) (shifted number place) where
       shifted : (n p : ℕ) → n + 1 + p ≡ n + suc p
       shifted n p = omega arith
-
--- the notes after one account is noted anew
-pub record NotedAnew (home now : AccountId → Option ℕ) (who : AccountId) (noted : Option ℕ) : Type 0 where
-  pub here : now who ≡ noted
-  pub others : (q : AccountId) → same_account q who ≡ false → now q ≡ home q
 
 holds_join : (bag : List AccountId) (who q : AccountId) → holds (bag ++ who ∷ []) q ≡ (holds bag q || same_account who q)
 holds_join [] who q = or_false (same_account who q) where

@@ -2,12 +2,12 @@
 //! are listed, after Substrate's staking and bags-list pallets.
 #![tactic(auto)]
 
-mod bag;
 mod bags;
+mod nodes;
 mod ranks;
 mod refusal;
+mod rings;
 mod roles;
-mod rows;
 mod standing;
 mod walk;
 
