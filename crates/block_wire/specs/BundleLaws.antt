@@ -11,7 +11,7 @@ use Rattle.scale_wire.specs.ValueLaws.{edge_laws, score_laws}
 use Rattle.scale_wire.specs.CompactLaws.{compact_u16_laws, compact_u32_laws, compact_u64_laws, length_laws}
 use Rattle.scale_wire.specs.FormLaws.{nothing_laws, pair_laws, triple_laws, seen_laws, list_laws, byte_list_laws, AreVariants, HasChoice, given_at, enum_laws}
 use Rattle.npos_base.specs.declared.limits.TheConstants.{MOST_SOLUTION_BYTES}
-use Rattle.block_wire.specs.declared.limits.TheConstants.{MOST_LISTED_TARGETS, MOST_LISTED_VOTERS, MOST_VOTES, MOST_EDGES}
+use Rattle.block_wire.specs.declared.limits.TheConstants.{MOST_TARGETS, MOST_VOTERS, MOST_VOTES, MOST_EDGES}
 use Rattle.block_wire.specs.declared.bundle.Work.{Work}
 use Rattle.block_wire.specs.declared.bundle.Work.TheVariants.{Nothing, Packed, Plain}
 use Rattle.block_wire.specs.Bundles.{voter_form, works, work_choice, work_form, election_form, bundle_form}
@@ -34,8 +34,8 @@ works_are = (
         (byte_list_laws MOST_SOLUTION_BYTES (length_laws MOST_SOLUTION_BYTES (lit< tt)) byte_string_laws),
     (λ values. (Packed values.0 values.1, refl)),
     (
-      pair_laws (list compact_u16 MOST_LISTED_TARGETS) (list edge_form MOST_EDGES)
-          (list_laws compact_u16 MOST_LISTED_TARGETS (length_laws MOST_LISTED_TARGETS (lit< tt)) compact_u16_laws)
+      pair_laws (list compact_u16 MOST_TARGETS) (list edge_form MOST_EDGES)
+          (list_laws compact_u16 MOST_TARGETS (length_laws MOST_TARGETS (lit< tt)) compact_u16_laws)
           (list_laws edge_form MOST_EDGES (length_laws MOST_EDGES (lit< tt)) edge_laws),
       (λ values. (Plain values.0 values.1, refl)),
       tt,
@@ -55,9 +55,9 @@ work_laws = enum_laws works work_choice works_are work_back (tag_laws 3)
 
 election_laws : IsWire election_form
 election_laws =
-    triple_laws (list account_form MOST_LISTED_TARGETS) (list voter_form MOST_LISTED_VOTERS) work_form
-    (list_laws account_form MOST_LISTED_TARGETS (length_laws MOST_LISTED_TARGETS (lit< tt)) account_laws)
-    (list_laws voter_form MOST_LISTED_VOTERS (length_laws MOST_LISTED_VOTERS (lit< tt)) voter_laws) work_laws
+    triple_laws (list account_form MOST_TARGETS) (list voter_form MOST_VOTERS) work_form
+    (list_laws account_form MOST_TARGETS (length_laws MOST_TARGETS (lit< tt)) account_laws)
+    (list_laws voter_form MOST_VOTERS (length_laws MOST_VOTERS (lit< tt)) voter_laws) work_laws
 
 pub bundle_laws : IsWire bundle_form
 bundle_laws =

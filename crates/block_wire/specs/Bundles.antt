@@ -7,7 +7,7 @@ use Rattle.scale_wire.specs.Parts.{account_form, compact_u16, compact_u32, compa
 use Rattle.scale_wire.specs.Values.{edge_form, score_form}
 use Rattle.scale_wire.specs.Composite.{nothing, pair, triple, seen, list, byte_list, Fields, fields, Choice, choice}
 use Rattle.npos_base.specs.declared.limits.TheConstants.{MOST_SOLUTION_BYTES}
-use Rattle.block_wire.specs.declared.limits.TheConstants.{MOST_LISTED_TARGETS, MOST_LISTED_VOTERS, MOST_VOTES, MOST_EDGES}
+use Rattle.block_wire.specs.declared.limits.TheConstants.{MOST_TARGETS, MOST_VOTERS, MOST_VOTES, MOST_EDGES}
 use Rattle.block_wire.specs.declared.bundle.Bundle.{Bundle}
 use Rattle.block_wire.specs.declared.bundle.BundleVoter.{BundleVoter}
 use Rattle.block_wire.specs.declared.bundle.Work.{Work}
@@ -22,7 +22,7 @@ voter_form = seen
 
 -- a committee, as positions of targets, and its edges
 abbrev pub plain_form : Form (List ℕ × List Edge)
-plain_form = pair (list compact_u16 MOST_LISTED_TARGETS) (list edge_form MOST_EDGES)
+plain_form = pair (list compact_u16 MOST_TARGETS) (list edge_form MOST_EDGES)
 
 -- the fields of each kind of work, in the order of the tags from 0
 abbrev pub works : List Fields
@@ -44,7 +44,7 @@ work_form = seen (choice works) work_choice
 
 -- the targets, the voters and the work
 abbrev pub election_form : Form (List AccountId × List BundleVoter × Work)
-election_form = triple (list account_form MOST_LISTED_TARGETS) (list voter_form MOST_LISTED_VOTERS) work_form
+election_form = triple (list account_form MOST_TARGETS) (list voter_form MOST_VOTERS) work_form
 
 abbrev pub bundle_form : Form Bundle
 bundle_form = seen

@@ -4,9 +4,9 @@ ghost use Rattle.scale_wire.specs.Reading.{Reads, Writes};
 ghost use Rattle.scale_wire.specs.Composite.{behind_tag};
 ghost use Rattle.block_wire.specs.Bundles.{plain_form, works, work_choice, work_form};
 
-use crate::limits::{MOST_EDGES, MOST_LISTED_TARGETS, MOST_LISTED_VOTERS, MOST_VOTES};
+use crate::limits::{MOST_EDGES, MOST_SOLUTION_BYTES, MOST_TARGETS, MOST_VOTERS, MOST_VOTES};
 use crate::writing::{write_fields, write_listed, write_packed};
-use npos_base::{AccountId, Edge, List, MOST_SOLUTION_BYTES, NoMemory, Score};
+use npos_base::{AccountId, Edge, List, NoMemory, Score};
 use scale_wire::fault::ReadFault;
 use scale_wire::{BytesUpTo, Cursor, Pen, UpTo, Wire, write_list};
 use std::alloc::Global;
@@ -117,7 +117,7 @@ fn read_fields(alloc: Global, tag: u8, cursor: &mut Cursor<'_>) -> Result<Work, 
     }
 }
 
-type Committee = UpTo<u16, MOST_LISTED_TARGETS>;
+type Committee = UpTo<u16, MOST_TARGETS>;
 
 type Edges = UpTo<Edge, MOST_EDGES>;
 
@@ -142,8 +142,8 @@ pub struct Bundle {
 
 // The targets, the voters and the work.
 type Election = (
-    UpTo<AccountId, MOST_LISTED_TARGETS>,
-    UpTo<BundleVoter, MOST_LISTED_VOTERS>,
+    UpTo<AccountId, MOST_TARGETS>,
+    UpTo<BundleVoter, MOST_VOTERS>,
     Work,
 );
 

@@ -4,9 +4,9 @@ ghost use Rattle.scale_wire.specs.Reading.{Reads, Writes};
 ghost use Rattle.scale_wire.specs.Composite.{behind_tag};
 ghost use Rattle.block_wire.specs.Calls.{kinds, kind_choice, kind_form};
 
-use crate::limits::{MOST_NAMED, MOST_POINTS};
+use crate::limits::{MOST_NAMED, MOST_POINTS, MOST_SOLUTION_BYTES};
 use crate::writing::{write_fields, write_listed, write_packed};
-use npos_base::{AccountId, List, MOST_SOLUTION_BYTES, NoMemory, Score};
+use npos_base::{AccountId, List, NoMemory, Score};
 use scale_wire::fault::ReadFault;
 use scale_wire::{BytesUpTo, Cursor, Pen, UpTo, Wire, write_both};
 use std::alloc::Global;

@@ -4,8 +4,9 @@ ghost use Rattle.scale_wire.specs.Reading.{Reads, Writes};
 ghost use Rattle.scale_wire.specs.Composite.{behind_tag};
 ghost use Rattle.block_wire.specs.Genesis.{full_form, geneses, genesis_choice, genesis_form};
 
+use crate::limits::{MOST_ENDOWMENTS, MOST_THRESHOLDS};
 use crate::writing::write_listed;
-use npos_base::{AccountId, List, MOST_ENDOWMENTS, MOST_THRESHOLDS, NoMemory};
+use npos_base::{AccountId, List, NoMemory};
 use scale_wire::fault::ReadFault;
 use scale_wire::{Cursor, Pen, UpTo, Wire, write_list};
 use std::alloc::Global;

@@ -16,7 +16,3 @@ pub use block::Block;
 pub use bundle::{Bundle, BundleVoter, Work};
 pub use call::{Call, CallKind};
 pub use genesis::{Endowment, Genesis, Params};
-pub use limits::{
-    MOST_CALLS, MOST_EDGES, MOST_LISTED_TARGETS, MOST_LISTED_VOTERS, MOST_NAMED, MOST_POINTS,
-    MOST_VOTES,
-};

@@ -1,8 +1,15 @@
 //! `npos`: replays a chain's staking from standard input to standard output.
 #![tactic(auto)]
+ghost use Rattle.std.specs.Prelude.{◌≡◌, map, IfOk, IfErr, string_bytes};
+ghost use Rattle.std.specs.Process.{exit_status};
+ghost use Rattle.npos_cli.specs.declared.status.Status.{Status};
+ghost use Rattle.npos_cli.specs.Status.{number_of};
+ghost use Rattle.npos_cli.specs.Report.{IsAnswer};
+ghost use Rattle.npos_cli.specs.Owed.{Answers};
 
-use npos_base::{StdinSource, StdoutSink};
+use npos_base::{Sink, Source, StdinSource, StdoutSink};
 use npos_cli::{Status, run};
+use std::alloc::Global;
 use std::env;
 use std::io::ErrorKind;
 use std::process::ExitCode;
@@ -28,13 +35,29 @@ fn words(rt: &HostRuntime) -> Result<Vec<String>, u8> {
     Ok(words)
 }
 
+/// Runs the program over its words and ends with the number of its status. Where there are no words it ends with the
+/// status that says why, and reads and writes nothing.
+fn finish<S: Source, K: Sink>(
+    alloc: Global,
+    words: Result<Vec<String>, u8>,
+    source: &mut S,
+    sink: &mut K,
+) -> ExitCode
+    ensures answers { IfOk words (λ words. (status : Status) × (exit_status result ≡ number_of status)
+        × (IsAnswer status → Answers (map string_bytes words.items) (S.left source.old)
+        (K.told sink.old) (K.told sink.new) status)) }
+    ensures no_words { IfErr words (λ number. (exit_status result ≡ number)
+        × (source.new ≡ source.old) × (sink.new ≡ sink.old)) }
+{
+    match words {
+        Ok(words) => ExitCode::from(run(alloc, words.as_slice(), source, sink).number()),
+        Err(number) => ExitCode::from(number),
+    }
+}
+
 fn main(rt: HostRuntime) -> ExitCode {
-    let words = match words(&rt) {
-        Ok(words) => words,
-        Err(number) => return ExitCode::from(number),
-    };
+    let words = words(&rt);
     let mut source = StdinSource::new(rt.stdin());
     let mut sink = StdoutSink::new(rt.stdout());
-    let status = run(rt.alloc(), words.as_slice(), &mut source, &mut sink);
-    ExitCode::from(status.number())
+    finish(rt.alloc(), words, &mut source, &mut sink)
 }

@@ -1,5 +1,5 @@
 //! A list whose room is made beforehand, so that its growth cannot be refused.
-ghost use Rattle.std.specs.Prelude.{◌≡◌, ◌↔◌, ◌+◌, ◌≤◌, ◌<◌, [], ◌∷◌, ◌++◌, length, IsTrue, OnOk, OnErr, IfOk};
+ghost use Rattle.std.specs.Prelude.{◌≡◌, ◌↔◌, ◌+◌, ◌≤◌, ◌<◌, [], ◌∷◌, ◌++◌, length, IsTrue, OnOk, OnErr, IfOk, IsSorted, IsPermutation};
 
 use crate::{List, NoMemory};
 use std::alloc::Global;
@@ -61,6 +61,18 @@ impl<T> Room<T> {
         ensures spare { length self.old.items + self.old.spare ≤ self.new.spare }
     {
         self.items.clear();
+    }
+
+    /// Puts the items in rising order. It takes no memory.
+    pub fn sort_unstable(&mut self)
+    where
+        T: Ord,
+        ensures sorted { IsSorted T.cmp self.new.items }
+        ensures same { IsPermutation self.old.items self.new.items }
+        ensures count { length self.new.items ≡ length self.old.items }
+        ensures spare { self.new.spare ≡ self.old.spare }
+    {
+        self.items.sort_unstable();
     }
 
     /// The items, in order.

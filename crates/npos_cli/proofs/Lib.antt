@@ -1,11 +1,13 @@
 pub mod ReplayLaws
 pub mod EdgeLaws
 pub mod GrowLaws
-pub mod WordLaws
 pub mod ChainLaws
+pub mod ElectionLaws
+pub mod SoundLaws
 pub mod TurnLaws
 pub mod StartLaws
 pub mod BookLaws
 pub mod RunLaws
+pub mod PromiseLaws
 pub mod WholeLaws
 pub mod FaultLaws

@@ -1,95 +1,137 @@
--- From what a run owed and what was delivered to the clauses of `run`.
-use Rattle.std.proofs.Common.{◌≡◌, inl, ℕ, Bool, true, false, List, [], ◌++◌, length, Option, Some, None, Result, Ok, IfSome, if◌then◌else◌, refl, sym, ◌∙◌, ap, subst, arith}
-use Rattle.std.proofs.lemmas.List.{take_all}
+-- From what a run owes and what was delivered to the clauses of `run`.
+use Rattle.std.proofs.Common.{◌≡◌, ◌⊎◌, inl, inr, ℕ, ◌+◌, ◌<◌, ◌≤◌, Bool, true, false, List, [], ◌++◌, length, Option, Some, None, Result, Ok, IfSome, if◌then◌else◌, refl, sym, ◌∙◌, ap, subst, arith, length-append}
+use Rattle.std.proofs.lemmas.List.{take_all, append-nil}
+use Rattle.std.proofs.lemmas.Bool.{lt-ltb, cases_lt}
 use Rattle.npos_base.specs.Outside.{Told}
+use Rattle.scale_wire.specs.Form.{IsBytes}
+use Rattle.npos_cli.specs.declared.job.Job.{Job}
+use Rattle.npos_cli.specs.declared.job.Job.TheVariants as jobs
 use Rattle.npos_cli.specs.declared.status.Status.{Status}
 use Rattle.npos_cli.specs.declared.status.Status.TheVariants as statuses
-use Rattle.npos_cli.specs.declared.top.Due.{Due}
-use Rattle.npos_cli.specs.declared.top.Due.TheVariants.{Usage, Replay}
-use Rattle.npos_cli.specs.Words.{HasForm, usage_line}
+use Rattle.npos_cli.specs.Words.{job_of, usage_line}
+use Rattle.npos_cli.specs.Report.{JobOwes, Owes, replay_status, IsAnswer, IsJudged}
 use Rattle.npos_cli.specs.Replay.{Outcome, IsReplay}
 use Rattle.npos_runtime.specs.declared.chain.Chain.{Chain}
 use Rattle.npos_cli.specs.Chain.{npos_machine}
-use Rattle.npos_cli.specs.Owed.{Delivers, DeliversFront, DeliversReplay, DeliversReplayFront, ComesWith, Replays, FindsReplay}
-use Rattle.npos_cli.specs.Due.{due_text, due_status, IsDue}
-use Rattle.npos_cli.proofs.ReplayLaws.{one_replay}
+use Rattle.scale_wire.specs.WholeReading.{read_as}
+use Rattle.block_wire.specs.Bundles.{bundle_form}
+use Rattle.block_wire.specs.BundleLaws.{bundle_laws}
+use Rattle.npos_cli.specs.Verdicts.{long_line, most_bundle}
+use Rattle.npos_cli.specs.Bundles.{Report, faulty, read_report, check_report, IsSound}
+use Rattle.npos_cli.specs.Owed.{IsAll, LeftAfter, ReadsUpTo, TakesAtMost, IsDrained, Delivers, DeliversFront, FindsReplay, Finds, FindsFor, IsOwed, BeginsToAnswer}
+use Rattle.npos_cli.proofs.ReplayLaws.{one_replay, any_replay}
 use Rattle.npos_cli.proofs.ChainLaws.{genesis_laws, turn_laws}
 
-is_done : (faulty : Bool) → (if faulty then statuses.BadInput else statuses.Done) ≡ statuses.Done → faulty ≡ false
-is_done true e = cc
-is_done false e = refl
+-- what a replay found is what is owed
+pub replay_found : (old new : Option (List ℕ)) (text : List ℕ) (faulty : Bool) (status : Status) → FindsReplay npos_machine old new text faulty
+    → status ≡ replay_status faulty → FindsFor (Some jobs.Replay) old text status
+replay_found old new text faulty status finds is =
+    (finds.0, finds.1, (record { text = text; faulty = faulty; last = finds.2.0 }, finds.2.1, refl, is))
 
-is_bad : (faulty : Bool) → (if faulty then statuses.BadInput else statuses.Done) ≡ statuses.BadInput → faulty ≡ true
-is_bad true e = refl
-is_bad false e = cc
+pub replay_drained : (old new : Option (List ℕ)) (text : List ℕ) (faulty : Bool) (status : Status) → FindsReplay npos_machine old new text faulty
+    → status ≡ replay_status faulty → IsJudged status → IsDrained old new
+replay_drained old new text false status finds is judged = finds.3 refl
+replay_drained old new text true status finds is judged = absurd (subst (λ (s : Status). IsJudged s) is judged)
+
+-- words that ask for no job owe the usage line
+pub nothing_asked : (job : Option Job) (left : Option (List ℕ)) → job ≡ None → FindsFor job left usage_line statuses.Usage
+nothing_asked job left none = on left where
+  owed : (bytes : List ℕ) → JobOwes job bytes usage_line statuses.Usage
+  owed bytes = subst (λ (j : Option Job). JobOwes j bytes usage_line statuses.Usage) (sym none) (refl, refl)
+
+  on : (left : Option (List ℕ)) → FindsFor job left usage_line statuses.Usage
+  on None = ([], tt, owed [])
+  on (Some bytes) = (bytes, refl, owed bytes)
 
 pub delivered_front : (old new : Option Told) (text : List ℕ) → Delivers old new text → DeliversFront old new text
 delivered_front old None text delivers = tt
 delivered_front old (Some now) text delivers =
     (delivers.0, length text, delivers.1, delivers.2 ∙ ap (λ all. delivers.0.written ++ all) (sym (take_all (length text) text (omega arith))))
 
-module _ (words : List (List ℕ)) (old new : Option (List ℕ)) (told told' : Option Told) where
-  -- the replay that was found is that of the bytes left at entry
-  of_left : (left : List ℕ) (text : List ℕ) (faulty : Bool) → FindsReplay npos_machine (Some left) new text faulty → Replays npos_machine left text faulty
-  of_left left text faulty finds = subst (λ (bytes : List ℕ). Replays npos_machine bytes text faulty) finds.1 finds.2
+-- words and bytes owe one text and one status
+pub one_owed : (words : List (List ℕ)) (bytes text other : List ℕ) (status end : Status) → Owes words bytes text status → Owes words bytes other end
+    → (text ≡ other) × (status ≡ end)
+one_owed words bytes text other status end first second = by (job_of words) first second where
+  by : (job : Option Job) → JobOwes job bytes text status → JobOwes job bytes other end → (text ≡ other) × (status ≡ end)
+  by None first second = (first.0 ∙ sym second.0, first.1 ∙ sym second.1)
+  by (Some jobs.Replay) first second =
+      let same = one_replay npos_machine genesis_laws turn_laws bytes first.0 second.0 first.1 second.1 in
+      (first.2 ∙ (ap (λ (o : Outcome Chain). o.text) same ∙ sym second.2), first.3 ∙ (ap (λ (o : Outcome Chain). replay_status o.faulty) same ∙ sym second.3))
+  by (Some jobs.Check) first second =
+      (ap (λ (r : Report). r.text) (first ∙ sym second), ap (λ (r : Report). r.status) (first ∙ sym second))
 
-  ends : (left text : List ℕ) (faulty due : Bool) → FindsReplay npos_machine (Some left) new text faulty → Delivers told told' text → faulty ≡ due
-      → DeliversReplay npos_machine due told told' left
-  ends left text faulty due finds delivers is_due =
-      let r = of_left left text faulty finds in
-      (record { text = text; faulty = faulty; last = r.0 }, r.1, is_due, delivers)
+-- a front of what was found is a front of what is owed
+pub front_found : (words : List (List ℕ)) (left : Option (List ℕ)) (old new : Option Told) (text : List ℕ) (status : Status) → Finds words left text status
+    → DeliversFront old new text → BeginsToAnswer words left old new
+front_found words left old new text status finds front other end owed =
+    subst (λ (t : List ℕ). DeliversFront old new t) (one_owed words finds.0 text other status end finds.2 (owed finds.0 finds.1)).0 front
 
-  pub done_of : (due : Due) → IsDue words old new due → Delivers told told' (due_text due) → due_status due ≡ statuses.Done
-      → HasForm words × IfSome old (λ bytes. DeliversReplay npos_machine false told told' bytes × (new ≡ Some []))
-  done_of Usage is_due delivers done = cc
-  done_of (Replay found) is_due delivers done = (is_due.0, on old is_due.1)
-    where
-      on : (old : Option (List ℕ)) → FindsReplay npos_machine old new found.text.items found.faulty
-          → IfSome old (λ bytes. DeliversReplay npos_machine false told told' bytes × (new ≡ Some []))
-      on None finds = tt
-      on (Some left) finds = (ends left found.text.items found.faulty false finds delivers (is_done found.faulty done), finds.3 (is_done found.faulty done))
+-- the whole of what was found is a front of what is owed
+pub front_delivered : (words : List (List ℕ)) (left : Option (List ℕ)) (old new : Option Told) (text : List ℕ) (status : Status) → Finds words left text status
+    → Delivers old new text → BeginsToAnswer words left old new
+front_delivered words left old new text status finds delivers =
+    front_found words left old new text status finds (delivered_front old new text delivers)
 
-  pub bad_of : (due : Due) → IsDue words old new due → Delivers told told' (due_text due) → due_status due ≡ statuses.BadInput
-      → HasForm words × IfSome old (DeliversReplay npos_machine true told told')
-  bad_of Usage is_due delivers bad = cc
-  bad_of (Replay found) is_due delivers bad = (is_due.0, on old is_due.1)
-    where
-      on : (old : Option (List ℕ)) → FindsReplay npos_machine old new found.text.items found.faulty → IfSome old (DeliversReplay npos_machine true told told')
-      on None finds = tt
-      on (Some left) finds = ends left found.text.items found.faulty true finds delivers (is_bad found.faulty bad)
+-- every list of bytes is answered
+pub any_owed : (words : List (List ℕ)) (bytes : List ℕ) → IsBytes bytes → (text : List ℕ) × (status : Status) × Owes words bytes text status
+any_owed words bytes are = by (job_of words) where
+  by : (job : Option Job) → (text : List ℕ) × (status : Status) × JobOwes job bytes text status
+  by None = (usage_line, statuses.Usage, (refl, refl))
+  by (Some jobs.Replay) =
+      let r = any_replay npos_machine genesis_laws turn_laws bytes are in
+      (r.outcome.text, replay_status r.outcome.faulty, (r.outcome, r.is_replay, refl, refl))
+  by (Some jobs.Check) = ((check_report bytes).text, (check_report bytes).status, refl)
 
-  -- the bytes have one replay, so its status and text are those that were found
-  found_once : (left text : List ℕ) (faulty : Bool) → FindsReplay npos_machine (Some left) new text faulty
-      → (out : Outcome Chain) → IsReplay npos_machine left out → (text ≡ out.text) × (faulty ≡ out.faulty)
-  found_once left text faulty finds out is_replay =
-      let r = of_left left text faulty finds in
-      let same = one_replay npos_machine genesis_laws turn_laws left (record { text = text; faulty = faulty; last = r.0 }) out r.1 is_replay in
-      (ap (λ (o : Outcome Chain). o.text) same, ap (λ (o : Outcome Chain). o.faulty) same)
+-- ## A check
 
-  pub comes_with : (faulty : Bool) (rose : Type 0) (due : Due) (status : Status) → status ≡ due_status due → IsDue words old new due → HasForm words
-      → IfSome old (λ bytes. ComesWith npos_machine bytes faulty (if faulty then statuses.BadInput else statuses.Done) status rose)
-  comes_with faulty rose Usage status status_is is_due form = absurd (is_due form)
-  comes_with faulty rose (Replay found) status status_is is_due form = on old is_due.1
-    where
-      on : (old : Option (List ℕ)) → FindsReplay npos_machine old new found.text.items found.faulty
-          → IfSome old (λ bytes. ComesWith npos_machine bytes faulty (if faulty then statuses.BadInput else statuses.Done) status rose)
-      on None finds = tt
-      on (Some left) finds = λ out is_replay ends_so.
-          let once = found_once left found.text.items found.faulty finds out is_replay in
-          inl (status_is ∙ ap (λ (b : Bool). if b then statuses.BadInput else statuses.Done) (once.1 ∙ ends_so))
+-- bytes within the limit are all that was left
+all_left : (most : ℕ) (left : List ℕ) (now : Option (List ℕ)) (bytes : List ℕ) → ReadsUpTo most (Some left) now bytes → length bytes ≤ most → bytes ≡ left
+all_left most left now bytes reads within =
+    let t = reads.taken in
+    let empty : t.0 ≡ [] = let e : Some t.0 ≡ Some [] = sym t.1 ∙ reads.ended within in cc in
+    sym (t.2 ∙ (ap (λ (rest : List ℕ). bytes ++ rest) empty ∙ append-nil bytes))
 
-  pub front_of : (due : Due) → IsDue words old new due → DeliversFront told told' (due_text due) → HasForm words
-      → IfSome old (DeliversReplayFront npos_machine told told')
-  front_of Usage is_due front form = absurd (is_due form)
-  front_of (Replay found) is_due front form = on old is_due.1
-    where
-      on : (old : Option (List ℕ)) → FindsReplay npos_machine old new found.text.items found.faulty → IfSome old (DeliversReplayFront npos_machine told told')
-      on None finds = tt
-      on (Some left) finds = λ out is_replay.
-          let once = found_once left found.text.items found.faulty finds out is_replay in
-          subst (λ (text : List ℕ). DeliversFront told told' text) once.0 front
+-- more than the limit is reported alike, whatever follows
+long_report : (bytes : List ℕ) → most_bundle < length bytes → check_report bytes ≡ faulty long_line
+long_report bytes over = ap (λ (b : Bool). if b then faulty long_line else read_report (length bytes) (read_as bundle_form bundle_laws bytes))
+    (lt-ltb most_bundle (length bytes) over)
 
-pub usage_front_of : (told told' : Option Told) (due : Due) (found : Result Due Status) → found ≡ Ok due → found ≡ Ok Usage
-    → DeliversFront told told' (due_text due) → DeliversFront told told' usage_line
-usage_front_of told told' due found is_found is_usage front =
-    let same : due ≡ Usage = cc in subst (λ (d : Due). DeliversFront told told' (due_text d)) same front
+-- what is reported of the bytes that were read is what is reported of all
+pub report_read : (left : List ℕ) (now : Option (List ℕ)) (bytes : List ℕ) → ReadsUpTo most_bundle (Some left) now bytes → check_report bytes ≡ check_report left
+report_read left now bytes reads = elim (cases_lt most_bundle (length bytes)) [
+    inl over ↦
+      long_report bytes over ∙ sym (long_report left (let t = reads.taken in
+      omega (arith, over, ap length t.2, length-append bytes t.0)))
+  | inr within ↦ ap check_report (all_left most_bundle left now bytes reads within)
+  ]
+
+pub check_found : (old now : Option (List ℕ)) (bytes text : List ℕ) (status : Status) → ReadsUpTo most_bundle old now bytes
+    → record { text = text; status = status } ≡ check_report bytes → FindsFor (Some jobs.Check) old text status
+check_found None now bytes text status reads is = (bytes, tt, is)
+check_found (Some left) now bytes text status reads is = (left, refl, is ∙ report_read left now bytes reads)
+
+pub check_drained : (old now : Option (List ℕ)) (bytes text : List ℕ) (status : Status) → ReadsUpTo most_bundle old now bytes
+    → record { text = text; status = status } ≡ check_report bytes → IsJudged status → IsDrained old now
+check_drained old now bytes text status reads is judged = elim (cases_lt most_bundle (length bytes)) [
+    inl over ↦
+      let faulty_is : status ≡ statuses.BadInput = ap (λ (r : Report). r.status) (is ∙ long_report bytes over) in
+      absurd (subst (λ (s : Status). IsJudged s) faulty_is judged)
+  | inr within ↦ reads.ended within
+  ]
+
+pub check_few : (old now : Option (List ℕ)) (bytes : List ℕ) → ReadsUpTo most_bundle old now bytes → TakesAtMost (most_bundle + 1) old now
+check_few old now bytes reads = (bytes, reads.taken, reads.few)
+
+pub check_sound : (old now : Option (List ℕ)) (bytes text : List ℕ) (status : Status) → ReadsUpTo most_bundle old now bytes
+    → record { text = text; status = status } ≡ check_report bytes → (status ≡ statuses.Done → IsSound bytes) → status ≡ statuses.Done
+    → IfSome old IsSound
+check_sound None now bytes text status reads is sound done = tt
+check_sound (Some left) now bytes text status reads is sound done =
+    let judged : IsJudged status = subst (λ (s : Status). IsJudged s) (sym done) tt in
+    let within : length bytes ≤ most_bundle = elim (cases_lt most_bundle (length bytes)) [
+        inl over ↦
+          let faulty_is : status ≡ statuses.BadInput = ap (λ (r : Report). r.status) (is ∙ long_report bytes over) in
+          absurd (subst (λ (s : Status). IsJudged s) faulty_is judged)
+      | inr within ↦ within
+      ] in
+    subst (λ (b : List ℕ). IsSound b) (all_left most_bundle left now bytes reads within) (sound done)

@@ -1,8 +1,19 @@
--- What follows for the replays of all bytes.
+-- What follows for all words and all bytes.
 use Rattle.std.specs.Prelude.{◌≡◌, ℕ, true, List, ◌++◌}
 use Rattle.scale_wire.specs.declared.fault.Why.TheVariants.{Short}
 use Rattle.scale_wire.specs.Form.{IsBytes}
+use Rattle.npos_cli.specs.declared.status.Status.{Status}
+use Rattle.npos_cli.specs.Report.{Owes}
 use Rattle.npos_cli.specs.Replay.{Machine, Spot, turn, Starts, Reaches, Outcome, IsReplay, IsWhole, IsFront}
+
+-- words and bytes owe at most one text and one status
+abbrev pub OwesOnce : Type 0
+OwesOnce = (words : List (List ℕ)) (bytes text other : List ℕ) (status end : Status) → Owes words bytes text status → Owes words bytes other end
+    → (text ≡ other) × (status ≡ end)
+
+-- words owe a text and a status for each list of bytes
+abbrev pub OwesAlways : Type 0
+OwesAlways = (words : List (List ℕ)) (bytes : List ℕ) → IsBytes bytes → (text : List ℕ) × (status : Status) × Owes words bytes text status
 
 -- each byte list has at most one replay
 abbrev pub IsReplayedOnce : {G B S : Type 0} → Machine G B S → Type 0

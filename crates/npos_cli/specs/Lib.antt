@@ -3,10 +3,15 @@ pub mod Pieces
 pub mod Replay
 pub mod Status
 pub mod Words
+pub mod Elections
+pub mod Verdicts
+pub mod Bundles
+pub mod Report
 pub mod Owed
 pub mod Ahead
 pub mod Chain
 pub mod Books
 pub mod Turning
+pub mod Answer
 pub mod Due
 pub mod Laws

@@ -1,9 +1,12 @@
--- What a run owes: which text reaches the sink, and what is left in the source.
-use Rattle.std.specs.Prelude.{◌≡◌, ◌⊎◌, ⊤, ℕ, ◌≤◌, Bool, true, false, List, [], ◌++◌, length, take, Option, Some, None, Result, Ok, Err}
+-- How far a run goes with what it owes: which text reaches the sink, and what is left in the source.
+use Rattle.std.specs.Prelude.{◌≡◌, ◌⊎◌, ⊤, ℕ, ◌≤◌, ◌+◌, Bool, true, false, List, [], ◌++◌, length, take, Option, Some, None, Result, Ok, Err}
 use Rattle.npos_base.specs.Outside.{Told, Rose, IsAtEnd}
 use Rattle.npos_cli.specs.declared.status.Status.{Status}
 use Rattle.npos_cli.specs.declared.status.Status.TheVariants as statuses
 use Rattle.npos_cli.specs.Replay.{Machine, Outcome, IsReplay}
+use Rattle.npos_cli.specs.declared.job.Job.{Job}
+use Rattle.npos_cli.specs.Words.{job_of}
+use Rattle.npos_cli.specs.Report.{JobOwes, Owes}
 
 -- The text was appended whole, and all that was ever written is flushed.
 -- Nothing is said of a sink that does not tell its bytes.
@@ -72,3 +75,33 @@ Replays {G} {B} {S} m bytes text faulty = (last : Option S) × IsReplay m bytes 
 abbrev pub FindsReplay : {G B S : Type 0} → Machine G B S → Option (List ℕ) → Option (List ℕ) → List ℕ → Bool → Type 0
 FindsReplay m old now text faulty =
     (bytes : List ℕ) × IsAll old bytes × Replays m bytes text faulty × (faulty ≡ false → IsDrained old now)
+
+-- The text and the status are what is owed for all that was left in the source. For a source that does not tell its
+-- bytes they are what is owed for some bytes.
+abbrev pub FindsFor : Option Job → Option (List ℕ) → List ℕ → Status → Type 0
+FindsFor job left text status = (bytes : List ℕ) × IsAll left bytes × JobOwes job bytes text status
+
+abbrev pub Finds : List (List ℕ) → Option (List ℕ) → List ℕ → Status → Type 0
+Finds words = FindsFor (job_of words)
+
+-- what is owed was delivered whole
+abbrev pub Answers : List (List ℕ) → Option (List ℕ) → Option Told → Option Told → Status → Type 0
+Answers words left old new status = (text : List ℕ) × Finds words left text status × Delivers old new text
+
+-- this text and this status are owed, whatever the bytes are that a source does not tell
+abbrev pub IsOwed : List (List ℕ) → Option (List ℕ) → List ℕ → Status → Type 0
+IsOwed words left text status = (bytes : List ℕ) → IsAll left bytes → Owes words bytes text status
+
+-- a front of what is owed was delivered
+abbrev pub BeginsToAnswer : List (List ℕ) → Option (List ℕ) → Option Told → Option Told → Type 0
+BeginsToAnswer words left old new = (text : List ℕ) (status : Status) → IsOwed words left text status → DeliversFront old new text
+
+-- These bytes were taken, at most one more than the limit. Where the limit was kept they are all that was left.
+pub record ReadsUpTo (most : ℕ) (old now : Option (List ℕ)) (bytes : List ℕ) : Type 0 where
+  pub taken : LeftAfter old now bytes
+  pub few : length bytes ≤ most + 1
+  pub ended : length bytes ≤ most → IsDrained old now
+
+-- at most so many bytes were taken
+abbrev pub TakesAtMost : ℕ → Option (List ℕ) → Option (List ℕ) → Type 0
+TakesAtMost most old now = (taken : List ℕ) × LeftAfter old now taken × (length taken ≤ most)

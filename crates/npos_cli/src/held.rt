@@ -36,7 +36,7 @@ impl Model for Held {
 }
 
 /// A buffer for one read.
-fn blank_piece(alloc: Global, size: usize) -> Result<Vec<u8>, NoMemory>
+pub fn blank_piece(alloc: Global, size: usize) -> Result<Vec<u8>, NoMemory>
     ensures { IfOk result (λ piece. vec_len piece ≡ size) }
 {
     let piece = Vec::from_elem(alloc, 0, size)?;
@@ -45,7 +45,7 @@ fn blank_piece(alloc: Global, size: usize) -> Result<Vec<u8>, NoMemory>
 
 /// Appends what one read gives, and answers whether the input has ended. The status of an Err is ReadFault or
 /// NoMemory.
-fn read_more<S: Source>(
+pub fn read_more<S: Source>(
     source: &mut S,
     piece: &mut [u8],
     bytes: &mut Vec<u8>,

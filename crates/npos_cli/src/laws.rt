@@ -1,6 +1,12 @@
-//! What follows for the replays of all bytes. Each law is the clause of a function that does nothing.
+//! What follows for all words and all bytes. Each law is the clause of a function that does nothing.
 ghost use Rattle.npos_cli.specs.Chain.{npos_machine};
-ghost use Rattle.npos_cli.specs.Laws.{IsReplayedOnce, IsAlwaysReplayed, IsWholeOnce, IsAlwaysWhole, BeginsWithWhole, WholeGrows, FaultsStand};
+ghost use Rattle.npos_cli.specs.Laws.{OwesOnce, OwesAlways, IsReplayedOnce, IsAlwaysReplayed, IsWholeOnce, IsAlwaysWhole, BeginsWithWhole, WholeGrows, FaultsStand};
+
+/// All words owe something for all bytes, and nothing else: a text and a status.
+pub fn one_answer()
+    ensures one { OwesOnce }
+    ensures any { OwesAlways }
+{}
 
 /// No bytes have two replays: text, end and last state are determined by them.
 pub fn one_replay()

@@ -1,9 +1,15 @@
 //! The top call of npos: words and bytes in, receipts and a status out.
 #![tactic(auto)]
 
+mod checking;
 mod edges;
+mod election;
 mod held;
+mod input;
+mod job;
 pub mod laws;
+mod numbers;
+pub mod promises;
 mod replaying;
 mod status;
 mod telling;

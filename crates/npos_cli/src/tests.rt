@@ -290,6 +290,7 @@ fn an_account_has_at_most_32_chunks(rt: HostRuntime) -> Result<(), Fail> {
 
 #[test]
 fn laws_are_called() {
+    laws::one_answer();
     laws::one_replay();
     laws::every_input_has_a_replay();
     laws::whole_blocks_have_one_text();

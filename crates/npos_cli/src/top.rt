@@ -1,27 +1,33 @@
 //! The top call.
-ghost use Rattle.std.specs.Prelude.{◌≡◌, ◌≢◌, ◌<◌, ◌⊎◌, ◌↔◌, Some, [], map, true, false, IsTrue, IfOk, IfSome, string_bytes, Ok};
+ghost use Rattle.std.specs.Prelude.{◌≡◌, ◌<◌, ◌+◌, None, Some, map, IfOk, IfSome, string_bytes};
 ghost use Rattle.npos_base.specs.Outside.{Rose};
-ghost use Rattle.npos_cli.specs.Words.{HasForm, usage_line};
-ghost use Rattle.npos_cli.specs.Chain.{npos_machine};
+ghost use Rattle.npos_cli.specs.declared.job.Job.TheVariants as jobs;
+ghost use Rattle.npos_cli.specs.Words.{job_of};
+ghost use Rattle.npos_cli.specs.Report.{ReadsInput, IsAnswer, IsJudged, replay_status};
 ghost use Rattle.npos_cli.specs.Books.{BooksBalance};
-ghost use Rattle.npos_cli.specs.Owed.{Delivers, DeliversFront, DeliversReplay, DeliversReplayFront, Comes, ComesWith, HaltsWell};
-ghost use Rattle.npos_cli.specs.declared.top.Due.TheVariants as dues;
-ghost use Rattle.npos_cli.specs.Due.{due_text, due_status, IsDue};
+ghost use Rattle.npos_cli.specs.Verdicts.{most_bundle};
+ghost use Rattle.npos_cli.specs.Bundles.{IsSound};
+ghost use Rattle.npos_cli.specs.declared.status.Status.TheVariants as statuses;
+ghost use Rattle.npos_cli.specs.Owed.{Finds, FindsFor, Answers, BeginsToAnswer, IsDrained, TakesAtMost, HaltsWell};
+ghost use Rattle.npos_cli.specs.Due.{due_text, due_status};
 
 use crate::Status;
+use crate::checking::{Answer, MOST_BUNDLE, check_bytes};
 use crate::edges::deliver;
-use crate::replaying::{Told, replay};
+use crate::input::read_up_to;
+use crate::job::{Job, job_of};
+use crate::replaying::replay;
 use npos_base::{Failed, Sink, Source};
 use std::alloc::Global;
 
-/// What the program writes where the words have no form.
+/// What the program writes where the words ask for no job.
 const USAGE: &str = "usage: npos replay|check|mine|pack|show|demo\n";
 
 /// What a run has to write, and how it then ends.
 #[derive(Drop)]
 pub enum Due {
     Usage,
-    Replay(Told),
+    Answer { text: Vec<u8>, status: Status },
 }
 
 impl Due {
@@ -30,7 +36,7 @@ impl Due {
     {
         match self {
             Due::Usage => USAGE.as_bytes(),
-            Due::Replay(told) => told.text.as_slice(),
+            Due::Answer { text, .. } => text.as_slice(),
         }
     }
 
@@ -39,70 +45,114 @@ impl Due {
     {
         match self {
             Due::Usage => Status::Usage,
-            Due::Replay(told) if told.faulty => Status::BadInput,
-            Due::Replay(_) => Status::Done,
+            Due::Answer { status, .. } => *status,
         }
     }
 }
 
-/// Whether the words are the program's name and a verb with its options.
-fn has_form(words: &[String]) -> bool
-    ensures { IsTrue result ↔ HasForm (map string_bytes words.now) }
+/// The status of a replay, whose text ends with a fault line or not.
+fn replay_status(faulty: bool) -> Status
+    ensures { result ≡ replay_status faulty }
 {
-    match words {
-        [_, verb] => verb.as_str() == "replay",
-        _ => false,
+    if faulty {
+        Status::BadInput
+    } else {
+        Status::Done
     }
 }
 
-/// Finds out what the run owes. Words without a form owe the usage line, and then nothing is read. The status of
-/// an Err is ReadFault or NoMemory.
-fn prepare<S: Source>(alloc: Global, words: &[String], source: &mut S) -> Result<Due, Status>
-    ensures due { IfOk result (IsDue (map string_bytes words.now) (S.left source.old) (S.left source.new)) }
-    ensures unread { (HasForm (map string_bytes words.now) → ⊥) → source.new ≡ source.old }
-    ensures usage { (HasForm (map string_bytes words.now) → ⊥) → result ≡ Ok dues.Usage }
+/// Replays what is left in the source. The status of an Err is ReadFault or NoMemory.
+#[tactic(auto, using(crate::proofs::RunLaws::replay_found, crate::proofs::RunLaws::replay_drained))]
+fn replay_due<S: Source>(alloc: Global, source: &mut S) -> Result<Due, Status>
+    ensures due { IfOk result (λ due. FindsFor (Some jobs.Replay) (S.left source.old)
+        (due_text due) (due_status due)) }
+    ensures drained { IfOk result (λ due. IsJudged (due_status due)
+        → IsDrained (S.left source.old) (S.left source.new)) }
     ensures halts { HaltsWell (S.faults source.old) (S.faults source.new) result }
 {
-    if !has_form(words) {
-        return Ok(Due::Usage);
-    }
-    Ok(Due::Replay(replay(alloc, source)?))
+    let told = replay(alloc, source)?;
+    let status = replay_status(told.faulty);
+    Ok(Due::Answer {
+        text: told.text,
+        status,
+    })
 }
 
-/// Does all that the program does: finds the job that the words name, reads its input from the source, writes to the
-/// sink what is due, flushes it, and says how it ended. `words[0]` is the program's name and is not looked at.
-#[tactic(auto, using(crate::proofs::BookLaws::books_told))]
+/// Checks the bundle that is left in the source, of which no more than one byte beyond the limit is
+/// read. The status of an Err is ReadFault or NoMemory.
+#[tactic(auto, using(crate::proofs::RunLaws::check_found, crate::proofs::RunLaws::check_drained, crate::proofs::RunLaws::check_few, crate::proofs::RunLaws::check_sound))]
+fn check_due<S: Source>(alloc: Global, source: &mut S) -> Result<Due, Status>
+    ensures due { IfOk result (λ due. FindsFor (Some jobs.Check) (S.left source.old)
+        (due_text due) (due_status due)) }
+    ensures drained { IfOk result (λ due. IsJudged (due_status due)
+        → IsDrained (S.left source.old) (S.left source.new)) }
+    ensures few { IfOk result (λ _. TakesAtMost (most_bundle + 1) (S.left source.old) (S.left source.new)) }
+    ensures sound { IfOk result (λ due. due_status due ≡ statuses.Done → IfSome (S.left source.old) IsSound) }
+    ensures halts { HaltsWell (S.faults source.old) (S.faults source.new) result }
+{
+    let bytes = read_up_to(alloc, source, MOST_BUNDLE)?;
+    let Answer { text, status } = check_bytes(alloc, bytes.as_slice())?;
+    Ok(Due::Answer { text, status })
+}
+
+/// Finds out what the run owes. Words that ask for no job owe the usage line, and then nothing is
+/// read. The status of an Err is ReadFault or NoMemory.
+#[tactic(auto, using(crate::proofs::RunLaws::nothing_asked))]
+fn prepare<S: Source>(alloc: Global, words: &[String], source: &mut S) -> Result<Due, Status>
+    ensures due { IfOk result (λ due. Finds (map string_bytes words.now) (S.left source.old)
+        (due_text due) (due_status due)) }
+    ensures unread { (ReadsInput (job_of (map string_bytes words.now)) → ⊥)
+        → source.new ≡ source.old }
+    ensures reading { result ≡ Err Status.ReadFault
+        → ReadsInput (job_of (map string_bytes words.now)) }
+    ensures drained { IfOk result (λ due. IsJudged (due_status due)
+        → ReadsInput (job_of (map string_bytes words.now))
+        → IsDrained (S.left source.old) (S.left source.new)) }
+    ensures few { job_of (map string_bytes words.now) ≡ Some jobs.Check → IfOk result (λ _.
+        TakesAtMost (most_bundle + 1) (S.left source.old) (S.left source.new)) }
+    ensures sound { job_of (map string_bytes words.now) ≡ Some jobs.Check → IfOk result (λ due.
+        due_status due ≡ statuses.Done → IfSome (S.left source.old) IsSound) }
+    ensures halts { HaltsWell (S.faults source.old) (S.faults source.new) result }
+{
+    match job_of(words) {
+        None => Ok(Due::Usage),
+        Some(Job::Replay) => replay_due(alloc, source),
+        Some(Job::Check) => check_due(alloc, source),
+    }
+}
+
+/// Does all that the program does: finds the job that the words ask for, reads its input from the
+/// source, writes to the sink what is due, flushes it, and says how it ended. `words[0]` is the
+/// program's name and is not looked at.
+#[tactic(auto, using(crate::proofs::BookLaws::books_told, crate::proofs::RunLaws::front_delivered, crate::proofs::RunLaws::front_found))]
 pub fn run<S: Source, K: Sink>(
     alloc: Global,
     words: &[String],
     source: &mut S,
     sink: &mut K,
 ) -> Status
-    ensures usage { result ≡ Status.Usage → (HasForm (map string_bytes words.now) → ⊥)
-        × Delivers (K.told sink.old) (K.told sink.new) usage_line }
-    ensures usage_comes { (HasForm (map string_bytes words.now) → ⊥)
-        → Comes Status.Usage result (Rose (K.faults sink.old) (K.faults sink.new)) }
-    ensures nothing_read { (HasForm (map string_bytes words.now) → ⊥) → source.new ≡ source.old }
-    ensures done { result ≡ Status.Done → HasForm (map string_bytes words.now) × IfSome (S.left source.old) (λ bytes.
-        DeliversReplay npos_machine false (K.told sink.old) (K.told sink.new) bytes × (S.left source.new ≡ Some [])) }
-    ensures done_comes { HasForm (map string_bytes words.now) → IfSome (S.left source.old) (λ bytes.
-        ComesWith npos_machine bytes false Status.Done result
-        (Rose (S.faults source.old) (S.faults source.new) ⊎ Rose (K.faults sink.old) (K.faults sink.new))) }
-    ensures bad { result ≡ Status.BadInput → HasForm (map string_bytes words.now) × IfSome (S.left source.old)
-        (DeliversReplay npos_machine true (K.told sink.old) (K.told sink.new)) }
-    ensures bad_comes { HasForm (map string_bytes words.now) → IfSome (S.left source.old) (λ bytes.
-        ComesWith npos_machine bytes true Status.BadInput result
-        (Rose (S.faults source.old) (S.faults source.new) ⊎ Rose (K.faults sink.old) (K.faults sink.new))) }
-    ensures no_verdict { result ≢ Status.No }
-    ensures read_fault { result ≡ Status.ReadFault → Rose (S.faults source.old) (S.faults source.new) }
-    ensures read_fault_comes { S.faults source.old < S.faults source.new → result ≡ Status.ReadFault }
-    ensures write_fault { result ≡ Status.WriteFault → Rose (K.faults sink.old) (K.faults sink.new) }
-    ensures write_fault_comes { K.faults sink.old < K.faults sink.new → result ≡ Status.WriteFault }
-    ensures front { HasForm (map string_bytes words.now) → IfSome (S.left source.old)
-        (DeliversReplayFront npos_machine (K.told sink.old) (K.told sink.new)) }
+    ensures answers { IsAnswer result → Answers (map string_bytes words.now) (S.left source.old)
+        (K.told sink.old) (K.told sink.new) result }
+    ensures front { BeginsToAnswer (map string_bytes words.now) (S.left source.old)
+        (K.told sink.old) (K.told sink.new) }
+    ensures read_fault { result ≡ Status.ReadFault
+        → ReadsInput (job_of (map string_bytes words.now))
+        × Rose (S.faults source.old) (S.faults source.new) }
+    ensures read_fault_comes { S.faults source.old < S.faults source.new
+        → result ≡ Status.ReadFault }
+    ensures write_fault { result ≡ Status.WriteFault
+        → Rose (K.faults sink.old) (K.faults sink.new) }
+    ensures write_fault_comes { K.faults sink.old < K.faults sink.new
+        → result ≡ Status.WriteFault }
+    ensures unread { (ReadsInput (job_of (map string_bytes words.now)) → ⊥)
+        → source.new ≡ source.old }
+    ensures drained { IsJudged result → ReadsInput (job_of (map string_bytes words.now))
+        → IsDrained (S.left source.old) (S.left source.new) }
     ensures books { IfSome (S.left source.old) BooksBalance }
-    ensures usage_front { (HasForm (map string_bytes words.now) → ⊥)
-        → DeliversFront (K.told sink.old) (K.told sink.new) usage_line }
+    ensures few { job_of (map string_bytes words.now) ≡ Some jobs.Check → IsAnswer result
+        → TakesAtMost (most_bundle + 1) (S.left source.old) (S.left source.new) }
+    ensures accepted { job_of (map string_bytes words.now) ≡ Some jobs.Check → result ≡ Status.Done
+        → IfSome (S.left source.old) IsSound }
 {
     let due = match prepare(alloc, words, source) {
         Ok(due) => due,

@@ -3,4 +3,3 @@ pub mod Modes
 pub mod PartLemmas
 pub mod PenLemmas
 pub mod ListLemmas
-pub mod LawLemmas

@@ -13,6 +13,7 @@ pub mod Writing
 pub mod CompactSteps
 pub mod CompactRange
 pub mod Laws
+pub mod WholeReading
 -- Proofs that each form keeps its laws. No meaning rests on them.
 pub mod TableLaws
 pub mod FormLaws
@@ -24,3 +25,4 @@ pub mod CompactReadingLaws
 pub mod CompactWritingLaws
 pub mod CompactLaws
 pub mod ValueLaws
+pub mod DecidedLaws

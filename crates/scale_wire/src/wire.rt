@@ -1,11 +1,12 @@
 //! Values that have a spelling in SCALE.
 ghost use Rattle.std.specs.Prelude.{◌≡◌, ◌+◌, [], ◌∷◌, ◌++◌, ◌<◌, ◌≤◌, ◌^◌, length, flat_map};
 ghost use Rattle.std.specs.List.{AllByRecursion};
-ghost use Rattle.scale_wire.specs.Form.{Form, IsWire};
+ghost use Rattle.scale_wire.specs.Form.{IsBytes, Form, IsWire};
 ghost use Rattle.scale_wire.specs.Composite.{pair, items as items_of, list, list_bytes, byte_list};
 ghost use Rattle.scale_wire.specs.Compact.{compact_bytes};
 ghost use Rattle.scale_wire.specs.Writing.{Appends};
 ghost use Rattle.scale_wire.specs.Reading.{Reads, Writes, ReadsWhole};
+ghost use Rattle.scale_wire.specs.WholeReading.{AnswersAs};
 
 use crate::fault::{ReadFault, Why, WireFault};
 use crate::{Cursor, Pen};
@@ -127,10 +128,20 @@ pub fn write_both<A: Wire, B: Wire>(first: &A, second: &B, pen: &mut Pen) -> Res
     second.write(pen)
 }
 
-/// Reads a value that must be the whole input. The first byte behind it is refused as `Trailing`.
-#[tactic(auto, using(crate::proofs::ReadLemmas::bad_whole))]
+/// Reads a value that must be the whole input. The first byte behind it is refused as `Trailing`. The bytes determine
+/// every answer but want of memory.
 pub fn read_whole<T: Wire>(alloc: Global, bytes: &[u8]) -> Result<T, ReadFault>
-    ensures { ReadsWhole T.form bytes.now result }
+    ensures grammar { ReadsWhole T.form bytes.now result }
+    ensures function { AnswersAs T.form T.laws bytes.now result }
+{
+    read_to_end(alloc, bytes)
+}
+
+// The same by the grammar alone.
+#[tactic(auto, using(crate::proofs::ReadLemmas::bad_whole))]
+fn read_to_end<T: Wire>(alloc: Global, bytes: &[u8]) -> Result<T, ReadFault>
+    ensures grammar { ReadsWhole T.form bytes.now result }
+    ensures bytes { IsBytes bytes.now }
 {
     let mut cursor = Cursor::new(bytes, 0);
     let value = T::read(alloc, &mut cursor)?;

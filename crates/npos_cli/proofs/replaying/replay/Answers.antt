@@ -2,6 +2,7 @@ use Rattle.std.proofs.Common.{rules, ◌≡◌, ◌++◌, ℕ, List, Ok, Err, fa
 use Rattle.npos_runtime.specs.Life.{Life}
 use Rattle.npos_cli.specs.Texts.{fault_line}
 use Rattle.npos_cli.specs.Ahead.{HasSeen, BeginsWith}
+use Rattle.npos_cli.proofs.ChainLaws.{few_endowments, few_thresholds}
 use Rattle.npos_cli.proofs.StartLaws.{refused_replay, faulty_replay, started_replay}
 use Rattle.npos_cli.proofs.replaying.replay.Goals as goal
 
@@ -22,3 +23,13 @@ returns-clause-found g c =
     let begins : (seen : List ℕ) × HasSeen (g.S.Source.left c.args.source.now) (g.S.Source.left c.take_genesis.new.source) seen false c.take_genesis.new.held.ended × BeginsWith seen (Ok c.in-Ok.genesis) c.take_genesis.new.held = search rules in
     started_replay _ _ _ begins.0 c.new-text.result.items c.take_all.new.text.items c.take_genesis.new.held c.in-Ok.genesis c.in-Ok-start.runtime.state c.in_ok-faulty.faulty begins.1 begins.2 c.new-text.ensures.items
     c.in-Ok-start.ensures.ok.0 (ap (λ (life : Life). life.state) c.in-Ok-start.ensures.ok.1) c.in_ok-faulty.ensures.runs
+
+pub start-requires-clause-few_endowments : goal.start-requires-clause-few_endowments
+start-requires-clause-few_endowments g c =
+    let begins : (seen : List ℕ) × HasSeen (g.S.Source.left c.args.source.now) (g.S.Source.left c.take_genesis.new.source) seen false c.take_genesis.new.held.ended × BeginsWith seen (Ok c.in-Ok.genesis) c.take_genesis.new.held = search rules in
+    few_endowments c.in-Ok.genesis begins.2.in_range
+
+pub start-requires-clause-few_thresholds : goal.start-requires-clause-few_thresholds
+start-requires-clause-few_thresholds g c =
+    let begins : (seen : List ℕ) × HasSeen (g.S.Source.left c.args.source.now) (g.S.Source.left c.take_genesis.new.source) seen false c.take_genesis.new.held.ended × BeginsWith seen (Ok c.in-Ok.genesis) c.take_genesis.new.held = search rules in
+    few_thresholds c.in-Ok.genesis begins.2.in_range

@@ -1,4 +1,4 @@
-use Rattle.scale_wire.proofs.LawLemmas.{decided}
+use Rattle.scale_wire.specs.DecidedLaws.{decided}
 use Rattle.scale_wire.proofs.laws.bytes_are_decided.Goals as goal
 
 pub returns : goal.returns

@@ -1,4 +1,4 @@
-use Rattle.scale_wire.proofs.LawLemmas.{persist}
+use Rattle.scale_wire.specs.DecidedLaws.{persist}
 use Rattle.scale_wire.proofs.laws.faults_persist.Goals as goal
 
 pub returns : goal.returns

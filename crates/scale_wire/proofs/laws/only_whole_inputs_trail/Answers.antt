@@ -1,4 +1,4 @@
-use Rattle.scale_wire.proofs.LawLemmas.{never_trails}
+use Rattle.scale_wire.specs.DecidedLaws.{never_trails}
 use Rattle.scale_wire.proofs.laws.only_whole_inputs_trail.Goals as goal
 
 pub returns : goal.returns

@@ -1,4 +1,4 @@
-use Rattle.scale_wire.proofs.LawLemmas.{bounds}
+use Rattle.scale_wire.specs.DecidedLaws.{bounds}
 use Rattle.scale_wire.proofs.laws.spellings_are_bounded.Goals as goal
 
 pub returns : goal.returns

@@ -1,4 +1,4 @@
-use Rattle.scale_wire.proofs.LawLemmas.{read_back}
+use Rattle.scale_wire.specs.DecidedLaws.{read_back}
 use Rattle.scale_wire.proofs.laws.values_are_read_back.Goals as goal
 
 pub returns : goal.returns

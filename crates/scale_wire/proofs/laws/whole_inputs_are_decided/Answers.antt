@@ -1,4 +1,4 @@
-use Rattle.scale_wire.proofs.LawLemmas.{decided_whole}
+use Rattle.scale_wire.specs.DecidedLaws.{decided_whole}
 use Rattle.scale_wire.proofs.laws.whole_inputs_are_decided.Goals as goal
 
 pub returns : goal.returns

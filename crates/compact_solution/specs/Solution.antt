@@ -1,0 +1,53 @@
+-- Compact solutions, after Substrate: who backs whom with which part of its stake, in groups of entries. An entry
+-- of the first group names one target, one of the second group two, and so on.
+use Rattle.std.specs.Prelude.{ℕ, List, [], ◌∷◌, ◌++◌, map}
+use Rattle.std.specs.List.{flat_map}
+use Rattle.scale_wire.specs.Form.{Form}
+use Rattle.scale_wire.specs.Parts.{compact_u16, compact_u32}
+use Rattle.scale_wire.specs.Composite.{pair, triple, seen, items, list, row}
+use Rattle.compact_solution.specs.declared.entry.Share.{Share}
+
+-- how many groups a solution has
+unfoldable pub group_count : ℕ
+group_count = 16
+
+-- how many entries a group has at most
+abbrev pub most_entries : ℕ
+most_entries = 16384
+
+-- A voter and its targets. Each target but the last is listed with its share, and the last one gets the rest of
+-- the voter's stake.
+pub record Entry : Type 0 where
+  pub voter : ℕ
+  pub shares : List Share
+  pub last : ℕ
+
+-- the targets of an entry, in order
+abbrev pub targets_of : Entry → List ℕ
+targets_of entry = map (λ share. share.target) entry.shares ++ entry.last ∷ []
+
+-- the shares of its targets but the last, in parts of 65,535
+abbrev pub parts_of : Entry → List ℕ
+parts_of entry = map (λ share. share.parts) entry.shares
+
+-- the entries of all groups, in listed order
+abbrev pub entries_of : List (List Entry) → List Entry
+entries_of solution = flat_map (λ group. group) solution
+
+-- ## In SCALE
+
+abbrev pub share_form : Form Share
+share_form = seen (pair compact_u16 compact_u16) (λ share. (share.target, share.parts))
+
+-- an entry with this many shares: the voter, the shares and the last target
+abbrev pub entry_form : ℕ → Form Entry
+entry_form shares =
+    seen (triple compact_u32 (items share_form shares) compact_u16) (λ entry. (entry.voter, entry.shares, entry.last))
+
+-- the group whose entries have this many shares
+abbrev pub group_form : ℕ → Form (List Entry)
+group_form shares = list (entry_form shares) most_entries
+
+-- a solution is its groups, one behind the other; the entries of the first have no share
+abbrev pub solution_form : Form (List (List Entry))
+solution_form = row group_form 0 group_count

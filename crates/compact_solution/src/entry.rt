@@ -1,0 +1,144 @@
+//! Entries: a voter, its targets and their shares.
+ghost use Rattle.std.specs.Prelude.{◌≡◌, ◌+◌, ◌<◌, ◌≤◌, [], ◌∷◌, ◌++◌, length, slice_index};
+ghost use Rattle.compact_solution.specs.Solution.{targets_of, parts_of};
+
+use std::marker::Model;
+
+/// How many groups a solution has, and how many targets an entry of the last one names.
+pub const GROUPS: usize = 16;
+
+const MOST_SHARES: usize = GROUPS - 1;
+
+/// A target with its share of the voter's stake, in parts of 65,535.
+#[derive(Clone, Copy, Debug, PartialEq, Eq)]
+pub struct Share {
+    pub target: u16,
+    pub parts: u16,
+}
+
+// The shares of one entry, kept in place. Contracts see their list.
+#[derive(Drop)]
+pub(crate) struct Shares {
+    kept: [Share; MOST_SHARES],
+    count: u8,
+}
+
+impl Model for Shares {
+    ghost use Rattle.std.specs.Prelude.{◌≡◌, ◌<◌, List, length, take};
+    ghost use Rattle.compact_solution.specs.declared.entry.TheConstants.{GROUPS, MOST_SHARES};
+    ghost use Rattle.compact_solution.specs.declared.entry.Share.{Share};
+
+    ghost Value = { List Share };
+
+    ghost view = { λ s. take s.count s.kept };
+
+    ghost invariant = { λ s. (s.count < GROUPS) × (length s.kept ≡ MOST_SHARES) };
+}
+
+impl Shares {
+    pub(crate) fn new() -> Shares
+        ensures { result ≡ [] }
+    {
+        let nothing = Share {
+            target: 0,
+            parts: 0,
+        };
+        Shares {
+            kept: [nothing; MOST_SHARES],
+            count: 0,
+        }
+    }
+
+    pub(crate) fn push(&mut self, share: Share)
+        requires { length self.old < MOST_SHARES }
+        ensures { self.new ≡ self.old ++ share ∷ [] }
+    {
+        self.kept[usize::from(self.count)] = share;
+        self.count += 1;
+    }
+
+    pub(crate) fn as_slice(&self) -> &[Share]
+        ensures shares { result.now ≡ self.now }
+        ensures most { length result.now < GROUPS }
+    {
+        &self.kept[..usize::from(self.count)]
+    }
+}
+
+/// What one voter gives: some targets with their shares, and a last target that gets the rest of its stake. Contracts
+/// see the voter, the list of shares and the last target.
+#[derive(Drop)]
+pub struct Entry {
+    voter: u32,
+    shares: Shares,
+    last: u16,
+}
+
+impl Model for Entry {
+    ghost use Rattle.compact_solution.specs.Solution.{Entry};
+
+    ghost Value = { Entry };
+
+    ghost view = { λ e. record { voter = e.voter; shares = e.shares; last = e.last } };
+}
+
+impl Entry {
+    pub(crate) fn new(voter: u32, shares: Shares, last: u16) -> Entry
+        ensures { result ≡ record { voter = voter; shares = shares; last = last } }
+    {
+        Entry {
+            voter,
+            shares,
+            last,
+        }
+    }
+
+    /// The position of the voter in the snapshot that the solution is for.
+    pub fn voter(&self) -> u32
+        ensures { result ≡ self.now.voter }
+    {
+        self.voter
+    }
+
+    /// How many targets the entry names: at least one, and at most as many as there are groups.
+    pub fn len(&self) -> usize
+        ensures count { result ≡ length (targets_of self.now) }
+        ensures most { result ≤ GROUPS }
+    {
+        self.shares().len() + 1
+    }
+
+    /// The position of one of the targets.
+    pub fn target(&self, i: usize) -> u16
+        requires { i < length (targets_of self.now) }
+        ensures { result ≡ slice_index (targets_of self.now) i }
+    {
+        match self.shares().get(i) {
+            Some(share) => share.target,
+            None => self.last,
+        }
+    }
+
+    /// The share of one of the targets but the last, in parts of 65,535.
+    pub fn share(&self, i: usize) -> u16
+        requires { i + 1 < length (targets_of self.now) }
+        ensures { result ≡ slice_index (parts_of self.now) i }
+    {
+        self.shares()[i].parts
+    }
+
+    /// All targets but the last, with their shares.
+    pub fn shares(&self) -> &[Share]
+        ensures shares { result.now ≡ self.now.shares }
+        ensures most { length result.now < GROUPS }
+    {
+        self.shares.as_slice()
+    }
+
+    /// The last target, which gets what the shares leave of the voter's stake.
+    pub fn last(&self) -> u16
+        ensures { result ≡ self.now.last }
+    {
+        self.last
+    }
+}

@@ -1,0 +1,87 @@
+//! Reading the groups of a solution.
+ghost use Rattle.std.specs.Prelude.{◌<◌};
+ghost use Rattle.scale_wire.specs.Composite.{items as items_of};
+ghost use Rattle.scale_wire.specs.Reading.{Takes, Reads};
+ghost use Rattle.compact_solution.specs.Solution.{share_form, entry_form, group_form};
+
+use crate::entry::{Entry, GROUPS, Share, Shares};
+use npos_base::List;
+use scale_wire::Cursor;
+use scale_wire::fault::{ReadFault, WireFault};
+use std::alloc::Global;
+
+const MOST_ENTRIES: u32 = 16384;
+
+// The group whose entries have this many shares.
+pub(crate) fn read_group(
+    alloc: Global,
+    cursor: &mut Cursor<'_>,
+    shares: usize,
+) -> Result<List<Entry>, ReadFault>
+    requires { shares < GROUPS }
+    ensures { Reads (group_form shares) cursor.old result cursor.new }
+{
+    let mut here = cursor.fork();
+    let count = here.take_length(MOST_ENTRIES)?;
+    let entries = read_entries(alloc, &mut here, shares, count)?;
+    *cursor = here;
+    Ok(entries)
+}
+
+// This many entries. Room is made at once for those that the bytes left can hold, at two bytes for each target.
+fn read_entries(
+    alloc: Global,
+    cursor: &mut Cursor<'_>,
+    shares: usize,
+    count: u32,
+) -> Result<List<Entry>, ReadFault>
+    requires { shares < GROUPS }
+    ensures { Reads (items_of (entry_form shares) count) cursor.old result cursor.new }
+{
+    let mut here = cursor.fork();
+    let room = here.rest().len() / (2 * shares + 2);
+    let mut entries = Vec::with_capacity(alloc, room.min(count as usize))?;
+    for _ in 0..count {
+        entries.push(take_entry(&mut here, shares)?)?;
+    }
+    *cursor = here;
+    Ok(List::from_vec(entries))
+}
+
+// An entry with this many shares.
+fn take_entry(cursor: &mut Cursor<'_>, shares: usize) -> Result<Entry, WireFault>
+    requires { shares < GROUPS }
+    ensures { Takes (entry_form shares) cursor.old result cursor.new }
+{
+    let mut here = cursor.fork();
+    let voter = here.take_compact_u32()?;
+    let listed = take_shares(&mut here, shares)?;
+    let last = here.take_compact_u16()?;
+    *cursor = here;
+    Ok(Entry::new(voter, listed, last))
+}
+
+// This many shares.
+fn take_shares(cursor: &mut Cursor<'_>, count: usize) -> Result<Shares, WireFault>
+    requires { count < GROUPS }
+    ensures { Takes (items_of share_form count) cursor.old result cursor.new }
+{
+    let mut here = cursor.fork();
+    let mut shares = Shares::new();
+    for _ in 0..count {
+        shares.push(take_share(&mut here)?);
+    }
+    *cursor = here;
+    Ok(shares)
+}
+
+// A target and its share.
+fn take_share(cursor: &mut Cursor<'_>) -> Result<Share, WireFault>
+    ensures { Takes share_form cursor.old result cursor.new }
+{
+    let mut here = cursor.fork();
+    let target = here.take_compact_u16()?;
+    let parts = here.take_compact_u16()?;
+    *cursor = here;
+    Ok(Share { target, parts })
+}

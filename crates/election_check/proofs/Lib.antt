@@ -1,0 +1,10 @@
+pub mod FaultLemmas
+pub mod FirstLemmas
+pub mod ListFacts
+pub mod PackedLemmas
+pub mod PassingLemmas
+pub mod StepLemmas
+pub mod EdgeLemmas
+pub mod SpendLemmas
+pub mod SoundLemmas
+pub mod TakingLemmas

@@ -1,0 +1,266 @@
+//! The steps of a check of a packed solution: its entries, their edges, the listed targets.
+ghost use Rattle.std.specs.Prelude.{◌≡◌, ◌≢◌, ◌<◌, ◌≤◌, ◌+◌, ◌*◌, ◌/◌, ◌++◌, [], ℕ, true, false, nat_lt, if◌then◌else◌, length, filter, sum, take, slice_index_or, slice_set, OnOk, All};
+ghost use Rattle.std.specs.List.{range_with_len};
+ghost use Rattle.election_snapshot.specs.Snapshot.{has, votes_of};
+ghost use Rattle.weight_book.specs.Weights.{no_weights, IsFeasible};
+ghost use Rattle.weight_book.specs.Room.{HasRoom, KeepsRoom};
+ghost use Rattle.compact_solution.specs.Solution.{targets_of, parts_of, entries_of};
+ghost use Rattle.election_check.specs.First.{answer_of, when};
+ghost use Rattle.election_check.specs.Packed.{expanded, expand_fault, entries_fault, entry_fault, unknown_target, repeated_target, unnominated_target, has_bad_share, edges_of, whole_stake, score_fault};
+ghost use Rattle.election_check.specs.Taking.{AreTaken};
+
+use crate::Verdict;
+use crate::prescores::check_size;
+use compact_solution::{Entry, GROUPS, Solution};
+use election_snapshot::Snapshot;
+use npos_base::{Edge, Score};
+use weight_book::Weights;
+
+/// The parts that a whole stake is shared in.
+const WHOLE_STAKE: u64 = 65_535;
+
+/// Fills empty weights with the members and edges of a solution, or tells the first fault of its entries or of the number
+/// of members.
+pub(crate) fn fill_weights(
+    snapshot: &Snapshot,
+    solution: &Solution,
+    has_entry: &mut [bool],
+    stamps: &mut [u32],
+    weights: &mut Weights,
+) -> Result<(), Verdict>
+    requires empty { weights.old.plain ≡ no_weights }
+    requires room { HasRoom snapshot.now weights.old }
+    requires voters { length has_entry.old ≡ length snapshot.now.voters }
+    requires targets { length stamps.old ≡ length snapshot.now.targets }
+    ensures fault { result ≡ answer_of (expand_fault snapshot.now solution.now) }
+    ensures weights { OnOk result (weights.new.plain ≡ expanded snapshot.now solution.now) }
+    ensures room { KeepsRoom weights.old weights.new }
+{
+    take_entries(snapshot, solution, has_entry, stamps, weights)?;
+    push_members(snapshot, stamps, weights);
+    check_size(snapshot, weights)
+}
+
+/// Takes all entries into empty weights, marks their voters and stamps their targets, or tells the first fault.
+fn take_entries(
+    snapshot: &Snapshot,
+    solution: &Solution,
+    has_entry: &mut [bool],
+    stamps: &mut [u32],
+    weights: &mut Weights,
+) -> Result<(), Verdict>
+    requires empty { weights.old.plain ≡ no_weights }
+    requires room { HasRoom snapshot.now weights.old }
+    requires voters { length has_entry.old ≡ length snapshot.now.voters }
+    requires targets { length stamps.old ≡ length snapshot.now.targets }
+    ensures fault { result ≡ answer_of (entries_fault snapshot.now [] (entries_of solution.now)) }
+    ensures taken { OnOk result (AreTaken snapshot.now (entries_of solution.now) has_entry.new stamps.new weights.new) }
+    ensures room { KeepsRoom weights.old weights.new }
+{
+    has_entry.fill(false);
+    stamps.fill(0);
+    for place in 0..solution.groups() {
+        take_group(snapshot, solution, place, has_entry, stamps, weights)?;
+    }
+    Ok(())
+}
+
+/// Takes the entries of one group behind those of the groups before it.
+fn take_group(
+    snapshot: &Snapshot,
+    solution: &Solution,
+    place: usize,
+    has_entry: &mut [bool],
+    stamps: &mut [u32],
+    weights: &mut Weights,
+) -> Result<(), Verdict>
+    requires place { place < length solution.now }
+    requires few { place < GROUPS }
+    requires taken { AreTaken snapshot.now (entries_of (take place solution.now)) has_entry.old stamps.old weights.old }
+    requires voters { length has_entry.old ≡ length snapshot.now.voters }
+    requires targets { length stamps.old ≡ length snapshot.now.targets }
+    ensures fault { result ≡ answer_of (entries_fault snapshot.now (entries_of (take place solution.now)) (slice_index_or solution.now place [])) }
+    ensures taken { OnOk result (AreTaken snapshot.now (entries_of (take (place + 1) solution.now)) has_entry.new stamps.new weights.new) }
+    ensures room { KeepsRoom weights.old weights.new }
+{
+    for entry in solution.group(place + 1) {
+        check_entry(snapshot, entry, has_entry, stamps)?;
+        push_edges(snapshot.stake(entry.voter()), entry, weights);
+    }
+    Ok(())
+}
+
+/// Tells the first fault of an entry, or marks its voter and stamps its targets. The stamp of a target is one more than
+/// the voter whose entry named it last, so that this voter's own stamp tells a target that stands twice.
+fn check_entry(
+    snapshot: &Snapshot,
+    entry: &Entry,
+    has_entry: &mut [bool],
+    stamps: &mut [u32],
+) -> Result<(), Verdict>
+    requires voters { length has_entry.old ≡ length snapshot.now.voters }
+    requires targets { length stamps.old ≡ length snapshot.now.targets }
+    requires own { (target : ℕ) → slice_index_or stamps.old target 0 ≡ entry.now.voter + 1
+        → slice_index_or has_entry.old entry.now.voter false ≡ true }
+    ensures fault { result ≡ answer_of (entry_fault snapshot.now (slice_index_or has_entry.old entry.now.voter false) entry.now) }
+    ensures marked { OnOk result (has_entry.new ≡ slice_set has_entry.old entry.now.voter true) }
+    ensures stamped { OnOk result ((target : ℕ) → slice_index_or stamps.new target 0
+        ≡ (if has (targets_of entry.now) target then entry.now.voter + 1 else slice_index_or stamps.old target 0)) }
+{
+    let voter = entry.voter();
+    if voter as usize >= snapshot.voter_count() {
+        return Err(Verdict::NoVoter(voter));
+    }
+    check_targets(snapshot, entry)?;
+    if has_entry[voter as usize] {
+        return Err(Verdict::VoterTwice(voter));
+    }
+    stamp_targets(entry, voter + 1, stamps)?;
+    check_nominations(snapshot, entry)?;
+    check_shares(entry)?;
+    has_entry[voter as usize] = true;
+    Ok(())
+}
+
+/// Tells the first target past the last one of the snapshot.
+fn check_targets(snapshot: &Snapshot, entry: &Entry) -> Result<(), Verdict>
+    ensures { result ≡ answer_of (unknown_target snapshot.now entry.now) }
+{
+    for i in 0..entry.len() {
+        let target = entry.target(i);
+        if usize::from(target) >= snapshot.target_count() {
+            return Err(Verdict::NoTarget(target));
+        }
+    }
+    Ok(())
+}
+
+/// Stamps the targets, or tells the first that stands twice.
+fn stamp_targets(entry: &Entry, stamp: u32, stamps: &mut [u32]) -> Result<(), Verdict>
+    requires in_range { All (λ target. target < length stamps.old) (targets_of entry.now) }
+    requires unused { (target : ℕ) → slice_index_or stamps.old target 0 ≢ stamp }
+    ensures fault { result ≡ answer_of (repeated_target entry.now) }
+    ensures stamped { OnOk result ((target : ℕ) → slice_index_or stamps.new target 0
+        ≡ (if has (targets_of entry.now) target then stamp else slice_index_or stamps.old target 0)) }
+{
+    for i in 0..entry.len() {
+        let target = entry.target(i);
+        let place = usize::from(target);
+        if stamps[place] == stamp {
+            return Err(Verdict::TargetTwice(target));
+        }
+        stamps[place] = stamp;
+    }
+    Ok(())
+}
+
+/// Tells the first target that the voter does not nominate.
+fn check_nominations(snapshot: &Snapshot, entry: &Entry) -> Result<(), Verdict>
+    requires { entry.now.voter < length snapshot.now.voters }
+    ensures { result ≡ answer_of (unnominated_target snapshot.now entry.now) }
+{
+    let voter = entry.voter();
+    let votes = snapshot.votes(voter);
+    for i in 0..entry.len() {
+        let target = entry.target(i);
+        if !is_vote(votes, target) {
+            return Err(Verdict::NotNominated { voter, target });
+        }
+    }
+    Ok(())
+}
+
+/// Whether the target is among the votes.
+fn is_vote(votes: &[u16], target: u16) -> bool
+    ensures { result ≡ has votes.now target }
+{
+    votes.contains(&target)
+}
+
+/// Tells whether a share is nothing, or the shares leave nothing for the last target.
+fn check_shares(entry: &Entry) -> Result<(), Verdict>
+    ensures { result ≡ answer_of (when (has_bad_share entry.now) (Verdict.BadShare entry.now.voter)) }
+{
+    let mut sum = 0;
+    let mut is_bad = false;
+    for share in entry.shares() {
+        sum += u64::from(share.parts);
+        is_bad = is_bad || share.parts == 0;
+    }
+    if is_bad || sum >= WHOLE_STAKE {
+        Err(Verdict::BadShare(entry.voter()))
+    } else {
+        Ok(())
+    }
+}
+
+/// Appends the edges of an entry whose voter has this stake.
+fn push_edges(stake: u64, entry: &Entry, weights: &mut Weights)
+    requires spare { length (targets_of entry.now) ≤ weights.old.edge_spare }
+    requires shares { sum (parts_of entry.now) < whole_stake }
+    ensures edges { weights.new.plain.edges ≡ weights.old.plain.edges ++ edges_of stake entry.now }
+    ensures members { weights.new.plain.committee ≡ weights.old.plain.committee }
+    ensures room { KeepsRoom weights.old weights.new }
+{
+    let voter = entry.voter();
+    let mut rest = stake;
+    for share in entry.shares() {
+        let amount = share_of(stake, share.parts);
+        weights.push_edge(Edge {
+            voter,
+            target: share.target,
+            amount,
+        });
+        rest -= amount;
+    }
+    weights.push_edge(Edge {
+        voter,
+        target: entry.last(),
+        amount: rest,
+    });
+}
+
+/// So many parts of the stake, rounded down. The product of the two may not fit, so the stake is split at a multiple of
+/// all parts.
+fn share_of(stake: u64, parts: u16) -> u64
+    ensures { result ≡ stake * parts / whole_stake }
+{
+    let parts = u64::from(parts);
+    stake / WHOLE_STAKE * parts + stake % WHOLE_STAKE * parts / WHOLE_STAKE
+}
+
+/// Appends the targets that are stamped, in rising order.
+fn push_members(snapshot: &Snapshot, stamps: &[u32], weights: &mut Weights)
+    requires targets { length stamps.now ≡ length snapshot.now.targets }
+    requires empty { weights.old.plain.committee ≡ [] }
+    requires spare { length snapshot.now.targets ≤ weights.old.member_spare }
+    ensures members { weights.new.plain.committee
+        ≡ filter (λ target. nat_lt 0 (slice_index_or stamps.now target 0)) (range_with_len 0 (length snapshot.now.targets)) }
+    ensures edges { weights.new.plain.edges ≡ weights.old.plain.edges }
+    ensures room { KeepsRoom weights.old weights.new }
+{
+    for target in 0..snapshot.target_count() {
+        if stamps[target] > 0 {
+            weights.push_member(target as u16);
+        }
+    }
+}
+
+/// Tells that the score of the weights is another one than the claim.
+pub(crate) fn check_score(
+    snapshot: &Snapshot,
+    claim: &Score,
+    weights: &Weights,
+) -> Result<(), Verdict>
+    requires { IsFeasible snapshot.now weights.now.plain }
+    ensures { result ≡ answer_of (score_fault claim.now weights.now.plain) }
+{
+    // A well-formed snapshot has a seat, and its stakes sum below 2^64.
+    let _seats = snapshot.seats();
+    let score = weights.score();
+    if score == *claim {
+        Ok(())
+    } else {
+        Err(Verdict::WrongScore(score))
+    }
+}

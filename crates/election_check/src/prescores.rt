@@ -1,0 +1,137 @@
+//! The last step of a check: what is left of the voters' stake, and whether it would pay for a seat outside.
+ghost use Rattle.std.specs.Prelude.{◌≡◌, ◌<◌, ◌≤◌, ◌+◌, ◌*◌, ◌/◌, ◌^◌, ℕ, min, cond, false, length, nat_eq, slice_index_or, All};
+ghost use Rattle.std.specs.List.{IsDistinct};
+ghost use Rattle.election_snapshot.specs.Snapshot.{has, threshold};
+ghost use Rattle.weight_book.specs.Weights.{IsFeasible};
+ghost use Rattle.weight_book.specs.Passing.{slack};
+ghost use Rattle.election_check.specs.First.{answer_of};
+ghost use Rattle.election_check.specs.Kept.{AreTablesOf, AreMarks};
+ghost use Rattle.election_check.specs.Steps.{size_fault, outweighed, prescore_of};
+
+use crate::Verdict;
+use crate::tables::Tables;
+use election_snapshot::Snapshot;
+use npos_base::Edge;
+use weight_book::Weights;
+
+/// Tells whether there is not one member for each seat.
+pub(crate) fn check_size(snapshot: &Snapshot, weights: &Weights) -> Result<(), Verdict>
+    requires { length weights.now.plain.committee ≤ length snapshot.now.targets }
+    ensures { result ≡ answer_of (size_fault snapshot.now weights.now.plain) }
+{
+    let seats = snapshot.seats();
+    let found = weights.committee().len() as u32;
+    if found == seats {
+        Ok(())
+    } else {
+        Err(Verdict::WrongSize(found))
+    }
+}
+
+/// Tells the lowest target outside whose prescore reaches the price of a seat.
+pub(crate) fn check_prescores(
+    snapshot: &Snapshot,
+    weights: &Weights,
+    tables: &mut Tables,
+) -> Result<(), Verdict>
+    requires feasible { IsFeasible snapshot.now weights.now.plain }
+    requires tables { AreTablesOf snapshot.now tables.old }
+    ensures verdict { result ≡ answer_of (outweighed snapshot.now weights.now.plain) }
+    ensures tables { AreTablesOf snapshot.now tables.new }
+{
+    mark(weights.committee(), &mut tables.is_member);
+    fill_slacks(snapshot, weights, &mut tables.left);
+    fill_prescores(snapshot, weights, &tables.left, &mut tables.prescores);
+    first_outweighing(snapshot, weights, &tables.is_member, &tables.prescores)
+}
+
+/// Marks the members alone.
+fn mark(members: &[u16], is_member: &mut [bool])
+    requires { All (λ member. member < length is_member.old) members.now }
+    ensures { AreMarks is_member.new members.now }
+{
+    is_member.fill(false);
+    for member in members {
+        is_member[usize::from(*member)] = true;
+    }
+}
+
+/// By voter, its stake less what its edges pay.
+fn fill_slacks(snapshot: &Snapshot, weights: &Weights, left: &mut [u64])
+    requires feasible { IsFeasible snapshot.now weights.now.plain }
+    requires stakes { length left.old ≡ length snapshot.now.voters }
+    ensures { (voter : ℕ) → voter < length snapshot.now.voters
+        → slice_index_or left.new voter 0 ≡ slack (threshold snapshot.now) snapshot.now weights.now.plain.edges voter }
+{
+    let price = snapshot.threshold();
+    left.copy_from_slice(snapshot.stakes());
+    for edge in weights.edges() {
+        left[edge.voter as usize] -= pay(edge, price, weights.support(edge.target));
+    }
+}
+
+/// The edge's part of the price of its member's seat, rounded down.
+fn pay(edge: &Edge, price: u64, support: u128) -> u64
+    requires { edge.now.amount ≤ support }
+    ensures { result ≡ edge.now.amount * min price support / support }
+{
+    if support <= u128::from(price) {
+        return edge.amount;
+    }
+    (u128::from(edge.amount) * u128::from(price) / support) as u64
+}
+
+/// By target, what its nominators have left.
+fn fill_prescores(snapshot: &Snapshot, weights: &Weights, slacks: &[u64], prescores: &mut [u64])
+    requires slacks { (voter : ℕ) → voter < length snapshot.now.voters
+        → slice_index_or slacks.now voter 0 ≡ slack (threshold snapshot.now) snapshot.now weights.now.plain.edges voter }
+    requires voters { length slacks.now ≡ length snapshot.now.voters }
+    requires targets { length prescores.old ≡ length snapshot.now.targets }
+    ensures { (target : ℕ) → target < length snapshot.now.targets
+        → slice_index_or prescores.new target 0 ≡ prescore_of snapshot.now weights.now.plain target }
+{
+    prescores.fill(0);
+    for voter in 0..snapshot.voter_count() {
+        add_to_all(snapshot.votes(voter as u32), slacks[voter], prescores);
+    }
+}
+
+/// Adds the slack at each of the votes.
+fn add_to_all(votes: &[u16], slack: u64, prescores: &mut [u64])
+    requires in_range { All (λ vote. vote < length prescores.old) votes.now }
+    requires distinct { IsDistinct nat_eq votes.now }
+    requires fits { (target : ℕ) → target < length prescores.old → slice_index_or prescores.old target 0 + slack < 2 ^ 64 }
+    ensures { (target : ℕ) → target < length prescores.old
+        → slice_index_or prescores.new target 0 ≡ slice_index_or prescores.old target 0 + cond (has votes.now target) slack 0 }
+{
+    for vote in votes {
+        prescores[usize::from(*vote)] += slack;
+    }
+}
+
+/// Tells the lowest target that is not marked and whose prescore reaches the price of a seat.
+fn first_outweighing(
+    snapshot: &Snapshot,
+    weights: &Weights,
+    is_member: &[bool],
+    prescores: &[u64],
+) -> Result<(), Verdict>
+    requires marks { AreMarks is_member.now weights.now.plain.committee }
+    requires members { length is_member.now ≡ length snapshot.now.targets }
+    requires prescores { (target : ℕ) → target < length snapshot.now.targets
+        → slice_index_or prescores.now target 0 ≡ prescore_of snapshot.now weights.now.plain target }
+    requires targets { length prescores.now ≡ length snapshot.now.targets }
+    ensures { result ≡ answer_of (outweighed snapshot.now weights.now.plain) }
+{
+    let price = snapshot.threshold();
+    for target in 0..snapshot.target_count() {
+        let prescore = prescores[target];
+        if !is_member[target] && prescore >= price {
+            return Err(Verdict::Outweighed {
+                target: target as u16,
+                prescore,
+            });
+        }
+    }
+    Ok(())
+}

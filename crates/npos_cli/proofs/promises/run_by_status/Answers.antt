@@ -1,0 +1,32 @@
+use Rattle.std.proofs.Common.{map, string_bytes, true, false}
+use Rattle.npos_base.specs.Outside.{Rose}
+use Rattle.npos_cli.proofs.PromiseLaws.{usage_front_of, done_of, bad_of, comes_of, front_of}
+use Rattle.npos_cli.proofs.promises.run_by_status.Goals as goal
+
+pub returns-clause-usage_front : goal.returns-clause-usage_front
+returns-clause-usage_front g c = usage_front_of (map string_bytes c.args.words.now) (g.S.Source.left c.args.source.now) (g.K.Sink.told c.args.sink.now)
+    (g.K.Sink.told c.run.new.sink) c.run.ensures.front
+
+pub returns-clause-done : goal.returns-clause-done
+returns-clause-done g c = λ asked is. done_of (map string_bytes c.args.words.now) asked (g.S.Source.left c.args.source.now) (g.S.Source.left c.run.new.source)
+    (g.K.Sink.told c.args.sink.now) (g.K.Sink.told c.run.new.sink) c.run.result is c.run.ensures.answers c.run.ensures.drained
+
+pub returns-clause-done_comes : goal.returns-clause-done_comes
+returns-clause-done_comes g c = λ asked. comes_of (map string_bytes c.args.words.now) asked (g.S.Source.left c.args.source.now) (g.K.Sink.told c.args.sink.now)
+    (g.K.Sink.told c.run.new.sink) c.run.result (Rose (g.S.Source.faults c.args.source.now) (g.S.Source.faults c.run.new.source))
+    (Rose (g.K.Sink.faults c.args.sink.now) (g.K.Sink.faults c.run.new.sink)) false c.run.ensures.answers (λ is. (c.run.ensures.read_fault is).1)
+    c.run.ensures.write_fault
+
+pub returns-clause-bad : goal.returns-clause-bad
+returns-clause-bad g c = λ asked is. bad_of (map string_bytes c.args.words.now) asked (g.S.Source.left c.args.source.now) (g.K.Sink.told c.args.sink.now)
+    (g.K.Sink.told c.run.new.sink) c.run.result is c.run.ensures.answers
+
+pub returns-clause-bad_comes : goal.returns-clause-bad_comes
+returns-clause-bad_comes g c = λ asked. comes_of (map string_bytes c.args.words.now) asked (g.S.Source.left c.args.source.now) (g.K.Sink.told c.args.sink.now)
+    (g.K.Sink.told c.run.new.sink) c.run.result (Rose (g.S.Source.faults c.args.source.now) (g.S.Source.faults c.run.new.source))
+    (Rose (g.K.Sink.faults c.args.sink.now) (g.K.Sink.faults c.run.new.sink)) true c.run.ensures.answers (λ is. (c.run.ensures.read_fault is).1)
+    c.run.ensures.write_fault
+
+pub returns-clause-replay_front : goal.returns-clause-replay_front
+returns-clause-replay_front g c = λ asked. front_of (map string_bytes c.args.words.now) asked (g.S.Source.left c.args.source.now) (g.K.Sink.told c.args.sink.now)
+    (g.K.Sink.told c.run.new.sink) c.run.ensures.front

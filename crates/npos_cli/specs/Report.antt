@@ -1,0 +1,45 @@
+-- What a run owes: the text and the status that its words and the bytes of its input determine.
+use Rattle.std.specs.Prelude.{◌≡◌, ⊤, ℕ, Bool, true, false, List, Option, Some, None}
+use Rattle.npos_runtime.specs.declared.chain.Chain.{Chain}
+use Rattle.npos_cli.specs.declared.job.Job.{Job}
+use Rattle.npos_cli.specs.declared.job.Job.TheVariants as jobs
+use Rattle.npos_cli.specs.declared.status.Status.{Status}
+use Rattle.npos_cli.specs.declared.status.Status.TheVariants as statuses
+use Rattle.npos_cli.specs.Words.{job_of, usage_line}
+use Rattle.npos_cli.specs.Replay.{Outcome, IsReplay}
+use Rattle.npos_cli.specs.Chain.{npos_machine}
+use Rattle.npos_cli.specs.Bundles.{check_report}
+
+-- a replay is done, unless it ends with a fault line
+abbrev pub replay_status : Bool → Status
+replay_status true = statuses.BadInput
+replay_status false = statuses.Done
+
+-- A row a job: what is owed for these bytes. Words that ask for no job owe the usage line, whatever the bytes are.
+abbrev pub JobOwes : Option Job → List ℕ → List ℕ → Status → Type 0
+JobOwes None bytes text status = (text ≡ usage_line) × (status ≡ statuses.Usage)
+JobOwes (Some jobs.Replay) bytes text status =
+    (out : Outcome Chain) × IsReplay npos_machine bytes out × (text ≡ out.text) × (status ≡ replay_status out.faulty)
+JobOwes (Some jobs.Check) bytes text status = record { text = text; status = status } ≡ check_report bytes
+
+abbrev pub Owes : List (List ℕ) → List ℕ → List ℕ → Status → Type 0
+Owes words = JobOwes (job_of words)
+
+-- whether a job reads its input
+abbrev pub ReadsInput : Option Job → Type 0
+ReadsInput None = ⊥
+ReadsInput (Some jobs.Replay) = ⊤
+ReadsInput (Some jobs.Check) = ⊤
+
+-- a status that answers what is owed; the others say that the run was cut off
+abbrev pub IsAnswer : Status → Type 0
+IsAnswer statuses.ReadFault = ⊥
+IsAnswer statuses.WriteFault = ⊥
+IsAnswer statuses.NoMemory = ⊥
+IsAnswer _ = ⊤
+
+-- a status that comes only where the input was read to its end
+abbrev pub IsJudged : Status → Type 0
+IsJudged statuses.Done = ⊤
+IsJudged statuses.No = ⊤
+IsJudged _ = ⊥

@@ -1,0 +1,30 @@
+//! An input that is read whole, up to a limit.
+ghost use Rattle.std.specs.Prelude.{◌≡◌, ◌+◌, ◌<◌, ◌≤◌, ◌^◌, true, false, [], length, vec_len, IfOk};
+ghost use Rattle.npos_cli.specs.Owed.{HaltsWell, LeftAfter, IsDrained, TakesMore, ReadsUpTo};
+
+use crate::Status;
+use crate::held::{blank_piece, read_more};
+use npos_base::Source;
+use std::alloc::Global;
+
+/// The most bytes of one read.
+const PIECE: usize = 65_536;
+
+/// Reads on until the input has ended or more than `most` bytes were read, but never more than one byte beyond. The
+/// status of an Err is ReadFault or NoMemory.
+pub fn read_up_to<S: Source>(alloc: Global, source: &mut S, most: usize) -> Result<Vec<u8>, Status>
+    requires { most < 2 ^ 32 }
+    ensures read { IfOk result (λ bytes. ReadsUpTo most (S.left source.old) (S.left source.new) bytes.items) }
+    ensures halts { HaltsWell (S.faults source.old) (S.faults source.new) result }
+{
+    let mut bytes = Vec::new(alloc);
+    let mut piece = blank_piece(alloc, PIECE)?;
+    'reads: while bytes.len() <= most {
+        let room = (most + 1 - bytes.len()).min(PIECE);
+        let (front, _) = piece.as_mut_slice().split_at_mut(room);
+        if read_more(source, front, &mut bytes)? {
+            return Ok(bytes);
+        }
+    }
+    Ok(bytes)
+}

@@ -1,0 +1,55 @@
+//! What follows from the contract of `run`, said status by status.
+ghost use Rattle.std.specs.Prelude.{◌≡◌, ◌≢◌, ◌⊎◌, Some, [], map, true, false, IfSome, string_bytes};
+ghost use Rattle.npos_base.specs.Outside.{Rose};
+ghost use Rattle.npos_cli.specs.declared.job.Job.TheVariants as jobs;
+ghost use Rattle.npos_cli.specs.Words.{HasForm, job_of, usage_line};
+ghost use Rattle.npos_cli.specs.Chain.{npos_machine};
+ghost use Rattle.npos_cli.specs.Owed.{Delivers, DeliversFront, DeliversReplay, DeliversReplayFront, Comes, ComesWith};
+
+use crate::{Status, run};
+use npos_base::{Sink, Source};
+use std::alloc::Global;
+use std::string::String;
+
+/// Runs the program, and says of each status when it comes and what was then written and read: of
+/// Usage for all words, and of the others for a replay. The body calls `run` and nothing else, so each
+/// clause here is one of `run` too.
+#[tactic(auto, using(crate::proofs::PromiseLaws::usage_due, crate::proofs::PromiseLaws::unasked, crate::proofs::PromiseLaws::usage_comes))]
+pub fn run_by_status<S: Source, K: Sink>(
+    alloc: Global,
+    words: &[String],
+    source: &mut S,
+    sink: &mut K,
+) -> Status
+    ensures usage { result ≡ Status.Usage → (HasForm (map string_bytes words.now) → ⊥)
+        × Delivers (K.told sink.old) (K.told sink.new) usage_line }
+    ensures usage_comes { (HasForm (map string_bytes words.now) → ⊥)
+        → Comes Status.Usage result (Rose (K.faults sink.old) (K.faults sink.new)) }
+    ensures usage_front { (HasForm (map string_bytes words.now) → ⊥)
+        → DeliversFront (K.told sink.old) (K.told sink.new) usage_line }
+    ensures nothing_read { (HasForm (map string_bytes words.now) → ⊥) → source.new ≡ source.old }
+    ensures done { job_of (map string_bytes words.now) ≡ Some jobs.Replay → result ≡ Status.Done
+        → IfSome (S.left source.old) (λ bytes.
+        DeliversReplay npos_machine false (K.told sink.old) (K.told sink.new) bytes
+        × (S.left source.new ≡ Some [])) }
+    ensures done_comes { job_of (map string_bytes words.now) ≡ Some jobs.Replay
+        → IfSome (S.left source.old) (λ bytes.
+        ComesWith npos_machine bytes false Status.Done result
+        (Rose (S.faults source.old) (S.faults source.new)
+        ⊎ Rose (K.faults sink.old) (K.faults sink.new))) }
+    ensures bad { job_of (map string_bytes words.now) ≡ Some jobs.Replay → result ≡ Status.BadInput
+        → IfSome (S.left source.old)
+        (DeliversReplay npos_machine true (K.told sink.old) (K.told sink.new)) }
+    ensures bad_comes { job_of (map string_bytes words.now) ≡ Some jobs.Replay
+        → IfSome (S.left source.old) (λ bytes.
+        ComesWith npos_machine bytes true Status.BadInput result
+        (Rose (S.faults source.old) (S.faults source.new)
+        ⊎ Rose (K.faults sink.old) (K.faults sink.new))) }
+    ensures no_verdict { job_of (map string_bytes words.now) ≡ Some jobs.Replay
+        → result ≢ Status.No }
+    ensures replay_front { job_of (map string_bytes words.now) ≡ Some jobs.Replay
+        → IfSome (S.left source.old)
+        (DeliversReplayFront npos_machine (K.told sink.old) (K.told sink.new)) }
+{
+    run(alloc, words, source, sink)
+}

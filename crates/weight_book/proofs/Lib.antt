@@ -1,0 +1,5 @@
+pub mod AveragingLemmas
+pub mod ScoreLemmas
+pub mod SumLemmas
+pub mod StakeLemmas
+pub mod OrderLemmas

@@ -1,0 +1,6 @@
+pub mod Kept
+pub mod Passing
+pub mod Proportional
+pub mod Room
+pub mod Scoring
+pub mod Weights
