@@ -19,7 +19,7 @@ number_test a b differ = grind (arith, nat_tests)
 pub number_same : (a : ℕ) → nat_eq a a ≡ true
 number_same a = grind (arith, nat_tests)
 
-number_tie : (a b : ℕ) → nat_eq a b ≡ true → a ≡ b
+pub number_tie : (a b : ℕ) → nat_eq a b ≡ true → a ≡ b
 number_tie a b e = grind (arith, nat_tests)
 
 -- an account is this one, or the test tells it apart

@@ -9,3 +9,4 @@ pub mod RingLemmas
 pub mod NodeLemmas
 pub mod LinkedLemmas
 pub mod ScoreLemmas
+pub mod DistinctLemmas

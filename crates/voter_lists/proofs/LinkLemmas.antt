@@ -371,13 +371,17 @@ module _ (next prev next' prev' : ℕ → ℕ) (heads : ℕ) where
             subst (λ ks. IsChain next' prev' heads from ks to) (sym (before_here key other first rest here)) (
               splice.into,
               splice.back_out,
-              (splice.out, splice.back_into, IsChain-kept (heads + first) rest to chain.2
-                  (λ at on. splice.nexts at
-                  (λ same. off_not_on heads (heads + first) rest from at (from_off first (inl refl)) (λ k there. from_off k (inr there)) on (sym same))
-                  (λ same. elim on [ inl it ↦ new first (inl refl) (sym it ∙ same) | inr there ↦ new there.0 (inr there.1) (sym there.2 ∙ same) ]))
-                  (λ at on. splice.prevs at
-                  (λ same. off_not_on heads to rest (heads + first) at (λ end. to_off first (inl refl) (sym end)) (IsOff-head heads first rest apart.0) on (sym same))
-                  (λ same. elim on [ inl it ↦ end_unlike (sym it ∙ same) | inr there ↦ new there.0 (inr there.1) (sym there.2 ∙ same) ]))),
+              (
+                splice.out,
+                splice.back_into,
+                IsChain-kept (heads + first) rest to chain.2
+                    (λ at on. splice.nexts at
+                    (λ same. off_not_on heads (heads + first) rest from at (from_off first (inl refl)) (λ k there. from_off k (inr there)) on (sym same))
+                    (λ same. elim on [ inl it ↦ new first (inl refl) (sym it ∙ same) | inr there ↦ new there.0 (inr there.1) (sym there.2 ∙ same) ]))
+                    (λ at on. splice.prevs at
+                    (λ same. off_not_on heads to rest (heads + first) at (λ end. to_off first (inl refl) (sym end)) (IsOff-head heads first rest apart.0) on (sym same))
+                    (λ same. elim on [ inl it ↦ end_unlike (sym it ∙ same) | inr there ↦ new there.0 (inr there.1) (sym there.2 ∙ same) ])),
+              ),
             )
         | inr differs ↦
             let there : IsIn other rest = elim found [ inl it ↦ absurd (differs it) | inr later ↦ later ] in

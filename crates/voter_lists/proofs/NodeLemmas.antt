@@ -152,7 +152,7 @@ module _ (rings : Lists) (accounts : List AccountId) (place_of : AccountId → O
 
   -- no account of a bag has a place that is in no bag
   not_free : (place n k : ℕ) → list_of rings place ≡ Some n → list_of rings k ≡ Some count → n < count → place ≢ k
-  not_free place n k linked free lt same = 
+  not_free place n k linked free lt same =
       let e : n ≡ count = same_Some n count (sym linked ∙ ap (λ p. list_of rings p) same ∙ free) in omega (arith, e, lt)
 
   module _ (new : Lists) (place : ℕ) where

@@ -114,7 +114,7 @@ holds_append (x ∷ xs) ys who = at (same_account x who) (holds_append xs ys who
   at true rest = refl
   at false rest = rest
 
-falling_apart : (home : AccountId → Option ℕ) (who : AccountId) (number : ℕ) (bags : List (List AccountId)) → ((other : ℕ) → number ≤ other → is_in (home who) other ≡ false) → AreNoted home number bags → holds (falling bags) who ≡ false
+pub falling_apart : (home : AccountId → Option ℕ) (who : AccountId) (number : ℕ) (bags : List (List AccountId)) → ((other : ℕ) → number ≤ other → is_in (home who) other ≡ false) → AreNoted home number bags → holds (falling bags) who ≡ false
 falling_apart home who number [] far l = refl
 falling_apart home who number (bag ∷ bags) far l =
     holds_append (falling bags) bag who ∙ rw (falling_apart home who (number + 1) bags (λ other h. far other (omega (arith, h))) l.1, l.0 who ∙ far number (omega arith)) refl

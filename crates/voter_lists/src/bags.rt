@@ -1,5 +1,7 @@
 //! The bags, after Substrate's bags-list pallet: accounts by coarse score, so that no list is ever sorted.
 ghost use Rattle.std.specs.Prelude.{◌≡◌, ◌≢◌, ◌≤◌, [], ◌∷◌, length, IsTrue, Some, None, Ok, IfOk, IsOk, IfErr, OnOk, OnErr, not, true, false, slice_get};
+ghost use Rattle.std.specs.List.{IsDistinct};
+ghost use Rattle.npos_base.specs.Account.{same_account};
 ghost use Rattle.npos_base.specs.declared.limits.TheConstants.{MOST_THRESHOLDS};
 ghost use Rattle.npos_base.specs.Refusal.{Meets};
 ghost use Rattle.voter_lists.specs.declared.refusal.ListRefusal.TheVariants as refusals;
@@ -158,9 +160,10 @@ impl Bags {
         }
     }
 
-    /// The walk over all accounts, from the highest bag down and within a bag from head to tail.
+    /// The walk over all accounts, from the highest bag down and within a bag from head to tail. It comes to each once.
     pub fn walk(&self) -> Walk<'_>
-        ensures { result ≡ walk self.now.order }
+        ensures accounts { result ≡ walk self.now.order }
+        ensures once { IsDistinct same_account (walk self.now.order) }
     {
         Walk::over(&self.nodes)
     }

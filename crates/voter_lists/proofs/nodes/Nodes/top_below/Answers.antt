@@ -17,8 +17,7 @@ returns-in-Some-clause-some c =
 
 pub loop-lower-preserved : goal.loop-lower-preserved
 loop-lower-preserved c =
-    let one : c.loop-lower.lower ≡ c.loop-lower.lower - 1 + 1 = omega arith in
-    (
+    let one : c.loop-lower.lower ≡ c.loop-lower.lower - 1 + 1 = omega arith in (
       omega arith,
       c.loop-lower.invariant.1 ∙ ap (λ n. falling (take n (bags_in c.args.self.now))) one
           ∙ top_none c.args.self.now (c.loop-lower.lower - 1) (omega arith) (sym c.in_default.ensures.value),
