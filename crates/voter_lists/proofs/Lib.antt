@@ -10,3 +10,4 @@ pub mod NodeLemmas
 pub mod LinkedLemmas
 pub mod ScoreLemmas
 pub mod DistinctLemmas
+pub mod PlaceLemmas
