@@ -6,3 +6,4 @@ pub mod Roles
 pub mod Links
 pub mod Rings
 pub mod Nodes
+pub mod OneWalk

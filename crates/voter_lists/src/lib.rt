@@ -3,6 +3,7 @@
 #![tactic(auto)]
 
 mod bags;
+pub mod laws;
 mod nodes;
 mod ranks;
 mod refusal;
