@@ -1,5 +1,5 @@
 -- The voters, as they are kept in three lists of one length.
-use Rattle.std.proofs.Common.{◌≡◌, ℕ, zero, suc, ◌+◌, ◌<◌, ◌≤◌, ◌^◌, Bool, true, false, nat_eq, nat_le, nat_lt, List, [], ◌∷◌, ◌++◌, length, get_or, sum, refl, ap, ap₂, sym, ◌∙◌, subst, arith, Option, Some, None, slice_get, if◌then◌else◌, ◌||◌, true≢false, length-append}
+use Rattle.std.proofs.Common.{◌≡◌, ℕ, zero, suc, ◌+◌, ◌<◌, ◌≤◌, ◌^◌, Bool, true, false, nat_eq, nat_le, nat_lt, List, [], ◌∷◌, ◌++◌, length, get_or, sum, refl, ap, ap₂, sym, ◌∙◌, subst, arith, Option, Some, None, slice_get, if◌then◌else◌, ◌||◌, true≢false, length-append, is_some}
 use Rattle.std.specs.List.{IsDistinct, list_any, AllByRecursion}
 use Rattle.std.proofs.lemmas.List.Sums.{sum_by-cons, sum_by-append}
 use Rattle.std.proofs.lemmas.List.Elements.{All-push}
@@ -7,8 +7,9 @@ use Rattle.std.proofs.lemmas.Bool.Decides.{nat_tests}
 use Rattle.election_snapshot.specs.declared.fault.SnapshotFault.{SnapshotFault}
 use Rattle.npos_base.specs.declared.account.AccountId.{AccountId}
 use Rattle.npos_base.specs.Account.{same_account}
+use Rattle.npos_base.proofs.AccountOrder.{same_itself, same_exact}
 use Rattle.election_snapshot.specs.Snapshot.{Voter, no_account, nobody, stakes_of, total_of, IsVoterOf, AreVotersOf, has}
-use Rattle.election_snapshot.specs.Draft.{accounts_of, has_repeat, stands_in, first_voter_fault, voter_fault, first_seats_fault, finish_fault}
+use Rattle.election_snapshot.specs.Draft.{Draft, accounts_of, has_repeat, stands_in, voter_fault, with_voter, first_seats_fault, finish_fault}
 use Rattle.election_snapshot.specs.Kept.{voters_of, AreKept}
 
 pub kept_count : (accounts : List AccountId) (stakes : List ℕ) (votes : List (List ℕ)) → length stakes ≡ length accounts → length votes ≡ length accounts → length (voters_of accounts stakes votes) ≡ length accounts
@@ -54,11 +55,10 @@ total_stakes (voter ∷ voters) = sum_by-cons (λ (v : Voter). v.stake) voter vo
 pub kept_total : (targets accounts : List AccountId) (stakes : List ℕ) (votes : List (List ℕ)) (total : ℕ) → AreKept targets accounts stakes votes total → total_of (voters_of accounts stakes votes) ≡ total
 kept_total targets accounts stakes votes total h = total_stakes (voters_of accounts stakes votes) ∙ ap sum (kept_stakes accounts stakes votes h.stakes_count h.votes_count) ∙ sym h.total_is
 
--- an item read at a place
-pub account_at : (accounts : List AccountId) (i : ℕ) (account d : AccountId) → Some account ≡ slice_get accounts i → account ≡ get_or accounts i d
-account_at [] i account d e = absurd (cc)
-account_at (a ∷ accounts) zero account d e = cc
-account_at (a ∷ accounts) (suc i) account d e = account_at accounts i account d e
+pub account_read : (accounts : List AccountId) (i : ℕ) (d e : AccountId) → i < length accounts → get_or accounts i d ≡ get_or accounts i e
+account_read [] i d e h = absurd (omega (arith, h))
+account_read (a ∷ accounts) zero d e h = refl
+account_read (a ∷ accounts) (suc i) d e h = account_read accounts i d e (omega (arith, h))
 
 pub votes_at : (votes : List (List ℕ)) (i : ℕ) (d e : List ℕ) → i < length votes → get_or votes i d ≡ get_or votes i e
 votes_at [] i d e h = absurd (omega (arith, h))
@@ -72,39 +72,39 @@ stake_within (voter ∷ voters) zero = rw sum_by-cons (omega arith)
 stake_within (voter ∷ voters) (suc i) = let rest = stake_within voters i in rw sum_by-cons (omega (arith, rest))
 
 -- a voter with no fault
-pub record IsSound (targets : ℕ) (accounts : List AccountId) (total : ℕ) (who : AccountId) (stake : ℕ) (votes : List ℕ) : Type 0 where
-  pub room : length accounts < 16384
-  pub is_new : stands_in accounts who ≡ false
+pub record IsSound (draft : Draft) (who : AccountId) (stake : ℕ) (votes : List ℕ) : Type 0 where
+  pub room : length draft.voters < 16384
+  pub is_new : stands_in (accounts_of draft.voters) who ≡ false
   pub stake_above : 0 < stake
   pub some_votes : 1 ≤ length votes
   pub few_votes : length votes ≤ 16
-  pub in_range : list_any (λ target. nat_le targets target) votes ≡ false
+  pub in_range : list_any (λ target. nat_le (length draft.targets) target) votes ≡ false
   pub no_repeat : has_repeat votes ≡ false
-  pub fits : total + stake < 2 ^ 64
+  pub fits : total_of draft.voters + stake < 2 ^ 64
 
 passed : (b : Bool) (fault : SnapshotFault) (rest : Option SnapshotFault) → (if b then Some fault else rest) ≡ None → (b ≡ false) × (rest ≡ None)
 passed true fault rest e = absurd (cc)
 passed false fault rest e = (refl, e)
 
-pub sound : (targets : ℕ) (accounts : List AccountId) (total : ℕ) (who : AccountId) (stake : ℕ) (votes : List ℕ) → first_voter_fault targets accounts total who stake votes ≡ None → IsSound targets accounts total who stake votes
-sound targets accounts total who stake votes e =
-    let (full, e1) = passed (nat_le 16384 (length accounts)) _ _ e in
-    let (old, e2) = passed (stands_in accounts who) _ _ e1 in
+pub sound : (draft : Draft) (who : AccountId) (stake : ℕ) (votes : List ℕ) → voter_fault draft who stake votes ≡ None → IsSound draft who stake votes
+sound draft who stake votes e =
+    let (full, e1) = passed (nat_le 16384 (length draft.voters)) _ _ e in
+    let (old, e2) = passed (stands_in (accounts_of draft.voters) who) _ _ e1 in
     let (poor, e3) = passed (nat_eq stake 0) _ _ e2 in
     let (empty, e4) = passed (nat_eq (length votes) 0) _ _ e3 in
     let (many, e5) = passed (nat_lt 16 (length votes)) _ _ e4 in
-    let (past, e6) = passed (list_any (λ target. nat_le targets target) votes) _ _ e5 in
+    let (past, e6) = passed (list_any (λ target. nat_le (length draft.targets) target) votes) _ _ e5 in
     let (twice, e7) = passed (has_repeat votes) _ _ e6 in
-    let (large, e8) = passed (nat_le (2 ^ 64) (total + stake)) _ _ e7 in
+    let (large, e8) = passed (nat_le (2 ^ 64) (total_of draft.voters + stake)) _ _ e7 in
     record {
-      room = over 16384 (length accounts) full;
+      room = over 16384 (length draft.voters) full;
       is_new = old;
       stake_above = above stake poor;
       some_votes = above (length votes) empty;
       few_votes = under 16 (length votes) many;
       in_range = past;
       no_repeat = twice;
-      fits = over (2 ^ 64) (total + stake) large;
+      fits = over (2 ^ 64) (total_of draft.voters + stake) large;
     } where
       over : (a b : ℕ) → nat_le a b ≡ false → b < a
       over a b e = grind (arith, nat_tests)
@@ -156,61 +156,88 @@ total_more voters voter = sum_by-append (λ (v : Voter). v.stake) voters (voter 
 sum_more : (stakes : List ℕ) (stake : ℕ) → sum (stakes ++ stake ∷ []) ≡ sum stakes + stake
 sum_more stakes stake = sum_by-append (λ (n : ℕ). n) stakes (stake ∷ []) ∙ ap (λ n. sum stakes + n) (sum_by-cons (λ (n : ℕ). n) stake [] ∙ omega arith)
 
+-- ## One voter more
+
+all_with : (P : AccountId → Type 0) (accounts : List AccountId) (who : AccountId) → AllByRecursion P accounts → P who → AllByRecursion P (accounts ++ who ∷ [])
+all_with P [] who all here = (here, tt)
+all_with P (account ∷ accounts) who all here = (all.0, all_with P accounts who all.1 here)
+
+turned_account : (a b : AccountId) → same_account a b ≡ false → same_account b a ≡ false
+turned_account a b apart = by_test (same_account b a) refl where
+  by_test : (t : Bool) → same_account b a ≡ t → t ≡ false
+  by_test true same = absurd (true≢false (sym (same_itself a) ∙ ap (λ x. same_account a x) (sym (same_exact b a same)) ∙ apart))
+  by_test false same = refl
+
+-- an account that does not stand there goes behind accounts that are distinct
+distinct_with : (accounts : List AccountId) (who : AccountId) → IsDistinct same_account accounts → stands_in accounts who ≡ false
+    → IsDistinct same_account (accounts ++ who ∷ [])
+unfolding IsDistinct
+distinct_with [] who distinct absent = (tt, tt)
+distinct_with (account ∷ accounts) who distinct absent = (
+  all_with (λ y. same_account account y ≡ false) accounts who distinct.0 (turned_account who account (first (same_account who account) absent)),
+  distinct_with accounts who distinct.1 (rest (same_account who account) absent),
+) where
+  first : (b : Bool) → (b || stands_in accounts who) ≡ false → b ≡ false
+  first true e = absurd (true≢false e)
+  first false e = refl
+
+  rest : (b : Bool) → (b || stands_in accounts who) ≡ false → stands_in accounts who ≡ false
+  rest true e = absurd (true≢false e)
+  rest false e = e
+
+pub accounts_with : (voters : List Voter) (voter : Voter) → accounts_of (voters ++ voter ∷ []) ≡ accounts_of voters ++ voter.account ∷ []
+accounts_with [] voter = refl
+accounts_with (v ∷ voters) voter = ap (λ accounts. v.account ∷ accounts) (accounts_with voters voter)
+
+voters_with : (draft : Draft) (who : AccountId) (stake : ℕ) (votes : List ℕ) → AreVotersOf draft.targets draft.voters → IsSound draft who stake votes
+    → AreVotersOf draft.targets (with_voter draft who stake votes).voters
+voters_with draft who stake votes are ok =
+    let voter : Voter = record { account = who; stake = stake; votes = votes } in
+    record {
+      targets_few = are.targets_few;
+      targets_distinct = are.targets_distinct;
+      voters_few = omega (arith, length-append draft.voters (voter ∷ []), ok.room);
+      accounts_distinct = subst (IsDistinct same_account) (sym (accounts_with draft.voters voter)) (distinct_with (accounts_of draft.voters) who are.accounts_distinct ok.is_new);
+      each_voter = All-push (IsVoterOf (length draft.targets)) draft.voters voter are.each_voter (record {
+        stake_above = ok.stake_above;
+        some_votes = ok.some_votes;
+        few_votes = ok.few_votes;
+        votes_in_range = all_below (length draft.targets) votes ok.in_range;
+        votes_distinct = all_different votes ok.no_repeat;
+      });
+      total_fits = subst (λ n. n < 2 ^ 64) (sym (total_more draft.voters voter)) ok.fits;
+    }
+
+abbrev pub kept_draft : List AccountId → List AccountId → List ℕ → List (List ℕ) → Draft
+kept_draft targets accounts stakes votes = record { targets = targets; voters = voters_of accounts stakes votes }
+
 -- the three lists with one voter more
-pub kept_added : (targets accounts : List AccountId) (stakes : List ℕ) (votes : List (List ℕ)) (total : ℕ) (who : AccountId) (stake : ℕ) (voted : List ℕ)
-    → AreKept targets accounts stakes votes total → IsSound (length targets) accounts total who stake voted → IsDistinct same_account (accounts ++ who ∷ [])
-    → AreKept targets (accounts ++ who ∷ []) (stakes ++ stake ∷ []) (votes ++ voted ∷ []) (total + stake)
-kept_added targets accounts stakes votes total who stake voted h ok distinct = record {
-  stakes_count = length-append stakes (stake ∷ []) ∙ ap (λ n. n + 1) h.stakes_count ∙ sym (length-append accounts (who ∷ []));
-  votes_count = length-append votes (voted ∷ []) ∙ ap (λ n. n + 1) h.votes_count ∙ sym (length-append accounts (who ∷ []));
-  total_is = ap (λ n. n + stake) h.total_is ∙ sym (sum_more stakes stake);
-  voters = subst (AreVotersOf targets) (sym more) (record {
-    targets_few = h.voters.targets_few;
-    targets_distinct = h.voters.targets_distinct;
-    voters_few = omega (arith, length-append (voters_of accounts stakes votes) (voter ∷ []), kept_count accounts stakes votes h.stakes_count h.votes_count, ok.room);
-    accounts_distinct = subst (IsDistinct same_account) (sym (ap accounts_of (sym more) ∙ kept_accounts (accounts ++ who ∷ []) (stakes ++ stake ∷ []) (votes ++ voted ∷ [])
-        (length-append stakes (stake ∷ []) ∙ ap (λ n. n + 1) h.stakes_count ∙ sym (length-append accounts (who ∷ [])))
-        (length-append votes (voted ∷ []) ∙ ap (λ n. n + 1) h.votes_count ∙ sym (length-append accounts (who ∷ []))))) distinct;
-    each_voter = All-push (IsVoterOf (length targets)) (voters_of accounts stakes votes) voter h.voters.each_voter (record {
-      stake_above = ok.stake_above;
-      some_votes = ok.some_votes;
-      few_votes = ok.few_votes;
-      votes_in_range = all_below (length targets) voted ok.in_range;
-      votes_distinct = all_different voted ok.no_repeat;
-    });
-    total_fits = subst (λ n. n < 2 ^ 64) (sym (total_more (voters_of accounts stakes votes) voter ∙ ap (λ n. n + stake) (kept_total targets accounts stakes votes total h))) ok.fits;
-  });
-} where
-  voter : Voter
-  voter = record { account = who; stake = stake; votes = voted }
+pub kept_with : (targets accounts : List AccountId) (stakes : List ℕ) (votes : List (List ℕ)) (total : ℕ) (who : AccountId) (stake : ℕ) (voted : List ℕ)
+    (now_accounts : List AccountId) (now_stakes : List ℕ) (now_votes : List (List ℕ))
+    → now_accounts ≡ accounts ++ who ∷ [] → now_stakes ≡ stakes ++ stake ∷ [] → now_votes ≡ votes ++ voted ∷ []
+    → AreKept targets accounts stakes votes total → voter_fault (kept_draft targets accounts stakes votes) who stake voted ≡ None
+    → AreKept targets now_accounts now_stakes now_votes (total + stake)
+kept_with targets accounts stakes votes total who stake voted now_accounts now_stakes now_votes a s v h free =
+    let ok = sound (kept_draft targets accounts stakes votes) who stake voted free in
+    rw (a, s, v) (record {
+      stakes_count = length-append stakes (stake ∷ []) ∙ ap (λ n. n + 1) h.stakes_count ∙ sym (length-append accounts (who ∷ []));
+      votes_count = length-append votes (voted ∷ []) ∙ ap (λ n. n + 1) h.votes_count ∙ sym (length-append accounts (who ∷ []));
+      total_is = ap (λ n. n + stake) h.total_is ∙ sym (sum_more stakes stake);
+      voters = subst (AreVotersOf targets) (sym (kept_more accounts stakes votes who stake voted h.stakes_count h.votes_count))
+          (voters_with (kept_draft targets accounts stakes votes) who stake voted h.voters ok);
+    })
 
-  more : voters_of (accounts ++ who ∷ []) (stakes ++ stake ∷ []) (votes ++ voted ∷ []) ≡ voters_of accounts stakes votes ++ record { account = who; stake = stake; votes = voted } ∷ []
-  more = kept_more accounts stakes votes who stake voted h.stakes_count h.votes_count
-
--- the faults of what is kept are those of the draft
-pub kept_fault : (targets accounts : List AccountId) (stakes : List ℕ) (votes : List (List ℕ)) (total : ℕ) (count : ℕ) (who : AccountId) (stake : ℕ) (voted : List ℕ)
-    → AreKept targets accounts stakes votes total → count ≡ length targets
-    → first_voter_fault count accounts total who stake voted ≡ voter_fault (record { targets = targets; voters = voters_of accounts stakes votes }) who stake voted
-kept_fault targets accounts stakes votes total count who stake voted h e =
-    ap (λ n. first_voter_fault n accounts total who stake voted) e
-    ∙ ap₂ (λ a t. first_voter_fault (length targets) a t who stake voted) (sym (kept_accounts accounts stakes votes h.stakes_count h.votes_count)) (sym (kept_total targets accounts stakes votes total h))
+-- the stakes with one more have their sum within range
+pub kept_fits : (targets accounts : List AccountId) (stakes : List ℕ) (votes : List (List ℕ)) (total : ℕ) (who : AccountId) (stake : ℕ) (voted : List ℕ)
+    → AreKept targets accounts stakes votes total → voter_fault (kept_draft targets accounts stakes votes) who stake voted ≡ None → total + stake < 2 ^ 64
+kept_fits targets accounts stakes votes total who stake voted h free =
+    subst (λ n. n + stake < 2 ^ 64) (kept_total targets accounts stakes votes total h) (sound (kept_draft targets accounts stakes votes) who stake voted free).fits
 
 pub kept_seats_fault : (targets accounts : List AccountId) (stakes : List ℕ) (votes : List (List ℕ)) (total : ℕ) (count seats : ℕ)
     → AreKept targets accounts stakes votes total → count ≡ length targets
     → first_seats_fault count total seats ≡ finish_fault (record { targets = targets; voters = voters_of accounts stakes votes }) seats
 kept_seats_fault targets accounts stakes votes total count seats h e =
     ap₂ (λ n t. first_seats_fault n t seats) e (sym (kept_total targets accounts stakes votes total h))
-
-pub inserted_new : (accounts : List AccountId) (who : AccountId) → stands_in accounts who ≡ false → (if stands_in accounts who then accounts else accounts ++ who ∷ []) ≡ accounts ++ who ∷ []
-inserted_new accounts who e = ap (λ b. if b then accounts else accounts ++ who ∷ []) e
-
-pub kept_new : (targets accounts : List AccountId) (stakes : List ℕ) (votes : List (List ℕ)) (total : ℕ) (who : AccountId) (stake : ℕ) (voted : List ℕ)
-    (now_accounts : List AccountId) (now_stakes : List ℕ) (now_votes : List (List ℕ))
-    → now_accounts ≡ accounts ++ who ∷ [] → now_stakes ≡ stakes ++ stake ∷ [] → now_votes ≡ votes ++ voted ∷ []
-    → AreKept targets accounts stakes votes total → IsSound (length targets) accounts total who stake voted → IsDistinct same_account now_accounts
-    → AreKept targets now_accounts now_stakes now_votes (total + stake)
-kept_new targets accounts stakes votes total who stake voted now_accounts now_stakes now_votes a s v h ok distinct =
-    rw (a, s, v) (kept_added targets accounts stakes votes total who stake voted h ok (subst (IsDistinct same_account) a distinct))
 
 pub voters_new : (targets accounts : List AccountId) (stakes : List ℕ) (votes : List (List ℕ)) (total : ℕ) (who : AccountId) (stake : ℕ) (voted : List ℕ)
     (now_accounts : List AccountId) (now_stakes : List ℕ) (now_votes : List (List ℕ))
@@ -224,3 +251,7 @@ pub stake_read : (voters : List Voter) (i : ℕ) → get_or (stakes_of voters) i
 stake_read [] i = refl
 stake_read (voter ∷ voters) zero = refl
 stake_read (voter ∷ voters) (suc i) = stake_read voters i
+
+pub none_of : {X : Type 0} (option : Option X) → is_some option ≡ false → option ≡ None
+none_of None e = refl
+none_of (Some x) e = absurd (true≢false e)

@@ -3,6 +3,7 @@ use Rattle.std.specs.Prelude.{ℕ, ◌*◌, ◌/◌, ◌^◌, ◌<◌, ◌≤◌
 use Rattle.std.specs.List.{list_any, IsDistinct}
 use Rattle.npos_base.specs.declared.account.AccountId.{AccountId}
 use Rattle.npos_base.specs.Account.{same_account}
+use Rattle.npos_base.specs.declared.limits.TheConstants.{MOST_NOMINATIONS, MOST_TARGETS, MOST_VOTERS, MOST_SEATS}
 
 -- an account with its stake and its nominations, which are positions of targets
 pub record Voter : Type 0 where
@@ -55,15 +56,15 @@ threshold snapshot = total_stake snapshot / snapshot.seats
 pub record IsVoterOf (targets : ℕ) (voter : Voter) : Type 0 where
   pub stake_above : 0 < voter.stake
   pub some_votes : 1 ≤ length voter.votes
-  pub few_votes : length voter.votes ≤ 16
+  pub few_votes : length voter.votes ≤ MOST_NOMINATIONS
   pub votes_in_range : All (λ target. target < targets) voter.votes
   pub votes_distinct : IsDistinct nat_eq voter.votes
 
 -- targets and voters of an election before its seats are known
 pub record AreVotersOf (targets : List AccountId) (voters : List Voter) : Type 0 where
-  pub targets_few : length targets ≤ 2048
+  pub targets_few : length targets ≤ MOST_TARGETS
   pub targets_distinct : IsDistinct same_account targets
-  pub voters_few : length voters ≤ 16384
+  pub voters_few : length voters ≤ MOST_VOTERS
   pub accounts_distinct : IsDistinct same_account (map (λ voter. voter.account) voters)
   pub each_voter : All (IsVoterOf (length targets)) voters
   pub total_fits : total_of voters < 2 ^ 64
@@ -71,7 +72,7 @@ pub record AreVotersOf (targets : List AccountId) (voters : List Voter) : Type 0
 pub record IsWellFormed (snapshot : Snapshot) : Type 0 where
   pub voters : AreVotersOf snapshot.targets snapshot.voters
   pub seats_some : 1 ≤ snapshot.seats
-  pub seats_few : snapshot.seats ≤ 512
+  pub seats_few : snapshot.seats ≤ MOST_SEATS
   pub targets_enough : snapshot.seats ≤ length snapshot.targets
   -- each seat stands for at least as much stake as there are seats
   pub total_enough : snapshot.seats * snapshot.seats ≤ total_stake snapshot

@@ -4,10 +4,12 @@
 mod ballot;
 mod builder;
 mod fault;
+mod parts;
 mod snapshot;
 
 pub use builder::SnapshotBuilder;
 pub use fault::SnapshotFault;
+pub use parts::SnapshotParts;
 pub use snapshot::Snapshot;
 
 #[cfg(test)]

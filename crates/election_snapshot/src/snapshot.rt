@@ -1,16 +1,17 @@
 //! A snapshot that is well formed.
 ghost use Rattle.std.specs.Prelude.{◌≡◌, ◌<◌, ◌≤◌, ◌*◌, length, Some, None, slice_get};
+ghost use Rattle.npos_base.specs.declared.limits.TheConstants.{MOST_TARGETS, MOST_VOTERS, MOST_SEATS};
 ghost use Rattle.election_snapshot.specs.Snapshot.{IsWellFormed, IsVoterOf, voter_at, stake_of, votes_of, stakes_of, nominates, total_stake, threshold};
 ghost use Rattle.election_snapshot.specs.Draft.{finish_fault, seated};
 
-use crate::SnapshotBuilder;
+use crate::SnapshotParts;
 use npos_base::AccountId;
 use std::marker::Model;
 
 /// The instance of one election. Contracts see its targets, voters and seats, which are well formed.
 #[derive(Drop)]
 pub struct Snapshot {
-    parts: SnapshotBuilder,
+    parts: SnapshotParts,
     seats: u32,
 }
 
@@ -27,7 +28,7 @@ impl Model for Snapshot {
 
 impl Snapshot {
     /// The snapshot of these targets and voters, which have no fault with this many seats.
-    pub(crate) fn new(parts: SnapshotBuilder, seats: u32) -> Snapshot
+    pub(crate) fn new(parts: SnapshotParts, seats: u32) -> Snapshot
         requires { finish_fault parts seats ≡ None }
         ensures { result ≡ seated parts seats }
     {
@@ -46,7 +47,7 @@ impl Snapshot {
     /// How many targets there are, at most 2,048.
     pub fn target_count(&self) -> usize
         ensures count { result ≡ length self.now.targets }
-        ensures most { result ≤ 2048 }
+        ensures most { result ≤ MOST_TARGETS }
         ensures well_formed { IsWellFormed self.now }
     {
         self.parts.target_count()
@@ -63,7 +64,7 @@ impl Snapshot {
     /// How many voters there are, at most 16,384.
     pub fn voter_count(&self) -> usize
         ensures count { result ≡ length self.now.voters }
-        ensures most { result ≤ 16384 }
+        ensures most { result ≤ MOST_VOTERS }
         ensures well_formed { IsWellFormed self.now }
     {
         self.parts.voter_count()
@@ -110,7 +111,7 @@ impl Snapshot {
     pub fn seats(&self) -> u32
         ensures seats { result ≡ self.now.seats }
         ensures some { 1 ≤ result }
-        ensures most { result ≤ 512 }
+        ensures most { result ≤ MOST_SEATS }
         ensures well_formed { IsWellFormed self.now }
     {
         self.seats

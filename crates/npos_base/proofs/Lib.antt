@@ -3,3 +3,4 @@ pub mod AccountOrder
 pub mod Appended
 pub mod BigEndian
 pub mod Refusals
+pub mod EntryLemmas

@@ -1,39 +1,26 @@
 -- The targets of a snapshot, and votes, one after another.
 use Rattle.std.proofs.Common.{◌≡◌, ℕ, zero, suc, ◌+◌, ◌<◌, Bool, true, false, nat_le, List, [], ◌∷◌, ◌++◌, length, take, map, filter_map, Option, Some, None, is_some, slice_get, refl, sym, ◌∙◌, ap, subst, arith, true≢false, get_or}
 use Rattle.std.proofs.lemmas.Bool.Decides.{nat_tests}
-use Rattle.std.proofs.lemmas.Cmp.{tied_itself}
-use Rattle.std.specs.List.{AllByRecursion, cons_option}
+use Rattle.std.specs.List.{cons_option}
 use Rattle.std.specs.List.Sorted.{IsStrictlySortedBy}
-use Rattle.std.specs.declared.cmp.Ordering.TheVariants.{Less, Equal}
+use Rattle.std.specs.declared.cmp.Ordering.TheVariants.{Less}
 use Rattle.npos_base.specs.declared.account.AccountId.{AccountId}
-use Rattle.npos_base.specs.Account.{account_cmp, same_account}
-use Rattle.npos_base.proofs.AccountOrder.{account_total, same_exact}
+use Rattle.npos_base.specs.Account.{account_cmp}
 use Rattle.voter_lists.specs.Ranked.{AreRanked}
-use Rattle.voter_lists.specs.Roles.{RoleList, validators_of}
+use Rattle.voter_lists.specs.declared.standing.Standing.{Standing}
+use Rattle.voter_lists.specs.declared.standing.Standing.TheVariants as standings
+use Rattle.voter_lists.specs.Roles.{RoleList, standing_of, role_in, targets_in, nominated_by, validators_of}
+use Rattle.voter_lists.proofs.PlaceLemmas.{at_all, below_apart}
+use Rattle.npos_runtime.specs.Ballots.{choices_in, choices_of}
 use Rattle.voter_lists.proofs.ValidatorLemmas.{validators_rise}
 use Rattle.election_snapshot.specs.Draft.{Draft, stands_in, target_fault, with_target}
-
-all_at : (P : AccountId → Type 0) (xs : List AccountId) (i : ℕ) (x : AccountId) → AllByRecursion P xs → slice_get xs i ≡ Some x → P x
-all_at P [] i x all e = absurd (true≢false (sym (ap is_some e)))
-all_at P (y ∷ ys) zero x all e = subst P (some_is y x e) all.0 where
-  some_is : (a b : AccountId) → Some a ≡ Some b → a ≡ b
-  some_is a b e = cc
-all_at P (y ∷ ys) (suc i) x all e = all_at P ys i x all.1 e
-
-below_apart : (a b : AccountId) → account_cmp a b ≡ Less → same_account b a ≡ false
-below_apart a b less = at (same_account b a) refl where
-  at : (t : Bool) → same_account b a ≡ t → t ≡ false
-  at true e = let tie : account_cmp a a ≡ Less = ap (account_cmp a) (sym (same_exact b a e)) ∙ less in absurd (unequal (sym (tied_itself account_total a) ∙ tie)) where
-    unequal : Equal ≡ Less → ⊥
-    unequal e = cc
-  at false e = refl
 
 new_stands : (xs : List AccountId) (i : ℕ) (x : AccountId) → IsStrictlySortedBy account_cmp xs → slice_get xs i ≡ Some x → stands_in (take i xs) x ≡ false
 unfolding IsStrictlySortedBy
 new_stands [] zero x s e = refl
 new_stands [] (suc i) x s e = refl
 new_stands (y ∷ ys) zero x s e = refl
-new_stands (y ∷ ys) (suc i) x s e = rw (below_apart y x (all_at (λ z. account_cmp y z ≡ Less) ys i x s.0 e)) (new_stands ys i x s.1 e)
+new_stands (y ∷ ys) (suc i) x s e = rw (below_apart y x (at_all (λ z. account_cmp y z ≡ Less) ys i x s.0 e)) (new_stands ys i x s.1 e)
 
 within : (xs : List AccountId) (i : ℕ) (x : AccountId) → slice_get xs i ≡ Some x → length (take i xs) < length xs
 within [] i x e = absurd (true≢false (sym (ap is_some e)))
@@ -96,3 +83,18 @@ none_suc f (x ∷ xs) (suc i) d lt e = ap (cons_option (f x)) (none_suc f xs i d
 pub cast_none : {A B : Type 0} (f : A → Option B) (xs : List A) (i : ℕ) (d : A) → i < length xs → f (get_or xs i d) ≡ None
     → filter_map f (take i xs) ≡ filter_map f (take (i + 1) xs)
 cast_none f xs i d lt e = none_suc f xs i d lt e ∙ ap (λ n. filter_map f (take n xs)) (more_by_one i)
+
+-- ## Choices
+
+named_in : (standing : Option Standing) (who : AccountId) → 0 < length (targets_in standing) → choices_in (role_in standing) who (targets_in standing) ≡ targets_in standing
+named_in None who some = absurd (omega (arith, some))
+named_in (Some (standings.Nominator targets)) who some = refl
+named_in (Some (standings.Validator commission)) who some = absurd (omega (arith, some))
+
+-- who named targets chooses them
+pub named_choices : (roles : RoleList) (who : AccountId) → 0 < length (nominated_by roles who) → choices_of roles who ≡ nominated_by roles who
+named_choices roles who some = named_in (standing_of roles who) who some
+
+pub named_none : (targets : List AccountId) → length targets ≡ 0 → targets ≡ []
+named_none [] e = refl
+named_none (target ∷ targets) e = absurd (omega (arith, e))

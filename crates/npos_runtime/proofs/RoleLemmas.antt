@@ -14,7 +14,7 @@ use Rattle.std.specs.Set.{remove_key}
 use Rattle.std.specs.BTreeSet.{insert_key}
 use Rattle.std.specs.declared.cmp.Ordering.TheVariants.{Less}
 use Rattle.npos_runtime.proofs.ListLemmas.{by_account}
-use Rattle.stake_ledger.proofs.MapLemmas.{sorted_put, lookup_put, lookup_other}
+use Rattle.npos_base.proofs.EntryLemmas.{sorted_put, lookup_put, lookup_other}
 use Rattle.voter_lists.specs.declared.standing.Standing.{Standing}
 use Rattle.voter_lists.specs.declared.standing.Standing.TheVariants.{Nominator, Validator}
 use Rattle.voter_lists.specs.Ranked.{AreRanked}

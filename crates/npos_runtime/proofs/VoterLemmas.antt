@@ -78,17 +78,12 @@ not_below a b e = grind (arith, nat_tests)
 not_none : (a : ℕ) → 0 < a → nat_eq a 0 ≡ false
 not_none a e = grind (arith, nat_tests)
 
-count_kept : (voters : List Voter) → length (accounts_of voters) ≡ length voters
-count_kept [] = refl
-count_kept (voter ∷ voters) = ap (λ n. suc n) (count_kept voters)
-
 pub no_fault : (chain : Chain) (draft : Draft) (who : AccountId) (more : List AccountId) → IsLive chain → length draft.voters < 16384
     → IsPolled chain draft (who ∷ more) → 0 < active_of chain who → 0 < length (votes_of chain.roles who)
     → voter_fault draft who (active_of chain who) (votes_of chain.roles who) ≡ None
 no_fault chain draft who more live room polled stake votes =
-    let few : length (accounts_of draft.voters) < 16384 = omega (arith, count_kept draft.voters, room) in
     rw (
-      not_above 16384 (length (accounts_of draft.voters)) few,
+      not_above 16384 (length draft.voters) room,
       not_yet (accounts_of draft.voters) more who polled.once,
       not_none (active_of chain who) stake,
       not_none (length (votes_of chain.roles who)) votes,

@@ -1,30 +1,29 @@
 //! The snapshot of a round, made from roles, bags and books.
 ghost use Rattle.std.specs.Prelude.{◌≡◌, ◌<◌, List, [], ◌∷◌, length, filter_map, None, OnOk, IfOk};
 ghost use Rattle.npos_base.specs.declared.account.AccountId.{AccountId};
+ghost use Rattle.npos_base.specs.declared.limits.TheConstants.{MOST_VOTERS};
 ghost use Rattle.voter_lists.specs.Roles.{role_of, validators_of};
 ghost use Rattle.voter_lists.specs.Ranked.{AreRanked};
-ghost use Rattle.election_snapshot.specs.Draft.{place_of, target_fault, voter_fault, with_target, with_voter};
+ghost use Rattle.election_snapshot.specs.Draft.{place_of, target_fault, with_target};
 ghost use Rattle.npos_runtime.specs.Ballots.{ballot_of, commission_in, commissions_of, is_eligible, snapshot_of, votes_of};
 ghost use Rattle.npos_runtime.specs.Rounds.{round_line, round_now};
 ghost use Rattle.npos_runtime.specs.Polling.{IsPolled, polled};
 ghost use Rattle.npos_runtime.specs.Live.{IsLive};
 
+use crate::guesses::Guesses;
 use crate::rules::seats_of;
 use crate::{Chain, Line, Round};
-use election_snapshot::{SnapshotBuilder, SnapshotFault};
-use npos_base::{AccountId, List, NoMemory};
+use election_snapshot::{SnapshotFault, SnapshotParts};
+use npos_base::{AccountId, List, MOST_VOTERS, NoMemory};
 use std::alloc::Global;
 use voter_lists::{Role, Roles};
 
-/// The most voters of a snapshot.
-const MOST_VOTERS: usize = 16384;
-
 /// Adds a target that has no fault.
-fn add_target(builder: &mut SnapshotBuilder, who: AccountId) -> Result<(), NoMemory>
-    requires { target_fault builder.old who ≡ None }
-    ensures { OnOk result (builder.new ≡ with_target builder.old who) }
+fn add_target(parts: &mut SnapshotParts, who: AccountId) -> Result<(), NoMemory>
+    requires { target_fault parts.old who ≡ None }
+    ensures { OnOk result (parts.new ≡ with_target parts.old who) }
 {
-    match builder.add_target(who) {
+    match parts.add_target(who) {
         Ok(()) => Ok(()),
         Err(SnapshotFault::NoMemory) => Err(NoMemory),
         Err(_) => unreachable!(),
@@ -33,97 +32,87 @@ fn add_target(builder: &mut SnapshotBuilder, who: AccountId) -> Result<(), NoMem
 
 /// Adds all validators by rising account.
 #[tactic(auto, using(crate::proofs::BallotLemmas::target_free, crate::proofs::BallotLemmas::target_next))]
-fn add_targets(builder: &mut SnapshotBuilder, roles: &Roles) -> Result<(), NoMemory>
-    requires empty { builder.old ≡ record { targets = []; voters = [] } }
+fn add_targets(parts: &mut SnapshotParts, roles: &Roles) -> Result<(), NoMemory>
+    requires empty { parts.old ≡ record { targets = []; voters = [] } }
     requires ranked { AreRanked roles.now (validators_of roles.now) }
-    ensures { OnOk result (builder.new ≡ record { targets = validators_of roles.now; voters = [] }) }
+    ensures { OnOk result (parts.new ≡ record { targets = validators_of roles.now; voters = [] }) }
 {
     for i in 0..roles.validator_count() {
-        add_target(builder, roles.validator_at(i))?;
+        add_target(parts, roles.validator_at(i))?;
     }
     Ok(())
 }
 
-/// Writes the votes for these choices: the place of each that is a target.
+/// Writes the votes for these choices: the rank of each that is a validator.
 #[tactic(auto, using(crate::proofs::BallotLemmas::cast_some, crate::proofs::BallotLemmas::cast_none))]
 fn cast(
-    builder: &SnapshotBuilder,
+    roles: &Roles,
+    guesses: &Guesses,
     choices: &[AccountId],
     votes: &mut Vec<u16>,
 ) -> Result<(), NoMemory>
-    ensures { OnOk result (votes.new.items ≡ filter_map (place_of builder.now.targets) choices.now) }
+    ensures { OnOk result
+        (votes.new.items ≡ filter_map (place_of (validators_of roles.now)) choices.now) }
 {
     votes.clear();
     for choice in choices {
-        if let Some(place) = builder.position(*choice) {
-            votes.push(place)?;
+        if let Some(rank) = guesses.rank(roles, *choice) {
+            votes.push(rank)?;
         }
     }
     Ok(())
 }
 
-/// Writes the votes of an account.
+/// Writes the votes of an account. Who named targets is a nominator.
+#[tactic(auto, using(crate::proofs::BallotLemmas::named_choices, crate::proofs::BallotLemmas::named_none))]
 fn find_votes(
-    builder: &SnapshotBuilder,
     roles: &Roles,
+    guesses: &Guesses,
     who: AccountId,
     votes: &mut Vec<u16>,
 ) -> Result<(), NoMemory>
-    requires { builder.now.targets ≡ validators_of roles.now }
     ensures { OnOk result (votes.new.items ≡ votes_of roles.now who) }
 {
-    match roles.role(who) {
-        Role::Validator { .. } => cast(builder, &[who], votes),
-        Role::Nominator => cast(builder, roles.targets_of(who), votes),
-        Role::Nobody => cast(builder, &[], votes),
+    let named = roles.targets_of(who);
+    if !named.is_empty() {
+        return cast(roles, guesses, named, votes);
     }
-}
-
-/// Adds a voter that has no fault.
-fn put_voter(
-    builder: &mut SnapshotBuilder,
-    who: AccountId,
-    stake: u64,
-    votes: &[u16],
-) -> Result<(), NoMemory>
-    requires { voter_fault builder.old who stake votes.now ≡ None }
-    ensures { OnOk result (builder.new ≡ with_voter builder.old who stake votes.now) }
-{
-    match builder.add_voter(who, stake, votes) {
-        Ok(()) => Ok(()),
-        Err(SnapshotFault::NoMemory) => Err(NoMemory),
-        Err(_) => unreachable!(),
+    match roles.role(who) {
+        Role::Validator { .. } => cast(roles, guesses, &[who], votes),
+        Role::Nominator | Role::Nobody => cast(roles, guesses, &[], votes),
     }
 }
 
 /// Adds the voter of an account if it is eligible, and tells whether it is.
 fn add_voter(
-    builder: &mut SnapshotBuilder,
+    parts: &mut SnapshotParts,
     chain: &Chain,
+    guesses: &Guesses,
     who: AccountId,
     votes: &mut Vec<u16>,
 ) -> Result<bool, NoMemory>
     requires live { IsLive chain.now }
-    requires room { length builder.old.voters < 16384 }
-    requires polled { (more : List AccountId) × IsPolled chain.now builder.old (who ∷ more) }
+    requires room { length parts.old.voters < MOST_VOTERS }
+    requires polled { (more : List AccountId) × IsPolled chain.now parts.old (who ∷ more) }
     ensures answer { IfOk result (λ added. added ≡ is_eligible chain.now who) }
-    ensures ok { OnOk result (builder.new ≡ polled chain.now builder.old who) }
+    ensures ok { OnOk result (parts.new ≡ polled chain.now parts.old who) }
 {
     let stake = chain.book.active(who);
-    find_votes(builder, &chain.roles, who, votes)?;
+    find_votes(&chain.roles, guesses, who, votes)?;
     if stake == 0 || votes.is_empty() {
         return Ok(false);
     }
-    put_voter(builder, who, stake, votes.as_slice())?;
+    parts.put_voter(who, stake, votes.as_slice())?;
     Ok(true)
 }
 
 /// Adds the first eligible accounts of the walk over the bags.
-fn add_voters(alloc: Global, builder: &mut SnapshotBuilder, chain: &Chain) -> Result<(), NoMemory>
+fn add_voters(alloc: Global, parts: &mut SnapshotParts, chain: &Chain) -> Result<(), NoMemory>
     requires live { IsLive chain.now }
-    requires empty { builder.old ≡ record { targets = validators_of chain.now.roles; voters = [] } }
-    ensures { OnOk result (builder.new ≡ ballot_of chain.now) }
+    requires empty { parts.old ≡ record { targets = validators_of chain.now.roles; voters = [] } }
+    ensures { OnOk result (parts.new ≡ ballot_of chain.now) }
 {
+    let guesses = Guesses::new(alloc, &chain.roles)?;
     let mut votes = Vec::new(alloc);
     let mut voters = 0;
     let mut walk = chain.bags.walk();
@@ -131,7 +120,7 @@ fn add_voters(alloc: Global, builder: &mut SnapshotBuilder, chain: &Chain) -> Re
         let Some(who) = walk.next() else {
             break;
         };
-        if add_voter(builder, chain, who, &mut votes)? {
+        if add_voter(parts, chain, &guesses, who, &mut votes)? {
             voters += 1;
         }
     }
@@ -139,14 +128,14 @@ fn add_voters(alloc: Global, builder: &mut SnapshotBuilder, chain: &Chain) -> Re
 }
 
 /// The targets and voters as they are now.
-fn draft(alloc: Global, chain: &Chain) -> Result<SnapshotBuilder, NoMemory>
+fn draft(alloc: Global, chain: &Chain) -> Result<SnapshotParts, NoMemory>
     requires { IsLive chain.now }
     ensures { IfOk result (λ draft. draft ≡ ballot_of chain.now) }
 {
-    let mut builder = SnapshotBuilder::new(alloc);
-    add_targets(&mut builder, &chain.roles)?;
-    add_voters(alloc, &mut builder, chain)?;
-    Ok(builder)
+    let mut parts = SnapshotParts::new(alloc);
+    add_targets(&mut parts, &chain.roles)?;
+    add_voters(alloc, &mut parts, chain)?;
+    Ok(parts)
 }
 
 /// What a validator keeps of its rewards, in billionths.
@@ -193,10 +182,10 @@ pub fn take_snapshot(alloc: Global, chain: &Chain, number: u32) -> Result<(Round
             };
             Ok((round, line))
         }
-        Err((_, SnapshotFault::Few { .. })) => {
+        Err(SnapshotFault::Few { .. }) => {
             Ok((Round::Void { number }, Line::VoidFew { round: number }))
         }
-        Err((_, SnapshotFault::Poor { .. })) => {
+        Err(SnapshotFault::Poor { .. }) => {
             Ok((Round::Void { number }, Line::VoidPoor { round: number }))
         }
         Err(_) => unreachable!(),

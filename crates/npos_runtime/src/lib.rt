@@ -5,6 +5,7 @@ mod act;
 mod ballot;
 mod begin;
 mod chain;
+mod guesses;
 pub mod laws;
 mod line;
 mod refusal;

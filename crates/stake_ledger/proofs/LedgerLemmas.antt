@@ -14,7 +14,7 @@ use Rattle.stake_ledger.specs.declared.row.Row.{Row}
 use Rattle.stake_ledger.specs.Chunks.{chunk_sum, IsSchedule}
 use Rattle.stake_ledger.specs.Rows.{empty_row, worth, gained, paid}
 use Rattle.stake_ledger.specs.Ledger.{Ledger, row_in, row_of_entries, row_of, row_at, with_row, changed, total, OthersStay}
-use Rattle.stake_ledger.proofs.MapLemmas.{sorted_put, lookup_put, lookup_other, put_back}
+use Rattle.npos_base.proofs.EntryLemmas.{sorted_put, lookup_put, lookup_other, put_back}
 
 -- no other row changes
 pub others_stay : (who : AccountId) (change : Row → Row) (ledger : Ledger) → OthersStay who ledger (changed who change ledger)

@@ -1,5 +1,4 @@
 pub mod ChunkLemmas
-pub mod MapLemmas
 pub mod PlaceLemmas
 pub mod LedgerLemmas
 pub mod RowLemmas

@@ -22,7 +22,7 @@ use Rattle.stake_ledger.specs.declared.row.Row.{Row}
 use Rattle.stake_ledger.specs.Rows.{empty_row}
 use Rattle.stake_ledger.specs.Ledger.{row_in, row_of_entries, with_row}
 use Rattle.stake_ledger.specs.Places.{place_in, Stand, rows_placed, ArePlaced}
-use Rattle.stake_ledger.proofs.MapLemmas.{sorted_put, lookup_put, lookup_other}
+use Rattle.npos_base.proofs.EntryLemmas.{sorted_put, lookup_put, lookup_other}
 
 -- a test that answers yes knows the account
 tied : (who other : AccountId) → is_eq (account_cmp who other) ≡ true → who ≡ other

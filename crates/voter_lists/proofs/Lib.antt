@@ -10,4 +10,5 @@ pub mod NodeLemmas
 pub mod LinkedLemmas
 pub mod ScoreLemmas
 pub mod DistinctLemmas
+pub mod PlaceLemmas
 pub mod OneWalkLemmas

@@ -69,16 +69,18 @@ module _ {K : Type 0} (R : K → K → Ordering) (o : IsTotalOrder R) (k : K) wh
       (ap (λ ys. x ∷ ys) (hit_same xs i (omega (arith, h)) s.1 here))
 
   -- a search that misses finds no such key
-  pub missed_same : (xs : List K) (i : ℕ) → i ≤ length xs → IsStrictlySortedBy R xs → IsBinarySearchResult (λ y. R y k) xs (Err i) → remove_key (is_at (R k)) xs ≡ xs
-  missed_same xs i h s search_is =
-      let parts = search_is (rising xs s) in
-      none xs (λ j d lt. apart_at j d lt parts) where
-        none : (ys : List K) → ((j : ℕ) (d : K) → j < length ys → is_eq (R k (get_or ys j d)) ≡ false) → remove_key (is_at (R k)) ys ≡ ys
-        none [] f = refl
-        none (y ∷ ys) f = rw (f 0 y (omega arith)) (ap (λ zs. y ∷ zs) (none ys (λ j d lt. f (suc j) d (omega (arith, lt)))))
+  pub missed_apart : (xs : List K) (i : ℕ) → i ≤ length xs → IsStrictlySortedBy R xs → IsBinarySearchResult (λ y. R y k) xs (Err i)
+      → (j : ℕ) (d : K) → j < length xs → is_eq (R k (get_or xs j d)) ≡ false
+  missed_apart xs i h s search_is j d lt = by_side (cases_lt j i) where
+    parts : IsPartitionPoint (λ y. R y k ≡ Less) (λ y. R y k ≡ Greater) xs i
+    parts = search_is (rising xs s)
 
-        apart_at : (j : ℕ) (d : K) → j < length xs → IsPartitionPoint (λ y. R y k ≡ Less) (λ y. R y k ≡ Greater) xs i → is_eq (R k (get_or xs j d)) ≡ false
-        apart_at j d lt parts = by_side (cases_lt j i) where
-          by_side : (j < i) ⊎ (i ≤ j) → is_eq (R k (get_or xs j d)) ≡ false
-          by_side (inl low) = rw (turned (get_or xs j d) k Less (parts.0 j d (omega arith) low)) refl
-          by_side (inr high) = rw (turned (get_or xs j d) k Greater (parts.1 j d high lt)) refl
+    by_side : (j < i) ⊎ (i ≤ j) → is_eq (R k (get_or xs j d)) ≡ false
+    by_side (inl low) = rw (turned (get_or xs j d) k Less (parts.0 j d (omega arith) low)) refl
+    by_side (inr high) = rw (turned (get_or xs j d) k Greater (parts.1 j d high lt)) refl
+
+  pub missed_same : (xs : List K) (i : ℕ) → i ≤ length xs → IsStrictlySortedBy R xs → IsBinarySearchResult (λ y. R y k) xs (Err i) → remove_key (is_at (R k)) xs ≡ xs
+  missed_same xs i h s search_is = none xs (missed_apart xs i h s search_is) where
+    none : (ys : List K) → ((j : ℕ) (d : K) → j < length ys → is_eq (R k (get_or ys j d)) ≡ false) → remove_key (is_at (R k)) ys ≡ ys
+    none [] f = refl
+    none (y ∷ ys) f = rw (f 0 y (omega arith)) (ap (λ zs. y ∷ zs) (none ys (λ j d lt. f (suc j) d (omega (arith, lt)))))

@@ -1,8 +1,8 @@
 //! The roles of accounts, after Substrate's staking pallet.
-ghost use Rattle.std.specs.Prelude.{◌≡◌, ◌≢◌, ◌<◌, ◌≤◌, [], ◌∷◌, length, Some, slice_get};
+ghost use Rattle.std.specs.Prelude.{◌≡◌, ◌≢◌, ◌<◌, ◌≤◌, [], ◌∷◌, length, Some, slice_get, position};
 ghost use Rattle.std.specs.List.{list_any};
 ghost use Rattle.std.specs.List.Sorted.{IsStrictlySortedBy};
-ghost use Rattle.npos_base.specs.Account.{account_cmp};
+ghost use Rattle.npos_base.specs.Account.{account_cmp, same_account};
 ghost use Rattle.npos_base.specs.declared.limits.TheConstants.{MOST_VALIDATORS};
 ghost use Rattle.npos_base.specs.Refusal.{Meets, answer_of};
 ghost use Rattle.voter_lists.specs.declared.refusal.ListRefusal.TheVariants as refusals;
@@ -127,6 +127,16 @@ impl Roles {
         ensures { slice_get (validators_of self.now) i ≡ Some result }
     {
         self.validators[i]
+    }
+
+    /// The place of a validator among all by rising account. It is found in the logarithm of their number.
+    pub fn rank(&self, who: AccountId) -> Option<u16>
+        ensures { result ≡ position (same_account who) (validators_of self.now) }
+    {
+        match self.validators.as_slice().binary_search(&who) {
+            Ok(rank) => Some(rank as u16),
+            Err(_) => None,
+        }
     }
 
     fn is_validator(&self, who: AccountId) -> bool

@@ -11,4 +11,4 @@ put_voter-requires c =
     let votes : c.as_slice.result.now ≡ votes_of chain.roles who = search rules in
     let staked : 0 < active_of chain who = search rules in
     let voting : 0 < length (votes_of chain.roles who) = search rules in
-    rw (stake, votes) (no_fault chain c.args.builder.now who c.requires.polled.0 c.requires.live c.requires.room c.requires.polled.1 staked voting)
+    rw (stake, votes) (no_fault chain c.args.parts.now who c.requires.polled.0 c.requires.live c.requires.room c.requires.polled.1 staked voting)

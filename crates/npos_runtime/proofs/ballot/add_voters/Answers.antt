@@ -7,34 +7,34 @@ use Rattle.npos_runtime.proofs.ballot.add_voters.Goals.{else-loop-voters-test, t
 
 pub loop-voters-init : goal.loop-voters-init
 loop-voters-init c = record {
-  polled = polled_first c.args.chain.now c.args.builder.now c.walk-walk.result c.requires.live c.requires.empty c.walk-walk.ensures.accounts;
+  polled = polled_first c.args.chain.now c.args.parts.now c.walk-walk.result c.requires.live c.requires.empty c.walk-walk.ensures.accounts;
   counted = sym (ap (λ (draft : Draft). length draft.voters) c.requires.empty);
 }
 
 pub loop-voters-preserved-then-branch : goal.loop-voters-preserved-then-branch
 loop-voters-preserved-then-branch c = record {
-  polled = polled_next c.args.chain.now c.loop-voters.builder c.in-Some.who c.next.new.self
-      (subst (λ ahead. IsPolled c.args.chain.now c.loop-voters.builder ahead) c.in-Some.ensures.steps c.loop-voters.invariant.polled)
-      (omega (arith, c.loop-voters-test.true, c.loop-voters.invariant.counted)) c.add_voter.new.builder c.in_ok-add_voter.ensures.ok;
+  polled = polled_next c.args.chain.now c.loop-voters.parts c.in-Some.who c.next.new.self
+      (subst (λ ahead. IsPolled c.args.chain.now c.loop-voters.parts ahead) c.in-Some.ensures.steps c.loop-voters.invariant.polled)
+      (omega (arith, c.loop-voters-test.true, c.loop-voters.invariant.counted)) c.add_voter.new.parts c.in_ok-add_voter.ensures.ok;
   counted = ap (λ n. n + 1) c.loop-voters.invariant.counted
-      ∙ sym (one_more c.args.chain.now c.loop-voters.builder c.add_voter.new.builder c.in-Some.who (sym c.in_ok-add_voter.ensures.answer ∙ c.if-branch.true) c.in_ok-add_voter.ensures.ok);
+      ∙ sym (one_more c.args.chain.now c.loop-voters.parts c.add_voter.new.parts c.in-Some.who (sym c.in_ok-add_voter.ensures.answer ∙ c.if-branch.true) c.in_ok-add_voter.ensures.ok);
 }
 
 pub loop-voters-preserved : goal.loop-voters-preserved
 loop-voters-preserved c = record {
-  polled = polled_next c.args.chain.now c.loop-voters.builder c.in-Some.who c.next.new.self
-      (subst (λ ahead. IsPolled c.args.chain.now c.loop-voters.builder ahead) c.in-Some.ensures.steps c.loop-voters.invariant.polled)
-      (omega (arith, c.loop-voters-test.true, c.loop-voters.invariant.counted)) c.add_voter.new.builder c.in_ok-add_voter.ensures.ok;
+  polled = polled_next c.args.chain.now c.loop-voters.parts c.in-Some.who c.next.new.self
+      (subst (λ ahead. IsPolled c.args.chain.now c.loop-voters.parts ahead) c.in-Some.ensures.steps c.loop-voters.invariant.polled)
+      (omega (arith, c.loop-voters-test.true, c.loop-voters.invariant.counted)) c.add_voter.new.parts c.in_ok-add_voter.ensures.ok;
   counted = c.loop-voters.invariant.counted
-      ∙ sym (no_more c.args.chain.now c.loop-voters.builder c.add_voter.new.builder c.in-Some.who (sym c.in_ok-add_voter.ensures.answer ∙ c.if-branch.false) c.in_ok-add_voter.ensures.ok);
+      ∙ sym (no_more c.args.chain.now c.loop-voters.parts c.add_voter.new.parts c.in-Some.who (sym c.in_ok-add_voter.ensures.answer ∙ c.if-branch.false) c.in_ok-add_voter.ensures.ok);
 }
 
 pub returns : goal.returns
 returns c = elim c.loop-voters-test.branch [
   | else-loop-voters-test w ↦
-      polled_full c.args.chain.now c.loop-voters.builder c.loop-voters.walk c.loop-voters.invariant.polled
+      polled_full c.args.chain.now c.loop-voters.parts c.loop-voters.walk c.loop-voters.invariant.polled
       (omega (arith, w.loop-voters-test.false, c.loop-voters.invariant.counted))
   | then-loop-voters-test+in_default w ↦
-      polled_through c.args.chain.now c.loop-voters.builder
-      (subst (λ ahead. IsPolled c.args.chain.now c.loop-voters.builder ahead) w.in_default.ensures.steps.0 c.loop-voters.invariant.polled)
+      polled_through c.args.chain.now c.loop-voters.parts
+      (subst (λ ahead. IsPolled c.args.chain.now c.loop-voters.parts ahead) w.in_default.ensures.steps.0 c.loop-voters.invariant.polled)
 ]

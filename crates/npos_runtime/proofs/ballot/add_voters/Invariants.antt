@@ -8,6 +8,6 @@ decreases-loop-voters l = length l.walk
 -- the draft has the voters of the walk up to what is left of it
 abbrev pub invariant-loop-voters : goal.invariant-loop-voters
 invariant-loop-voters l = record {
-  polled : IsPolled l.chain l.builder l.walk;
-  counted : l.voters ≡ length l.builder.voters;
+  polled : IsPolled l.chain l.parts l.walk;
+  counted : l.voters ≡ length l.parts.voters;
 }

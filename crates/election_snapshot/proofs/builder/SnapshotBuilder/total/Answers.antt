@@ -1,6 +1,0 @@
-use Rattle.std.proofs.Common.{sym}
-use Rattle.election_snapshot.proofs.KeptLemmas.{kept_total}
-use Rattle.election_snapshot.proofs.builder.SnapshotBuilder.total.Goals as goal
-
-pub returns : goal.returns
-returns c = rw (← c.self.view_is) (sym (kept_total c.self.inside.targets.keys c.self.inside.accounts.keys c.self.inside.stakes.items c.self.inside.ballots.items c.self.inside.total c.self.invariant))

@@ -1,0 +1,8 @@
+use Rattle.std.proofs.Common.{◌≡◌, ◌∙◌, sym, length, rules}
+use Rattle.election_snapshot.proofs.KeptLemmas.{kept_count}
+use Rattle.election_snapshot.proofs.parts.SnapshotParts.voter_count.Goals as goal
+
+pub returns : goal.returns
+returns c =
+    let all : c.len.result ≡ length c.self.inside.accounts.items = search rules in
+    rw (← c.self.view_is) (all ∙ sym (kept_count c.self.inside.accounts.items c.self.inside.stakes.items c.self.inside.ballots.items c.self.invariant.stakes_count c.self.invariant.votes_count))

@@ -1,0 +1,195 @@
+//! The targets and voters of a snapshot, as lists that grow.
+ghost use Rattle.std.specs.Prelude.{◌≡◌, ◌<◌, ◌≤◌, [], ◌∷◌, ◌++◌, length, Some, None, IfOk, IfErr, OnOk, OnErr, slice_get, slice_index_or, vec_len};
+ghost use Rattle.std.specs.Vec.{vec_capacity};
+ghost use Rattle.npos_base.specs.declared.limits.TheConstants.{MOST_TARGETS};
+ghost use Rattle.npos_base.specs.Refusal.{Meets};
+ghost use Rattle.election_snapshot.specs.declared.fault.SnapshotFault.TheVariants.{NoMemory as NoMemoryFault};
+ghost use Rattle.election_snapshot.specs.Snapshot.{nobody, stakes_of, total_of, AreVotersOf};
+ghost use Rattle.election_snapshot.specs.Draft.{Draft, place_of, target_fault, with_target, voter_fault, with_voter, finish_fault, first_seats_fault, seated};
+
+use crate::ballot::Ballot;
+use crate::{Snapshot, SnapshotFault};
+use indexmap::IndexSet;
+use npos_base::{AccountId, MOST_SEATS, MOST_TARGETS, NoMemory};
+use std::alloc::Global;
+use std::marker::Model;
+
+/// The targets and voters of a snapshot so far, for whoever knows that what it adds has no fault. Contracts see both
+/// lists in the order of their addition.
+#[derive(Drop)]
+pub struct SnapshotParts {
+    targets: IndexSet<AccountId>,
+    accounts: Vec<AccountId>,
+    stakes: Vec<u64>,
+    ballots: Vec<Ballot>,
+    total: u64,
+}
+
+impl Model for SnapshotParts {
+    ghost use Rattle.election_snapshot.specs.Draft.{Draft};
+
+    ghost Value = { Draft };
+
+    ghost use Rattle.election_snapshot.specs.Kept.{voters_of, AreKept};
+
+    ghost view = { λ b. record { targets = b.targets.keys; voters = voters_of b.accounts.items b.stakes.items b.ballots.items } };
+
+    ghost invariant = { λ b. AreKept b.targets.keys b.accounts.items b.stakes.items b.ballots.items b.total };
+}
+
+impl SnapshotParts {
+    /// No target and no voter. It takes no memory yet.
+    pub fn new(alloc: Global) -> SnapshotParts
+        ensures { result ≡ record { targets = []; voters = [] } }
+    {
+        SnapshotParts {
+            targets: IndexSet::new(alloc),
+            accounts: Vec::new(alloc),
+            stakes: Vec::new(alloc),
+            ballots: Vec::new(alloc),
+            total: 0,
+        }
+    }
+
+    /// Adds a target behind those that stand, or tells its fault.
+    pub fn add_target(&mut self, who: AccountId) -> Result<(), SnapshotFault>
+        ensures { Meets NoMemoryFault (target_fault self.old who) (with_target self.old who) self.old self.new result }
+    {
+        if self.targets.len() >= MOST_TARGETS {
+            return Err(SnapshotFault::TooManyTargets);
+        }
+        if self.targets.contains(&who) {
+            return Err(SnapshotFault::RepeatedTarget(self.targets.len() as u32));
+        }
+        self.targets.insert(who)?;
+        Ok(())
+    }
+
+    /// The position of the target with this account. It takes no memory.
+    pub fn position(&self, who: AccountId) -> Option<u16>
+        ensures { result ≡ place_of self.now.targets who }
+    {
+        match self.targets.get_index_of(&who) {
+            Some(place) => Some(place as u16),
+            None => None,
+        }
+    }
+
+    /// Adds a voter that has no fault behind those that stand.
+    pub fn put_voter(&mut self, who: AccountId, stake: u64, votes: &[u16]) -> Result<(), NoMemory>
+        requires { voter_fault self.old who stake votes.now ≡ None }
+        ensures ok { OnOk result (self.new ≡ with_voter self.old who stake votes.now) }
+        ensures err { OnErr result (self.new ≡ self.old) }
+    {
+        self.accounts.reserve(1)?;
+        self.stakes.reserve(1)?;
+        self.ballots.reserve(1)?;
+        push_within(&mut self.accounts, who);
+        push_within(&mut self.stakes, stake);
+        push_within(&mut self.ballots, Ballot::new(votes));
+        self.total += stake;
+        Ok(())
+    }
+
+    /// Takes the targets and voters as the snapshot of an election of this many seats. It takes no memory.
+    pub fn finish(self, seats: u32) -> Result<Snapshot, SnapshotFault>
+        ensures ok { IfOk result (λ snapshot. (finish_fault self seats ≡ None) × (snapshot ≡ seated self seats)) }
+        ensures err { IfErr result (λ fault. finish_fault self seats ≡ Some fault) }
+    {
+        match self.seats_fault(seats) {
+            Some(fault) => Err(fault),
+            None => Ok(Snapshot::new(self, seats)),
+        }
+    }
+
+    /// The first fault of a number of seats.
+    pub(crate) fn seats_fault(&self, seats: u32) -> Option<SnapshotFault>
+        ensures { result ≡ finish_fault self.now seats }
+    {
+        seats_fault(self.targets.len(), self.total, seats)
+    }
+
+    /// What holds of the targets and voters.
+    pub(crate) fn well_built(&self)
+        ensures { AreVotersOf self.now.targets self.now.voters }
+    {
+        let _ = &self.targets;
+    }
+
+    pub(crate) fn target(&self, i: usize) -> AccountId
+        requires { i < length self.now.targets }
+        ensures { slice_get self.now.targets i ≡ Some result }
+    {
+        match self.targets.get_index(i) {
+            Some(account) => *account,
+            None => unreachable!(),
+        }
+    }
+
+    pub(crate) fn target_count(&self) -> usize
+        ensures { result ≡ length self.now.targets }
+    {
+        self.targets.len()
+    }
+
+    pub(crate) fn voter(&self, i: usize) -> AccountId
+        requires { i < length self.now.voters }
+        ensures { result ≡ (slice_index_or self.now.voters i nobody).account }
+    {
+        self.accounts[i]
+    }
+
+    pub(crate) fn voter_count(&self) -> usize
+        ensures { result ≡ length self.now.voters }
+    {
+        self.accounts.len()
+    }
+
+    pub(crate) fn stakes(&self) -> &[u64]
+        ensures { result.now ≡ stakes_of self.now.voters }
+    {
+        self.stakes.as_slice()
+    }
+
+    pub(crate) fn votes(&self, i: usize) -> &[u16]
+        requires { i < length self.now.voters }
+        ensures { result.now ≡ (slice_index_or self.now.voters i nobody).votes }
+    {
+        self.ballots[i].votes()
+    }
+
+    pub(crate) fn total(&self) -> u64
+        ensures { result ≡ total_of self.now.voters }
+    {
+        self.total
+    }
+}
+
+/// The first fault of a number of seats.
+fn seats_fault(targets: usize, total: u64, seats: u32) -> Option<SnapshotFault>
+    requires { targets ≤ MOST_TARGETS }
+    ensures { result ≡ first_seats_fault targets total seats }
+{
+    let targets = targets as u32;
+    if seats == 0 || seats > MOST_SEATS {
+        return Some(SnapshotFault::BadSeats(seats));
+    }
+    if targets < seats {
+        return Some(SnapshotFault::Few { targets, seats });
+    }
+    if total < u64::from(seats) * u64::from(seats) {
+        return Some(SnapshotFault::Poor { total, seats });
+    }
+    None
+}
+
+/// Appends an item to a vector with room.
+fn push_within<T>(items: &mut Vec<T>, item: T)
+    requires { vec_len items.old < vec_capacity items.old }
+    ensures { items.new.items ≡ items.old.items ++ item ∷ [] }
+{
+    match items.push(item) {
+        Ok(()) => {}
+        Err(_) => unreachable!(),
+    }
+}

@@ -1,0 +1,67 @@
+-- The place of an account among rising accounts.
+use Rattle.std.proofs.Common.{◌≡◌, ℕ, zero, suc, ◌+◌, ◌<◌, Bool, true, false, List, [], ◌∷◌, length, get_or, refl, ap, sym, ◌∙◌, arith, Option, Some, None, slice_get, true≢false}
+use Rattle.std.specs.Prelude.{position}
+use Rattle.std.specs.List.{position_from}
+use Rattle.std.proofs.lemmas.Iterator.Adapters.{position_from-zero}
+use Rattle.std.specs.List.{AllByRecursion, HoldsAt}
+use Rattle.std.specs.List.Sorted.{IsStrictlySortedBy}
+use Rattle.std.specs.Ordering.{is_eq}
+use Rattle.std.specs.declared.cmp.Ordering.TheVariants.{Less, Equal}
+use Rattle.std.proofs.lemmas.Cmp.{tied_itself}
+use Rattle.npos_base.specs.declared.account.AccountId.{AccountId}
+use Rattle.npos_base.specs.Account.{account_cmp, same_account}
+use Rattle.npos_base.proofs.AccountOrder.{account_total, account_exact, same_itself, same_exact}
+
+pub at_all : (P : AccountId → Type 0) (xs : List AccountId) (i : ℕ) (who : AccountId) → AllByRecursion P xs → slice_get xs i ≡ Some who → P who
+at_all P [] i who all there = absurd (cc)
+at_all P (x ∷ xs) zero who all there = let same : x ≡ who = cc in rw (← same) all.0
+at_all P (x ∷ xs) (suc i) who all there = at_all P xs i who all.1 there
+
+itself : (x : AccountId) → is_eq (account_cmp x x) ≡ true
+itself x = ap is_eq (tied_itself account_total x)
+
+-- the test tells a lower account apart
+pub below_apart : (x who : AccountId) → account_cmp x who ≡ Less → same_account who x ≡ false
+below_apart x who below = by_test (same_account who x) refl where
+  by_test : (t : Bool) → same_account who x ≡ t → t ≡ false
+  by_test true same =
+      let one : who ≡ x = same_exact who x same in
+      let less : account_cmp x x ≡ Less = ap (λ y. account_cmp x y) (sym one) ∙ below in
+      absurd (true≢false (sym (itself x) ∙ ap is_eq less))
+  by_test false same = refl
+
+place_from : (who : AccountId) (first : ℕ) (xs : List AccountId) (i : ℕ) → IsStrictlySortedBy account_cmp xs → slice_get xs i ≡ Some who
+    → position_from (same_account who) first xs ≡ Some (first + i)
+unfolding IsStrictlySortedBy
+place_from who first [] i rising there = absurd (cc)
+place_from who first (x ∷ xs) zero rising there =
+    let same : x ≡ who = cc in rw (same, same_itself who) (ap (λ (n : ℕ). Some n) (omega arith))
+place_from who first (x ∷ xs) (suc i) rising there =
+    rw (below_apart x who (at_all (λ y. account_cmp x y ≡ Less) xs i who rising.0 there))
+    (place_from who (first + 1) xs i rising.1 there ∙ ap (λ (n : ℕ). Some n) (omega arith))
+
+-- the account that stands at a place has that place
+pub place_is : (who : AccountId) (xs : List AccountId) (i : ℕ) → IsStrictlySortedBy account_cmp xs → slice_get xs i ≡ Some who
+    → position (same_account who) xs ≡ Some i
+place_is who xs i rising there =
+    position_from-zero (same_account who) xs ∙ (place_from who 0 xs i rising there ∙ ap (λ (n : ℕ). Some n) (omega arith))
+
+no_place_from : (who : AccountId) (first : ℕ) (xs : List AccountId) → ((j : ℕ) (d : AccountId) → j < length xs → is_eq (account_cmp who (get_or xs j d)) ≡ false)
+    → position_from (same_account who) first xs ≡ None
+no_place_from who first [] apart = refl
+no_place_from who first (x ∷ xs) apart =
+    rw (by_test (same_account who x) refl) (no_place_from who (first + 1) xs (λ j d lt. apart (suc j) d (omega (arith, lt)))) where
+      by_test : (t : Bool) → same_account who x ≡ t → t ≡ false
+      by_test true same = absurd (true≢false (sym (itself who) ∙ (ap (λ y. is_eq (account_cmp who y)) (same_exact who x same) ∙ apart 0 x (omega arith))))
+      by_test false same = refl
+
+-- an account that compares equal with none has no place
+pub no_place : (who : AccountId) (xs : List AccountId) → ((j : ℕ) (d : AccountId) → j < length xs → is_eq (account_cmp who (get_or xs j d)) ≡ false)
+    → position (same_account who) xs ≡ None
+no_place who xs apart = position_from-zero (same_account who) xs ∙ no_place_from who 0 xs apart
+
+-- where the account at a place compares equal with this one, it is this one
+pub held_at : (who : AccountId) (xs : List AccountId) (i : ℕ) → i < length xs → HoldsAt (λ y. account_cmp y who ≡ Equal) xs i → slice_get xs i ≡ Some who
+held_at who [] i h here = absurd (omega (arith, h))
+held_at who (x ∷ xs) zero h here = ap (λ y. Some y) (account_exact x who (here x))
+held_at who (x ∷ xs) (suc i) h here = held_at who xs i (omega (arith, h)) here
