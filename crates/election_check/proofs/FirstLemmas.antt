@@ -128,3 +128,18 @@ module _ (test : ℕ → Bool) where
 
   pub all_fail : (n j : ℕ) → find test (range_with_len 0 n) ≡ None → j < n → test j ≡ false
   all_fail n j e h = fails_from 0 n j e (omega arith) (omega arith)
+
+-- a number that is found is one of those that were looked at
+pub found_below : (test : ℕ → Bool) (low n k : ℕ) → find test (range_with_len low n) ≡ Some k → k < low + n
+found_below test low zero k e = absurd (cc)
+found_below test low (suc n) k e = at (test low) refl e (λ found. found_below test (low + 1) n k found) where
+  at : (b : Bool) → test low ≡ b → cond b (Some low) (find test (range_with_len (low + 1) n)) ≡ Some k
+      → (find test (range_with_len (low + 1) n) ≡ Some k → k < low + 1 + n) → k < low + suc n
+  at true t found rest = let same : low ≡ k = cc in omega (arith, same)
+  at false t found rest = omega (arith, rest found)
+
+-- tests that agree find the same number
+pub find_agree : (test other : ℕ → Bool) (low n : ℕ) → ((k : ℕ) → k < low + n → test k ≡ other k) → find test (range_with_len low n) ≡ find other (range_with_len low n)
+find_agree test other low zero agree = refl
+find_agree test other low (suc n) agree = ap (λ b. cond b (Some low) (find test (range_with_len (low + 1) n))) (agree low (omega arith))
+    ∙ ap (λ o. cond (other low) (Some low) o) (find_agree test other (low + 1) n (λ k h. agree k (omega (arith, h))))

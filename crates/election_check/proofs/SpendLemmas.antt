@@ -1,24 +1,27 @@
 -- What the tables by voter and by target say once they are filled.
-use Rattle.std.proofs.Common.{◌≡◌, ℕ, ◌+◌, ◌-◌, ◌<◌, ◌≤◌, min, Bool, true, false, cond, not, ◌||◌, nat_eq, nat_le, List, length, take, get_or, set, filter, sum_by, option_map, Ok, Err, ◌⊎◌, inl, inr, refl, sym, ap, subst, ◌∙◌, arith}
+use Rattle.std.proofs.Common.{◌≡◌, ℕ, ◌+◌, ◌-◌, ◌<◌, ◌≤◌, min, Bool, true, false, cond, not, ◌||◌, nat_eq, nat_le, List, length, take, get_or, set, filter, sum_by, option_map, Ok, Err, ◌⊎◌, inl, inr, refl, sym, ap, subst, ◌∙◌, arith, Option, Some, None, find, All, ap₂, ◌&&◌}
 use Rattle.std.specs.List.{IsDistinct, range_with_len}
 use Rattle.std.proofs.Math.Nat.{div-le_of_le-mul, mul-le-mul_left, mul_comm}
 use Rattle.std.proofs.lemmas.List.{take_all, length-take, length-set, get_or-take, get_or_default, get_or-set_same, get_or-set_other}
+use Rattle.std.proofs.lemmas.List.Elements.{All-filter}
+use Rattle.std.proofs.lemmas.List.FromFn.{get_or-range_with_len, length-range_with_len}
 use Rattle.std.proofs.lemmas.List.Sums.{sum_by_push}
 use Rattle.std.proofs.lemmas.List.Folds.{list_any_more, list_any_none}
-use Rattle.std.proofs.lemmas.Bool.{cases_eq, cond-true, cond-false, lt-ltb, le-ltb, le-leb, eq-eqb, ne_eqb, and_from, or_right, not_from_false}
+use Rattle.std.proofs.lemmas.Bool.{cases_eq, cond-true, cond-false, lt-ltb, le-ltb, eq-eqb, ne_eqb, or_right}
 use Rattle.std.proofs.lemmas.Bool.Decides.{Decides-eqb}
 use Rattle.std.proofs.lemmas.Map.Made.{AllPairs-from_IsDistinct}
 use Rattle.npos_base.specs.declared.figures.Edge.{Edge}
 use Rattle.election_snapshot.specs.Snapshot.{Snapshot, has, nominates, stake_of, total_stake, threshold}
 use Rattle.weight_book.specs.Weights.{Weights, IsFeasible, edges_from, edges_to, support, spent, amount_sum}
-use Rattle.weight_book.specs.Passing.{pay, slack}
+use Rattle.weight_book.specs.Passing.{pay, nominators}
 use Rattle.weight_book.proofs.SumLemmas.{sum_filter_more, sum_filter_push, sum_filter-le, sum_filter-take-le, sum_le}
 use Rattle.weight_book.proofs.StakeLemmas.{range_more, stakes_before}
 use Rattle.election_check.specs.declared.verdict.Verdict.TheVariants.{Outweighed, Overspent}
 use Rattle.election_check.specs.First.{answer_of}
-use Rattle.election_check.specs.Steps.{outweighed, outweighs, prescore_of}
+use Rattle.election_check.specs.Kept.{AreMarks, left_of, reaches, reached}
+use Rattle.election_check.specs.Steps.{outweighed, outweighs, prescore_of, slack_of}
 use Rattle.election_check.specs.Plain.{overspent, overspends}
-use Rattle.election_check.proofs.FirstLemmas.{lowest_found, none_found}
+use Rattle.election_check.proofs.FirstLemmas.{lowest_found, none_found, find_agree, found_below}
 use Rattle.election_check.proofs.StepLemmas.{AreSpent, ArePaid}
 
 -- ---- spending
@@ -141,37 +144,62 @@ module _ (votes : List ℕ) (distinct : IsDistinct nat_eq votes) (i d : ℕ) (h 
           here ∙ adds target l ∙ ap (λ b. get_or old target 0 + cond b slack 0) (sym still)
 
 -- ---- prescores
-module _ (snapshot : Snapshot) (weights : Weights) where
-  abbrev left_of : ℕ → ℕ
-  left_of = slack (threshold snapshot) snapshot weights.edges
-
+module _ (snapshot : Snapshot) (left : ℕ → ℕ) where
   -- what the nominators up to a voter have left
   abbrev pub left_before : ℕ → ℕ → ℕ
-  left_before voter target = sum_by left_of (filter (λ n. nominates snapshot n target) (range_with_len 0 voter))
+  left_before voter target = sum_by left (filter (λ n. nominates snapshot n target) (range_with_len 0 voter))
 
-  pub left_more : (voter target : ℕ) → left_before (voter + 1) target ≡ left_before voter target + cond (nominates snapshot voter target) (left_of voter) 0
-  left_more voter target = ap (λ ns. sum_by left_of (filter (λ n. nominates snapshot n target) ns)) (range_more voter)
-      ∙ sum_filter_push (λ n. nominates snapshot n target) left_of (range_with_len 0 voter) voter
+  pub left_more : (voter target : ℕ) → left_before (voter + 1) target ≡ left_before voter target + cond (nominates snapshot voter target) (left voter) 0
+  left_more voter target = ap (λ ns. sum_by left (filter (λ n. nominates snapshot n target) ns)) (range_more voter)
+      ∙ sum_filter_push (λ n. nominates snapshot n target) left (range_with_len 0 voter) voter
 
   -- it is no more than all stakes, also with one more
-  pub left_fits : (voter target : ℕ) → voter < length snapshot.voters → left_before voter target + left_of voter ≤ total_stake snapshot
-  left_fits voter target h = omega (
+  pub left_fits : ((voter : ℕ) → left voter ≤ stake_of snapshot voter) → (voter target : ℕ) → voter < length snapshot.voters
+      → left_before voter target + left voter ≤ total_stake snapshot
+  left_fits within voter target h = omega (
     arith,
-    sum_filter-le (λ n. nominates snapshot n target) left_of (range_with_len 0 voter),
-    sum_le left_of (stake_of snapshot) (range_with_len 0 voter) (λ k d l. omega arith),
+    sum_filter-le (λ n. nominates snapshot n target) left (range_with_len 0 voter),
+    sum_le left (stake_of snapshot) (range_with_len 0 voter) (λ k d l. within (get_or (range_with_len 0 voter) k d)),
+    within voter,
     stakes_before snapshot (voter + 1) (omega (arith, h)),
     ap (sum_by (stake_of snapshot)) (range_more voter),
     sum_by_push (stake_of snapshot) (range_with_len 0 voter) voter,
   )
 
-  module _ (target : ℕ) (below : (other : ℕ) → other < target → outweighs snapshot weights other ≡ false) where
-    pub found : target < length snapshot.targets → has weights.committee target ≡ false → threshold snapshot ≤ prescore_of snapshot weights target
-        → Err (Outweighed target (prescore_of snapshot weights target)) ≡ answer_of (outweighed snapshot weights)
-    found h outside enough = sym (ap (λ o. answer_of (option_map (λ n. Outweighed n (prescore_of snapshot weights n)) o))
-        (lowest_found (outweighs snapshot weights) (length snapshot.targets) target h
-        (and_from (not (has weights.committee target)) (nat_le (threshold snapshot) (prescore_of snapshot weights target))
-        (not_from_false (has weights.committee target) outside) (le-leb (threshold snapshot) (prescore_of snapshot weights target) enough)) below))
+module _ (snapshot : Snapshot) (weights : Weights) where
+  -- a table of slacks says what the nominators of a target have left
+  pub left_is_prescore : (slacks : List ℕ) → ((voter : ℕ) → voter < length snapshot.voters → get_or slacks voter 0 ≡ slack_of snapshot weights voter)
+      → (target : ℕ) → left_of slacks snapshot target ≡ prescore_of snapshot weights target
+  left_is_prescore slacks are target = sum_agree (λ voter. get_or slacks voter 0) (slack_of snapshot weights) (nominators snapshot target)
+      (λ k d h. are (get_or (nominators snapshot target) k d)
+      (All-filter (λ n. nominates snapshot n target) (λ n. n < length snapshot.voters) (range_with_len 0 (length snapshot.voters)) all_in k d h))
+    where
+      all_in : All (λ n. n < length snapshot.voters) (range_with_len 0 (length snapshot.voters))
+      all_in k d h = let count = length-range_with_len 0 (length snapshot.voters) in
+          omega (arith, count, h, get_or-range_with_len 0 (length snapshot.voters) k d (omega (arith, count, h)))
 
-    pub nothing : length snapshot.targets ≤ target → Ok tt ≡ answer_of (outweighed snapshot weights)
-    nothing h = sym (ap (λ o. answer_of (option_map (λ n. Outweighed n (prescore_of snapshot weights n)) o))
-        (none_found (outweighs snapshot weights) (length snapshot.targets) (λ other l. below other (omega (arith, l, h)))))
+      sum_agree : (f g : ℕ → ℕ) (ns : List ℕ) → All (λ n. f n ≡ g n) ns → sum_by f ns ≡ sum_by g ns
+      sum_agree f g ns h = omega (arith, sum_le f g ns (λ k d l. omega (arith, h k d l)), sum_le g f ns (λ k d l. omega (arith, h k d l)))
+
+  module _ (marks : List Bool) (prescores : List ℕ) (are_marks : AreMarks marks weights.committee)
+      (are_prescores : (target : ℕ) → target < length snapshot.targets → get_or prescores target 0 ≡ prescore_of snapshot weights target)
+      (size : length prescores ≡ length snapshot.targets) where
+    same_search : find (reaches (threshold snapshot) marks prescores) (range_with_len 0 (length prescores))
+        ≡ find (outweighs snapshot weights) (range_with_len 0 (length snapshot.targets))
+    same_search = ap (λ n. find (reaches (threshold snapshot) marks prescores) (range_with_len 0 n)) size
+        ∙ find_agree (reaches (threshold snapshot) marks prescores) (outweighs snapshot weights) 0 (length snapshot.targets) (λ target l.
+        ap₂ (λ b p. not b && nat_le (threshold snapshot) p) (are_marks target) (are_prescores target (omega (arith, l))))
+
+    -- so the tables say which target outweighs
+    pub reached_is_outweighed : reached (threshold snapshot) marks prescores ≡ outweighed snapshot weights
+    reached_is_outweighed = ap (option_map (λ target. Outweighed target (get_or prescores target 0))) same_search
+        ∙ map_agree (find (outweighs snapshot weights) (range_with_len 0 (length snapshot.targets))) (λ target e.
+        ap (Outweighed target) (are_prescores target (below target e)))
+      where
+        below : (target : ℕ) → find (outweighs snapshot weights) (range_with_len 0 (length snapshot.targets)) ≡ Some target → target < length snapshot.targets
+        below target e = omega (arith, found_below (outweighs snapshot weights) 0 (length snapshot.targets) target e)
+
+        map_agree : (o : Option ℕ) → ((n : ℕ) → o ≡ Some n → Outweighed n (get_or prescores n 0) ≡ Outweighed n (prescore_of snapshot weights n))
+            → option_map (λ target. Outweighed target (get_or prescores target 0)) o ≡ option_map (λ n. Outweighed n (prescore_of snapshot weights n)) o
+        map_agree None h = refl
+        map_agree (Some n) h = ap Some (h n refl)

@@ -1,6 +1,10 @@
 -- The tables of a checker. What they hold between two checks says nothing.
-use Rattle.std.specs.Prelude.{◌≡◌, ℕ, ◌*◌, Bool, false, List, length, slice_index_or}
+use Rattle.std.specs.Prelude.{◌≡◌, ℕ, ◌*◌, Bool, false, not, ◌&&◌, nat_le, List, length, sum_by, slice_index_or, Option, option_map, find}
+use Rattle.std.specs.List.{range_with_len}
 use Rattle.election_snapshot.specs.Snapshot.{Snapshot, has}
+use Rattle.weight_book.specs.Passing.{nominators}
+use Rattle.election_check.specs.declared.verdict.Verdict.{Verdict}
+use Rattle.election_check.specs.declared.verdict.Verdict.TheVariants.{Outweighed}
 use Rattle.election_check.specs.declared.tables.Tables.{Tables}
 
 pub record AreTablesOf (snapshot : Snapshot) (tables : Tables) : Type 0 where
@@ -14,3 +18,16 @@ pub record AreTablesOf (snapshot : Snapshot) (tables : Tables) : Type 0 where
 -- the table tells which numbers stand in the list
 abbrev pub AreMarks : List Bool → List ℕ → Type 0
 AreMarks table numbers = (number : ℕ) → slice_index_or table number false ≡ has numbers number
+
+-- by what the table says, what the target's nominators have left
+abbrev pub left_of : List ℕ → Snapshot → ℕ → ℕ
+left_of slacks snapshot target = sum_by (λ voter. slice_index_or slacks voter 0) (nominators snapshot target)
+
+-- by what the tables say, the target is outside and has the price
+abbrev pub reaches : ℕ → List Bool → List ℕ → ℕ → Bool
+reaches price marks prescores target = not (slice_index_or marks target false) && nat_le price (slice_index_or prescores target 0)
+
+-- the lowest such target, with its prescore
+abbrev pub reached : ℕ → List Bool → List ℕ → Option Verdict
+reached price marks prescores = option_map (λ target. Outweighed target (slice_index_or prescores target 0))
+    (find (reaches price marks prescores) (range_with_len 0 (length prescores)))

@@ -3,7 +3,7 @@ use Rattle.std.specs.Prelude.{ℕ, Bool, not, ◌&&◌, nat_eq, nat_le, length, 
 use Rattle.std.specs.List.{range_with_len}
 use Rattle.election_snapshot.specs.Snapshot.{Snapshot, has, threshold}
 use Rattle.weight_book.specs.Weights.{Weights}
-use Rattle.weight_book.specs.Passing.{prescore}
+use Rattle.weight_book.specs.Passing.{slack, prescore}
 use Rattle.election_check.specs.declared.verdict.Verdict.{Verdict}
 use Rattle.election_check.specs.declared.verdict.Verdict.TheVariants.{WrongSize, Outweighed}
 use Rattle.election_check.specs.First.{when}
@@ -12,7 +12,10 @@ use Rattle.election_check.specs.First.{when}
 abbrev pub size_fault : Snapshot → Weights → Option Verdict
 size_fault snapshot weights = when (not (nat_eq (length weights.committee) snapshot.seats)) (WrongSize (length weights.committee))
 
--- the prescore at the price of a seat
+-- what a voter has left, and the prescore, at the price of a seat
+abbrev pub slack_of : Snapshot → Weights → ℕ → ℕ
+slack_of snapshot weights voter = slack (threshold snapshot) snapshot weights.edges voter
+
 abbrev pub prescore_of : Snapshot → Weights → ℕ → ℕ
 prescore_of snapshot weights target = prescore (threshold snapshot) snapshot weights.edges target
 

@@ -17,7 +17,8 @@ use std::alloc::Global;
 use std::marker::Model;
 use weight_book::Weights;
 
-/// Checks solutions of one snapshot. All its memory is taken when it is made. Contracts see its snapshot alone.
+/// Checks solutions of one snapshot. All its memory is taken when it is made. Contracts see its
+/// snapshot alone.
 #[derive(Drop)]
 pub struct Checker {
     pub(crate) snapshot: Snapshot,
@@ -78,8 +79,8 @@ impl Checker {
         check_prescores(snapshot, weights, tables)
     }
 
-    /// Elects the members, where the verdict on these weights is Yes. Otherwise it hands both parts back as they were,
-    /// with the verdict. It takes no memory.
+    /// Elects the members, where the verdict on these weights is Yes. Otherwise it hands both parts
+    /// back as they were, with the verdict. It takes no memory.
     pub fn seal(self, weights: Weights) -> Result<Elected, (Checker, Weights, Verdict)>
         ensures yes { OnOk result (verdict_plain self weights.plain ≡ Yes) }
         ensures snapshot { IfOk result (λ elected. elected.snapshot ≡ self) }

@@ -12,8 +12,9 @@ use npos_base::Edge;
 use std::marker::Model;
 use weight_book::Weights;
 
-/// A committee with the weights that show that it passes the check. Only a checker makes one. Contracts see the snapshot
-/// and the weights, which are feasible and pass, with the members in rising order.
+/// A committee with the weights that show that it passes the check. Only a checker makes one.
+/// Contracts see the snapshot and the weights, which are feasible and pass, with the members in
+/// rising order.
 #[derive(Drop)]
 pub struct Elected {
     snapshot: Snapshot,
@@ -30,7 +31,8 @@ impl Model for Elected {
 
     ghost view = { λ e. record { snapshot = e.snapshot; weights = e.weights } };
 
-    ghost invariant = { λ e. IsWellFormed e.snapshot × Passes e.snapshot e.weights.plain × IsStrictlyIncreasing e.weights.plain.committee };
+    ghost invariant = { λ e. IsWellFormed e.snapshot × Passes e.snapshot e.weights.plain
+        × IsStrictlyIncreasing e.weights.plain.committee };
 }
 
 impl Elected {
@@ -53,8 +55,8 @@ impl Elected {
         &self.snapshot
     }
 
-    /// The members, in rising order. Each group of voters that holds at least the stake of some seats, and agrees on as
-    /// many targets, nominates at least that many of them.
+    /// The members, in rising order. Each group of voters that holds at least the stake of some
+    /// seats, and agrees on as many targets, nominates at least that many of them.
     pub fn committee(&self) -> &[u16]
         ensures members { result.now ≡ self.now.weights.plain.committee }
         ensures rising { IsStrictlyIncreasing result.now }

@@ -1,4 +1,5 @@
-//! The check of solutions from whoever made them: a verdict that is exact, and committees that passed it.
+//! The check of solutions from whoever made them: a verdict that is exact, and committees that
+//! passed it.
 #![tactic(auto)]
 
 mod checker;

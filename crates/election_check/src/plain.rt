@@ -44,7 +44,8 @@ pub(crate) fn check_edges(
 ) -> Result<(), Verdict>
     requires marks { AreMarks is_member.now weights.now.plain.committee }
     requires pairs { length is_seen.old ≡ length snapshot.now.voters * 16 }
-    ensures { result ≡ answer_of (edges_fault snapshot.now weights.now.plain.committee [] weights.now.plain.edges) }
+    ensures { let plain = weights.now.plain in
+        result ≡ answer_of (edges_fault snapshot.now plain.committee [] plain.edges) }
 {
     is_seen.fill(false);
     for edge in weights.edges() {
@@ -81,7 +82,8 @@ fn is_marked(marks: &[bool], target: u16) -> bool
 
 /// The place of the target among a voter's votes.
 fn place_of(target: u16, votes: &[u16]) -> Option<usize>
-    ensures found { IfSome result (λ place. (place < length votes.now) × (slice_index votes.now place ≡ target)) }
+    ensures found { IfSome result (λ place.
+        (place < length votes.now) × (slice_index votes.now place ≡ target)) }
     ensures none { IfNone result (has votes.now target ≡ false) }
 {
     for place in 0..votes.len() {

@@ -1,12 +1,12 @@
-//! The last step of a check: what is left of the voters' stake, and whether it would pay for a seat outside.
+//! The last step of a check: what is left of the voters' stake, and whether it would pay for a seat
+//! outside.
 ghost use Rattle.std.specs.Prelude.{◌≡◌, ◌<◌, ◌≤◌, ◌+◌, ◌*◌, ◌/◌, ◌^◌, ℕ, min, cond, false, length, nat_eq, slice_index_or, All};
 ghost use Rattle.std.specs.List.{IsDistinct};
-ghost use Rattle.election_snapshot.specs.Snapshot.{has, threshold};
+ghost use Rattle.election_snapshot.specs.Snapshot.{has, stake_of};
 ghost use Rattle.weight_book.specs.Weights.{IsFeasible};
-ghost use Rattle.weight_book.specs.Passing.{slack};
 ghost use Rattle.election_check.specs.First.{answer_of};
-ghost use Rattle.election_check.specs.Kept.{AreTablesOf, AreMarks};
-ghost use Rattle.election_check.specs.Steps.{size_fault, outweighed, prescore_of};
+ghost use Rattle.election_check.specs.Kept.{AreTablesOf, AreMarks, left_of, reached};
+ghost use Rattle.election_check.specs.Steps.{size_fault, outweighed, slack_of};
 
 use crate::Verdict;
 use crate::tables::Tables;
@@ -39,10 +39,33 @@ pub(crate) fn check_prescores(
     ensures verdict { result ≡ answer_of (outweighed snapshot.now weights.now.plain) }
     ensures tables { AreTablesOf snapshot.now tables.new }
 {
-    mark(weights.committee(), &mut tables.is_member);
-    fill_slacks(snapshot, weights, &mut tables.left);
-    fill_prescores(snapshot, weights, &tables.left, &mut tables.prescores);
-    first_outweighing(snapshot, weights, &tables.is_member, &tables.prescores)
+    check_outside(
+        snapshot,
+        weights,
+        &mut tables.is_member,
+        &mut tables.left,
+        &mut tables.prescores,
+    )
+}
+
+/// The same, by tables of members, slacks and prescores.
+fn check_outside(
+    snapshot: &Snapshot,
+    weights: &Weights,
+    is_member: &mut [bool],
+    left: &mut [u64],
+    prescores: &mut [u64],
+) -> Result<(), Verdict>
+    requires feasible { IsFeasible snapshot.now weights.now.plain }
+    requires members { length is_member.old ≡ length snapshot.now.targets }
+    requires voters { length left.old ≡ length snapshot.now.voters }
+    requires targets { length prescores.old ≡ length snapshot.now.targets }
+    ensures { result ≡ answer_of (outweighed snapshot.now weights.now.plain) }
+{
+    mark(weights.committee(), is_member);
+    fill_slacks(snapshot, weights, left);
+    fill_prescores(snapshot, left, prescores);
+    check_reached(snapshot.threshold(), is_member, prescores)
 }
 
 /// Marks the members alone.
@@ -61,7 +84,7 @@ fn fill_slacks(snapshot: &Snapshot, weights: &Weights, left: &mut [u64])
     requires feasible { IsFeasible snapshot.now weights.now.plain }
     requires stakes { length left.old ≡ length snapshot.now.voters }
     ensures { (voter : ℕ) → voter < length snapshot.now.voters
-        → slice_index_or left.new voter 0 ≡ slack (threshold snapshot.now) snapshot.now weights.now.plain.edges voter }
+        → slice_index_or left.new voter 0 ≡ slack_of snapshot.now weights.now.plain voter }
 {
     let price = snapshot.threshold();
     left.copy_from_slice(snapshot.stakes());
@@ -82,13 +105,12 @@ fn pay(edge: &Edge, price: u64, support: u128) -> u64
 }
 
 /// By target, what its nominators have left.
-fn fill_prescores(snapshot: &Snapshot, weights: &Weights, slacks: &[u64], prescores: &mut [u64])
-    requires slacks { (voter : ℕ) → voter < length snapshot.now.voters
-        → slice_index_or slacks.now voter 0 ≡ slack (threshold snapshot.now) snapshot.now weights.now.plain.edges voter }
+fn fill_prescores(snapshot: &Snapshot, slacks: &[u64], prescores: &mut [u64])
     requires voters { length slacks.now ≡ length snapshot.now.voters }
+    requires within { (voter : ℕ) → slice_index_or slacks.now voter 0 ≤ stake_of snapshot.now voter }
     requires targets { length prescores.old ≡ length snapshot.now.targets }
     ensures { (target : ℕ) → target < length snapshot.now.targets
-        → slice_index_or prescores.new target 0 ≡ prescore_of snapshot.now weights.now.plain target }
+        → slice_index_or prescores.new target 0 ≡ left_of slacks.now snapshot.now target }
 {
     prescores.fill(0);
     for voter in 0..snapshot.voter_count() {
@@ -100,9 +122,11 @@ fn fill_prescores(snapshot: &Snapshot, weights: &Weights, slacks: &[u64], presco
 fn add_to_all(votes: &[u16], slack: u64, prescores: &mut [u64])
     requires in_range { All (λ vote. vote < length prescores.old) votes.now }
     requires distinct { IsDistinct nat_eq votes.now }
-    requires fits { (target : ℕ) → target < length prescores.old → slice_index_or prescores.old target 0 + slack < 2 ^ 64 }
+    requires fits { (target : ℕ) → target < length prescores.old
+        → slice_index_or prescores.old target 0 + slack < 2 ^ 64 }
     ensures { (target : ℕ) → target < length prescores.old
-        → slice_index_or prescores.new target 0 ≡ slice_index_or prescores.old target 0 + cond (has votes.now target) slack 0 }
+        → slice_index_or prescores.new target 0
+        ≡ slice_index_or prescores.old target 0 + cond (has votes.now target) slack 0 }
 {
     for vote in votes {
         prescores[usize::from(*vote)] += slack;
@@ -110,26 +134,16 @@ fn add_to_all(votes: &[u16], slack: u64, prescores: &mut [u64])
 }
 
 /// Tells the lowest target that is not marked and whose prescore reaches the price of a seat.
-fn first_outweighing(
-    snapshot: &Snapshot,
-    weights: &Weights,
-    is_member: &[bool],
-    prescores: &[u64],
-) -> Result<(), Verdict>
-    requires marks { AreMarks is_member.now weights.now.plain.committee }
-    requires members { length is_member.now ≡ length snapshot.now.targets }
-    requires prescores { (target : ℕ) → target < length snapshot.now.targets
-        → slice_index_or prescores.now target 0 ≡ prescore_of snapshot.now weights.now.plain target }
-    requires targets { length prescores.now ≡ length snapshot.now.targets }
-    ensures { result ≡ answer_of (outweighed snapshot.now weights.now.plain) }
+fn check_reached(price: u64, is_member: &[bool], prescores: &[u64]) -> Result<(), Verdict>
+    requires same { length is_member.now ≡ length prescores.now }
+    requires few { length prescores.now ≤ 2048 }
+    ensures { result ≡ answer_of (reached price is_member.now prescores.now) }
 {
-    let price = snapshot.threshold();
-    for target in 0..snapshot.target_count() {
-        let prescore = prescores[target];
-        if !is_member[target] && prescore >= price {
+    for target in 0..prescores.len() {
+        if !is_member[target] && prescores[target] >= price {
             return Err(Verdict::Outweighed {
                 target: target as u16,
-                prescore,
+                prescore: prescores[target],
             });
         }
     }

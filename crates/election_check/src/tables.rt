@@ -14,7 +14,8 @@ pub(crate) const MOST_VOTES: usize = 16;
 pub(crate) struct Tables {
     /// By target, whether it is a member.
     pub(crate) is_member: Vec<bool>,
-    /// By voter times the most votes, plus the place of a vote, whether an edge goes along that nomination.
+    /// By voter times the most votes, plus the place of a vote, whether an edge goes along that
+    /// nomination.
     pub(crate) is_seen: Vec<bool>,
     /// By voter, what is left of its stake.
     pub(crate) left: Vec<u64>,

@@ -6,6 +6,9 @@ use std::alloc::Global;
 use std::test::Fail;
 use weight_book::Weights;
 
+/// A voter's stake and votes.
+pub(crate) type Voter<'a> = (u64, &'a [u16]);
+
 /// Plain weights for three targets, two voters and two seats.
 struct Case {
     stakes: [u64; 2],
@@ -15,8 +18,8 @@ struct Case {
     verdict: Verdict,
 }
 
-/// One for each fault, then what is left at the price of a seat, one unit below it, and a proportional committee with
-/// weights too poor to show it.
+/// One for each fault, then what is left at the price of a seat, one unit below it, and a
+/// proportional committee with weights too poor to show it.
 const CASES: [Case; 12] = [
     Case {
         stakes: [60, 40],
@@ -225,17 +228,28 @@ pub(crate) fn finished(builder: SnapshotBuilder, seats: u32) -> Result<Snapshot,
     }
 }
 
-fn snapshot_of(alloc: Global, case: &Case) -> Result<Snapshot, NoMemory> {
+/// Three targets, two voters and two seats.
+pub(crate) fn small(
+    alloc: Global,
+    first: Voter<'_>,
+    second: Voter<'_>,
+) -> Result<Snapshot, NoMemory> {
     let mut builder = SnapshotBuilder::new(alloc);
-    for n in 0..3 {
+    for n in 1..4 {
         builder.add_target(at(n)).map_err(|_| NoMemory)?;
     }
-    for n in 0..2 {
+    for (n, (stake, votes)) in [(4, first), (5, second)] {
         builder
-            .add_voter(at(n as u16), case.stakes[n], case.votes[n])
+            .add_voter(at(n), stake, votes)
             .map_err(|_| NoMemory)?;
     }
     finished(builder, 2)
+}
+
+fn snapshot_of(alloc: Global, case: &Case) -> Result<Snapshot, NoMemory> {
+    let [first, second] = case.stakes;
+    let [votes, more] = case.votes;
+    small(alloc, (first, votes), (second, more))
 }
 
 pub(crate) fn checker_of(alloc: Global, snapshot: Snapshot) -> Result<Checker, NoMemory> {
@@ -280,7 +294,8 @@ fn the_first_fault_is_the_verdict(rt: HostRuntime) -> Result<(), Fail> {
     Ok(())
 }
 
-/// The votes of a voter of the largest snapshot: eight targets that are elected, eight that are not.
+/// The votes of a voter of the largest snapshot: eight targets that are elected, eight that are
+/// not.
 fn large_votes(voter: u16) -> [u16; 16] {
     let mut votes = [0; 16];
     for i in 0..8 {

@@ -99,11 +99,11 @@ long_report bytes over = ap (λ (b : Bool). if b then faulty long_line else read
 -- what is reported of the bytes that were read is what is reported of all
 pub report_read : (left : List ℕ) (now : Option (List ℕ)) (bytes : List ℕ) → ReadsUpTo most_bundle (Some left) now bytes → check_report bytes ≡ check_report left
 report_read left now bytes reads = elim (cases_lt most_bundle (length bytes)) [
-    inl over ↦
+  | inl over ↦
       long_report bytes over ∙ sym (long_report left (let t = reads.taken in
       omega (arith, over, ap length t.2, length-append bytes t.0)))
   | inr within ↦ ap check_report (all_left most_bundle left now bytes reads within)
-  ]
+]
 
 pub check_found : (old now : Option (List ℕ)) (bytes text : List ℕ) (status : Status) → ReadsUpTo most_bundle old now bytes
     → record { text = text; status = status } ≡ check_report bytes → FindsFor (Some jobs.Check) old text status
@@ -113,11 +113,11 @@ check_found (Some left) now bytes text status reads is = (left, refl, is ∙ rep
 pub check_drained : (old now : Option (List ℕ)) (bytes text : List ℕ) (status : Status) → ReadsUpTo most_bundle old now bytes
     → record { text = text; status = status } ≡ check_report bytes → IsJudged status → IsDrained old now
 check_drained old now bytes text status reads is judged = elim (cases_lt most_bundle (length bytes)) [
-    inl over ↦
+  | inl over ↦
       let faulty_is : status ≡ statuses.BadInput = ap (λ (r : Report). r.status) (is ∙ long_report bytes over) in
       absurd (subst (λ (s : Status). IsJudged s) faulty_is judged)
   | inr within ↦ reads.ended within
-  ]
+]
 
 pub check_few : (old now : Option (List ℕ)) (bytes : List ℕ) → ReadsUpTo most_bundle old now bytes → TakesAtMost (most_bundle + 1) old now
 check_few old now bytes reads = (bytes, reads.taken, reads.few)
@@ -129,9 +129,9 @@ check_sound None now bytes text status reads is sound done = tt
 check_sound (Some left) now bytes text status reads is sound done =
     let judged : IsJudged status = subst (λ (s : Status). IsJudged s) (sym done) tt in
     let within : length bytes ≤ most_bundle = elim (cases_lt most_bundle (length bytes)) [
-        inl over ↦
+      | inl over ↦
           let faulty_is : status ≡ statuses.BadInput = ap (λ (r : Report). r.status) (is ∙ long_report bytes over) in
           absurd (subst (λ (s : Status). IsJudged s) faulty_is judged)
       | inr within ↦ within
-      ] in
+    ] in
     subst (λ (b : List ℕ). IsSound b) (all_left most_bundle left now bytes reads within) (sound done)

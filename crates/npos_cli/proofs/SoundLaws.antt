@@ -1,8 +1,13 @@
 -- Work with the verdict Yes is sound.
-use Rattle.std.proofs.Common.{◌≡◌, ℕ, List, Ok, refl, sym, ◌∙◌, ap}
+use Rattle.std.proofs.Common.{◌≡◌, ℕ, List, Result, Ok, Err, IfOk, refl, sym, ◌∙◌, ap}
 use Rattle.npos_base.specs.declared.figures.Edge.{Edge}
 use Rattle.npos_base.specs.declared.figures.Score.{Score}
+use Rattle.block_wire.specs.declared.bundle.Bundle.{Bundle}
 use Rattle.block_wire.specs.declared.bundle.Work.{Work}
+use Rattle.npos_base.specs.declared.no_memory.NoMemory.{NoMemory}
+use Rattle.npos_cli.specs.declared.checking.Answer.{Answer}
+use Rattle.npos_cli.specs.Answer.{report_of}
+use Rattle.npos_cli.specs.Elections.{snapshot_of}
 use Rattle.block_wire.specs.declared.bundle.Work.TheVariants.{Nothing, Packed, Plain}
 use Rattle.election_snapshot.specs.Snapshot.{Snapshot, IsWellFormed}
 use Rattle.weight_book.specs.Weights.{Weights}
@@ -60,3 +65,11 @@ sound_work size snapshot (Packed claim bytes) report well is done =
 sound_work size snapshot (Plain committee edges) report well is done =
     sound_plain snapshot committee edges well
     (done_is_yes (verdict_plain snapshot (record { committee = committee; edges = edges })) (sym done ∙ ap (λ (r : Report). r.status) is))
+
+-- an answer on the election of a bundle that is done tells of sound work
+pub sound_answer : (size : ℕ) (bundle : Bundle) (snapshot : Snapshot) (result : Result Answer NoMemory) → IsWellFormed snapshot
+    → snapshot_of bundle ≡ Ok snapshot → IfOk result (λ answer. report_of answer ≡ work_report size snapshot bundle.work)
+    → IfOk result (λ answer. answer.status ≡ statuses.Done → (s : Snapshot) × (snapshot_of bundle ≡ Ok s) × IsSoundWork s bundle.work)
+sound_answer size bundle snapshot (Ok answer) well is report = λ done.
+    (snapshot, is, sound_work size snapshot bundle.work (report_of answer) well report done)
+sound_answer size bundle snapshot (Err want) well is report = tt

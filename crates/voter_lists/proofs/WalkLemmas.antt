@@ -2,7 +2,7 @@
 use Rattle.std.proofs.Common.{◌≡◌, ◌≢◌, ℕ, zero, suc, ◌+◌, ◌<◌, ◌≤◌, Bool, true, false, ◌||◌, nat_eq, if◌then◌else◌, List, [], ◌∷◌, ◌++◌, length, get_or, refl, ap, ap₂, sym, ◌∙◌, subst, append_assoc, arith, Option, Some, None, true≢false, add-zero, slice_get, is_some, take, zero-add}
 use Rattle.voter_lists.proofs.HomeLemmas.{noted_at, number_test, number_same}
 use Rattle.std.specs.List.{slice_set}
-use Rattle.std.proofs.lemmas.List.{append-nil}
+use Rattle.std.proofs.lemmas.List.{append-nil, take_more}
 use Rattle.std.proofs.lemmas.List.Elements.{filter-append}
 use Rattle.npos_base.specs.declared.account.AccountId.{AccountId}
 use Rattle.npos_base.specs.Account.{same_account}
@@ -99,13 +99,13 @@ pub walk_falls : (number : ℕ) (bags : List (List AccountId)) → walk (walk_fr
 walk_falls number [] = refl
 walk_falls number (bag ∷ bags) = walk_append (walk_from (number + 1) bags) (numbered number bag) ∙ ap₂ (λ xs ys. xs ++ ys) (walk_falls (number + 1) bags) (walk_numbered number bag)
 
--- where no account of a bag is left, the highest of the lower bags is next
-pub next_bag : (here : List AccountId) (bags lower : List (List AccountId)) (highest : List AccountId) → length here ≡ 0 → bags ≡ lower ++ highest ∷ [] → highest ++ falling lower ≡ here ++ falling bags
-next_bag (account ∷ here) bags lower highest none e = absurd (omega (arith, none))
-next_bag [] bags lower highest none e = sym (ap falling e ∙ last_falls lower) where
-  last_falls : (rest : List (List AccountId)) → falling (rest ++ highest ∷ []) ≡ highest ++ falling rest
-  last_falls [] = sym (append-nil highest)
-  last_falls (bag ∷ rest) = ap (λ accounts. accounts ++ bag) (last_falls rest) ∙ append_assoc highest (falling rest) bag
+last_falls : (highest : List AccountId) (rest : List (List AccountId)) → falling (rest ++ highest ∷ []) ≡ highest ++ falling rest
+last_falls highest [] = sym (append-nil highest)
+last_falls highest (bag ∷ rest) = ap (λ accounts. accounts ++ bag) (last_falls highest rest) ∙ append_assoc highest (falling rest) bag
+
+-- the highest of so many bags, and those below it
+pub falling_take : (bags : List (List AccountId)) (number : ℕ) → number < length bags → falling (take (number + 1) bags) ≡ get_or bags number [] ++ falling (take number bags)
+falling_take bags number lt = ap falling (take_more bags number [] lt) ∙ last_falls (get_or bags number []) (take number bags)
 
 holds_append : (xs ys : List AccountId) (who : AccountId) → holds (xs ++ ys) who ≡ (holds xs who || holds ys who)
 holds_append [] ys who = refl
@@ -114,7 +114,7 @@ holds_append (x ∷ xs) ys who = at (same_account x who) (holds_append xs ys who
   at true rest = refl
   at false rest = rest
 
-falling_apart : (home : AccountId → Option ℕ) (who : AccountId) (number : ℕ) (bags : List (List AccountId)) → ((other : ℕ) → number ≤ other → is_in (home who) other ≡ false) → AreNoted home number bags → holds (falling bags) who ≡ false
+pub falling_apart : (home : AccountId → Option ℕ) (who : AccountId) (number : ℕ) (bags : List (List AccountId)) → ((other : ℕ) → number ≤ other → is_in (home who) other ≡ false) → AreNoted home number bags → holds (falling bags) who ≡ false
 falling_apart home who number [] far l = refl
 falling_apart home who number (bag ∷ bags) far l =
     holds_append (falling bags) bag who ∙ rw (falling_apart home who (number + 1) bags (λ other h. far other (omega (arith, h))) l.1, l.0 who ∙ far number (omega arith)) refl

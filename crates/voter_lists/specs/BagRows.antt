@@ -1,10 +1,8 @@
 -- A list for each bag, the lowest first, and the bag of each account beside them.
 use Rattle.std.specs.Prelude.{◌≡◌, ℕ, ◌+◌, ◌<◌, ◌≤◌, Bool, List, [], ◌∷◌, ◌++◌, length, map, Option, Some}
 use Rattle.std.specs.List.{list_any}
-use Rattle.std.specs.Map.{lookup}
-use Rattle.std.specs.BTreeMap.{is_at}
 use Rattle.npos_base.specs.declared.account.AccountId.{AccountId}
-use Rattle.npos_base.specs.Account.{account_cmp, same_account}
+use Rattle.npos_base.specs.Account.{same_account}
 use Rattle.npos_base.specs.declared.limits.TheConstants.{MOST_THRESHOLDS}
 use Rattle.voter_lists.specs.Bags.{Order, IsRisingFrom, is_in}
 
@@ -25,9 +23,6 @@ walk_from number (bag ∷ bags) = walk_from (number + 1) bags ++ numbered number
 -- the account stands in the bag
 abbrev pub holds : List AccountId → AccountId → Bool
 holds bag who = list_any (λ account. same_account account who) bag
-
-abbrev pub home_in : List (AccountId × ℕ) → AccountId → Option ℕ
-home_in homes who = lookup (is_at (account_cmp who)) homes
 
 -- each account stands in the bag that is noted for it and in no other
 abbrev pub AreNoted : (AccountId → Option ℕ) → ℕ → List (List AccountId) → Type 0

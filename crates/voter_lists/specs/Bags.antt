@@ -1,5 +1,5 @@
 -- The bags are one list of accounts, each with the number of its bag; the walk goes from the highest bag down.
-use Rattle.std.specs.Prelude.{ℕ, ◌+◌, ◌<◌, Bool, false, not, nat_eq, nat_lt, nat_le, is_some, unwrap_or, zero, suc, if◌then◌else◌, List, [], ◌∷◌, ◌++◌, length, map, filter, count_by, slice_get, Option, Some, None}
+use Rattle.std.specs.Prelude.{◌≡◌, ℕ, ◌+◌, ◌<◌, Bool, true, false, not, nat_eq, nat_lt, nat_le, is_some, unwrap_or, zero, suc, if◌then◌else◌, List, [], ◌∷◌, ◌++◌, length, map, filter, count_by, slice_get, Option, Some, None}
 use Rattle.npos_base.specs.declared.account.AccountId.{AccountId}
 use Rattle.npos_base.specs.Account.{same_account}
 use Rattle.voter_lists.specs.declared.refusal.ListRefusal.{ListRefusal}
@@ -63,6 +63,11 @@ left order who = filter (λ entry. not (same_account entry.0 who)) order
 abbrev pub placed_before : Order → AccountId × ℕ → AccountId → Order
 placed_before [] entry lighter = entry ∷ []
 placed_before (other ∷ order) entry lighter = if same_account other.0 lighter then entry ∷ other ∷ order else other ∷ placed_before order entry lighter
+
+-- wherever the account stands, its bag is this one
+abbrev pub OnlyIn : AccountId → ℕ → Order → Type 0
+OnlyIn who number [] = Unit {0}
+OnlyIn who number (entry ∷ order) = (same_account entry.0 who ≡ true → entry.1 ≡ number) × OnlyIn who number order
 
 -- the accounts as they are walked
 abbrev pub walk : Order → List AccountId

@@ -1,17 +1,17 @@
 //! The bags, after Substrate's bags-list pallet: accounts by coarse score, so that no list is ever sorted.
-ghost use Rattle.std.specs.Prelude.{◌≡◌, ◌≢◌, ◌≤◌, [], ◌∷◌, length, IsTrue, Some, None, Ok, IfOk, OnOk, OnErr, not, true, false, slice_get};
+ghost use Rattle.std.specs.Prelude.{◌≡◌, ◌≢◌, ◌≤◌, [], ◌∷◌, length, IsTrue, Some, None, Ok, IfOk, IsOk, IfErr, OnOk, OnErr, not, true, false, slice_get};
+ghost use Rattle.std.specs.List.{IsDistinct};
+ghost use Rattle.npos_base.specs.Account.{same_account};
 ghost use Rattle.npos_base.specs.declared.limits.TheConstants.{MOST_THRESHOLDS};
 ghost use Rattle.npos_base.specs.Refusal.{Meets};
 ghost use Rattle.voter_lists.specs.declared.refusal.ListRefusal.TheVariants as refusals;
 ghost use Rattle.voter_lists.specs.Bags.{Listing, IsRisingFrom, bag_of, is_listed, walk, account_after, inserted, removed, moved, updated, is_at_home, rebag_refusal, put_in_front, put_in_front_refusal};
 
 use crate::ListRefusal;
-use crate::bag::Bag;
-use crate::rows::{empty_bags, home_of, join_bag, leave_bag, put_in_bag};
-use crate::walk::{Walk, top_of};
+use crate::nodes::Nodes;
+use crate::walk::Walk;
 use npos_base::{AccountId, List, NoMemory};
 use std::alloc::Global;
-use std::collections::BTreeMap;
 use std::marker::Model;
 
 /// The bags between thresholds of score. Contracts see the thresholds and the one list of accounts with the numbers
@@ -19,8 +19,7 @@ use std::marker::Model;
 #[derive(Drop)]
 pub struct Bags {
     thresholds: List<u64>,
-    bags: Vec<Bag>,
-    homes: BTreeMap<AccountId, usize>,
+    nodes: Nodes,
 }
 
 impl Model for Bags {
@@ -28,11 +27,12 @@ impl Model for Bags {
 
     ghost Value = { Listing };
 
-    ghost use Rattle.voter_lists.specs.BagRows.{walk_from, home_in, AreHomes};
+    ghost use Rattle.voter_lists.specs.BagRows.{walk_from};
+    ghost use Rattle.voter_lists.specs.Nodes.{bags_in, AreLinked};
 
-    ghost view = { λ b. record { thresholds = b.thresholds; order = walk_from 0 b.bags.items } };
+    ghost view = { λ b. record { thresholds = b.thresholds; order = walk_from 0 (bags_in b.nodes) } };
 
-    ghost invariant = { λ b. AreHomes b.thresholds b.bags.items (home_in b.homes.entries) };
+    ghost invariant = { λ b. AreLinked b.thresholds b.nodes };
 }
 
 impl Bags {
@@ -42,12 +42,8 @@ impl Bags {
         requires rising { IsRisingFrom 0 thresholds }
         ensures { IfOk result (λ bags. bags ≡ record { thresholds = thresholds; order = [] }) }
     {
-        let bags = empty_bags(alloc, thresholds.len() + 1)?;
-        Ok(Bags {
-            thresholds,
-            bags,
-            homes: BTreeMap::new(alloc),
-        })
+        let nodes = Nodes::new(alloc, thresholds.len() + 1)?;
+        Ok(Bags { thresholds, nodes })
     }
 
     /// The account joins the tail of the bag of its score.
@@ -57,14 +53,7 @@ impl Bags {
         ensures err { OnErr result (self.new ≡ self.old) }
     {
         let number = number_of_score(self.thresholds.as_slice(), score);
-        self.homes.insert(who, number)?;
-        match join_bag(&mut self.bags, number, who) {
-            Ok(()) => Ok(()),
-            Err(NoMemory) => {
-                let _ = self.homes.remove(&who);
-                Err(NoMemory)
-            }
-        }
+        self.nodes.join(who, number)
     }
 
     /// The account leaves its bag. It takes no memory.
@@ -72,8 +61,8 @@ impl Bags {
         requires { is_listed self.old.order who ≡ true }
         ensures { self.new ≡ removed self.old who }
     {
-        match self.homes.remove(&who) {
-            Some(number) => leave_bag(&mut self.bags, number, who),
+        match self.nodes.find(who) {
+            Some((place, number)) => self.nodes.leave(who, place, number),
             None => unreachable!(),
         }
     }
@@ -82,34 +71,33 @@ impl Bags {
     pub fn contains(&self, who: AccountId) -> bool
         ensures { result ≡ is_listed self.now.order who }
     {
-        home_of(&self.homes, who).is_some()
+        self.nodes.find(who).is_some()
     }
 
     /// Moves the account to the tail of the bag of this score, where that is another one, and tells whether it was.
+    /// It takes no memory.
     pub fn update(&mut self, who: AccountId, score: u64) -> Result<bool, NoMemory>
         requires { is_listed self.old.order who ≡ true }
         ensures answer { IfOk result (λ changed. changed ≡ not (is_at_home self.old who score)) }
         ensures ok { OnOk result (self.new ≡ updated self.old who score) }
         ensures err { OnErr result (self.new ≡ self.old) }
+        ensures never { IsOk result }
     {
-        let number = number_of_score(self.thresholds.as_slice(), score);
-        let Some(home) = home_of(&self.homes, who) else {
+        let Some((place, home)) = self.nodes.find(who) else {
             unreachable!()
         };
+        let number = number_of_score(self.thresholds.as_slice(), score);
         if home == number {
             return Ok(false);
         }
-        join_bag(&mut self.bags, number, who)?;
-        leave_bag(&mut self.bags, home, who);
-        match self.homes.insert(who, number) {
-            Ok(_) => Ok(true),
-            Err(_) => unreachable!(),
-        }
+        self.nodes.move_to(place, home, number);
+        Ok(true)
     }
 
-    /// Moves the account to the tail of the bag of this score.
+    /// Moves the account to the tail of the bag of this score. It takes no memory.
     pub fn rebag(&mut self, who: AccountId, score: u64) -> Result<(), ListRefusal>
-        ensures { Meets refusals.NoMemory (rebag_refusal self.old who score) (moved self.old who score) self.old self.new result }
+        ensures meets { Meets refusals.NoMemory (rebag_refusal self.old who score) (moved self.old who score) self.old self.new result }
+        ensures never { IfErr result (λ refusal. refusal ≢ refusals.NoMemory) }
     {
         if !self.contains(who) {
             return Err(ListRefusal::NotListed);
@@ -120,7 +108,8 @@ impl Bags {
         Ok(())
     }
 
-    /// Moves the account directly before a lighter one of its bag. In front of itself it stays where it is.
+    /// Moves the account directly before a lighter one of its bag. In front of itself it stays where it is. It takes
+    /// no memory.
     pub fn put_in_front(
         &mut self,
         who: AccountId,
@@ -128,15 +117,16 @@ impl Bags {
         lighter: AccountId,
         lighter_score: u64,
     ) -> Result<(), ListRefusal>
-        ensures { Meets refusals.NoMemory (put_in_front_refusal self.old who score lighter lighter_score) (put_in_front self.old who lighter) self.old self.new result }
+        ensures meets { Meets refusals.NoMemory (put_in_front_refusal self.old who score lighter lighter_score) (put_in_front self.old who lighter) self.old self.new result }
+        ensures never { IfErr result (λ refusal. refusal ≢ refusals.NoMemory) }
     {
-        let Some(home) = home_of(&self.homes, who) else {
+        let Some((place, home)) = self.nodes.find(who) else {
             return Err(ListRefusal::NotListed);
         };
-        let Some(other) = home_of(&self.homes, lighter) else {
+        let Some((other, other_home)) = self.nodes.find(lighter) else {
             return Err(ListRefusal::NotListed);
         };
-        if home != other {
+        if home != other_home {
             return Err(ListRefusal::OtherBag);
         }
         if score <= lighter_score {
@@ -145,7 +135,7 @@ impl Bags {
         if who == lighter {
             return Ok(());
         }
-        put_in_bag(&mut self.bags, home, who, lighter)?;
+        self.nodes.put_before(place, home, other);
         Ok(())
     }
 
@@ -153,7 +143,7 @@ impl Bags {
     pub fn first(&self) -> Option<AccountId>
         ensures { result ≡ slice_get (walk self.now.order) 0 }
     {
-        top_of(self.bags.as_slice())
+        self.nodes.first_below(self.nodes.count())
     }
 
     /// The account after this one in the walk, from the highest bag down and within a bag from head to tail.
@@ -161,31 +151,29 @@ impl Bags {
         requires { is_listed self.now.order who ≡ true }
         ensures { result ≡ account_after (walk self.now.order) who }
     {
-        let Some(home) = home_of(&self.homes, who) else {
+        let Some((place, home)) = self.nodes.find(who) else {
             unreachable!()
         };
-        let after = self.bags[home].after(who);
-        if after.is_some() {
-            return after;
+        match self.nodes.next_in(place, home) {
+            Some(other) => Some(self.nodes.account(other, home)),
+            None => self.nodes.first_below(home),
         }
-        top_of(&self.bags.as_slice()[..home])
     }
 
-    /// The walk over all accounts, from the highest bag down and within a bag from head to tail.
+    /// The walk over all accounts, from the highest bag down and within a bag from head to tail. It comes to each once.
     pub fn walk(&self) -> Walk<'_>
-        ensures { result ≡ walk self.now.order }
+        ensures accounts { result ≡ walk self.now.order }
+        ensures once { IsDistinct same_account (walk self.now.order) }
     {
-        Walk::over(self.bags.as_slice())
+        Walk::over(&self.nodes)
     }
 }
 
-/// How many thresholds are below the score. There are at most 200.
+/// How many thresholds are below the score.
 fn number_of_score(thresholds: &[u64], score: u64) -> usize
+    requires { IsRisingFrom 0 thresholds.now }
     ensures number { result ≡ bag_of thresholds.now score }
     ensures within { result ≤ length thresholds.now }
 {
-    thresholds
-        .iter()
-        .filter(|threshold| **threshold < score)
-        .count()
+    thresholds.partition_point(|threshold| *threshold < score)
 }

@@ -2,12 +2,13 @@
 //! are listed, after Substrate's staking and bags-list pallets.
 #![tactic(auto)]
 
-mod bag;
 mod bags;
+pub mod laws;
+mod nodes;
 mod ranks;
 mod refusal;
+mod rings;
 mod roles;
-mod rows;
 mod standing;
 mod walk;
 

@@ -1,6 +1,7 @@
 //! The roles of accounts, after Substrate's staking pallet.
 ghost use Rattle.std.specs.Prelude.{◌≡◌, ◌≢◌, ◌<◌, ◌≤◌, [], ◌∷◌, length, Some, slice_get};
 ghost use Rattle.std.specs.List.{list_any};
+ghost use Rattle.std.specs.List.Sorted.{IsStrictlySortedBy};
 ghost use Rattle.npos_base.specs.Account.{account_cmp};
 ghost use Rattle.npos_base.specs.declared.limits.TheConstants.{MOST_VALIDATORS};
 ghost use Rattle.npos_base.specs.Refusal.{Meets, answer_of};
@@ -111,10 +112,11 @@ impl Roles {
         }
     }
 
-    /// How many validators there are, at most 2,048.
+    /// How many validators there are, at most 2,048. They rise strictly by account.
     pub fn validator_count(&self) -> usize
         ensures count { result ≡ length (validators_of self.now) }
         ensures most { result ≤ MOST_VALIDATORS }
+        ensures rising { IsStrictlySortedBy account_cmp (validators_of self.now) }
     {
         self.validators.len()
     }

@@ -1,4 +1,4 @@
-//! The walk of five accounts over three bags, and each refusal of the lists.
+//! The walk of five accounts over three bags, each refusal of the lists, and bags of many accounts.
 ghost use Rattle.std.specs.Prelude.{◌≡◌, IfOk};
 
 use crate::{Bags, ListRefusal, Role, Roles};
@@ -138,5 +138,76 @@ fn a_validator_too_many(rt: HostRuntime) -> Result<(), Fail> {
         roles.validate(at(1), 0),
         Err(ListRefusal::TooManyValidators)
     );
+    Ok(())
+}
+
+fn nth(n: u32) -> AccountId {
+    AccountId {
+        hi: 0,
+        lo: u128::from(n),
+    }
+}
+
+/// One bag, which so many accounts joined in turn.
+fn crowd(alloc: Global, count: u32) -> Result<Bags, NoMemory> {
+    let mut bags = Bags::new(alloc, List::new(alloc))?;
+    for n in 0..count {
+        if !bags.contains(nth(n)) {
+            bags.insert(nth(n), 1)?;
+        }
+    }
+    Ok(bags)
+}
+
+fn leave(bags: &mut Bags, n: u32) {
+    if bags.contains(nth(n)) {
+        bags.remove(nth(n));
+    }
+}
+
+/// Whether the walk is that of these accounts.
+fn finds(bags: &Bags, numbers: &[u32]) -> bool {
+    let mut walk = bags.walk();
+    for n in numbers {
+        if walk.next() != Some(nth(*n)) {
+            return false;
+        }
+    }
+    walk.next().is_none()
+}
+
+#[test]
+fn every_second_of_five_thousand_leaves_one_bag(rt: HostRuntime) -> Result<(), Fail> {
+    let mut bags = crowd(rt.alloc(), 5000)?;
+    let mut plain = Vec::new(rt.alloc());
+    for n in 0..2500 {
+        leave(&mut bags, 2 * n + 1);
+        plain.push(2 * n)?;
+    }
+    assert_eq!(rt;
+        bags.put_in_front(nth(0), 7, nth(4998), 7),
+        Err(ListRefusal::NotHeavier)
+    );
+    assert!(rt; finds(&bags, plain.as_slice()));
+    assert_eq!(rt; bags.put_in_front(nth(0), 8, nth(4998), 7), Ok(()));
+    plain.as_mut_slice()[..2499].rotate_left(1);
+    assert!(rt; finds(&bags, plain.as_slice()));
+    Ok(())
+}
+
+#[test]
+fn the_middle_of_four_hundred_thousand_leaves_one_bag(rt: HostRuntime) -> Result<(), Fail> {
+    let mut bags = crowd(rt.alloc(), 400_000)?;
+    for n in 100_000..300_000 {
+        leave(&mut bags, n);
+    }
+    let mut plain = Vec::new(rt.alloc());
+    for n in 0..100_000 {
+        plain.push(n)?;
+    }
+    for n in 300_000..400_000 {
+        plain.push(n)?;
+    }
+    assert!(rt; finds(&bags, plain.as_slice()));
     Ok(())
 }

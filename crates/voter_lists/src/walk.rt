@@ -1,10 +1,10 @@
 //! The walk over the bags.
-ghost use Rattle.std.specs.Prelude.{◌≡◌, slice_get};
+ghost use Rattle.std.specs.Prelude.{◌≡◌};
 ghost use Rattle.std.specs.Iterator.{YieldsFirst, item_count};
-ghost use Rattle.voter_lists.specs.Bags.{walk};
-ghost use Rattle.voter_lists.specs.BagRows.{walk_from};
+ghost use Rattle.voter_lists.specs.BagRows.{falling};
+ghost use Rattle.voter_lists.specs.Nodes.{bags_in, IsStanding};
 
-use crate::bag::Bag;
+use crate::nodes::Nodes;
 use npos_base::AccountId;
 use std::marker::Model;
 
@@ -12,29 +12,34 @@ use std::marker::Model;
 /// it has still to come to. A whole walk looks at each account and each bag once, and takes no memory.
 #[derive(Drop)]
 pub struct Walk<'a> {
-    here: &'a [AccountId],
-    lower: &'a [Bag],
+    nodes: &'a Nodes,
+    // the place that is next in the bag of this number, or none, and then a lower bag is next
+    here: Option<usize>,
+    number: usize,
 }
 
 impl<'a> Model for Walk<'a> {
-    ghost use Rattle.std.specs.Prelude.{List, ◌++◌};
+    ghost use Rattle.std.specs.Prelude.{List};
     ghost use Rattle.npos_base.specs.declared.account.AccountId.{AccountId};
-    ghost use Rattle.voter_lists.specs.BagRows.{falling};
+    ghost use Rattle.voter_lists.specs.Nodes.{ahead, IsWalk};
 
     ghost Value = { List AccountId };
 
-    ghost view = { λ w. w.here.now ++ falling w.lower.now };
+    ghost view = { λ w. ahead w.nodes.now w.number w.here };
+
+    ghost invariant = { λ w. IsWalk w.nodes.now w.number w.here };
 }
 
 impl<'a> Walk<'a> {
-    /// The walk over these bags, the lowest of which is the first.
-    #[tactic(auto, using(crate::proofs::WalkLemmas::walk_falls))]
-    pub(crate) fn over(bags: &'a [Bag]) -> Walk<'a>
-        ensures { result ≡ walk (walk_from 0 bags.now) }
+    /// The walk over all bags.
+    pub(crate) fn over(nodes: &'a Nodes) -> Walk<'a>
+        requires { IsStanding nodes.now }
+        ensures { result ≡ falling (bags_in nodes.now) }
     {
         Walk {
-            here: &[],
-            lower: bags,
+            nodes,
+            here: None,
+            number: nodes.count(),
         }
     }
 }
@@ -46,23 +51,10 @@ impl<'a> Iterator for Walk<'a> {
 
     ghost remaining = { item_count (λ left. left) };
 
-    #[tactic(auto, using(crate::proofs::WalkLemmas::next_bag))]
     fn next(&mut self) -> Option<AccountId> {
-        'bags: loop {
-            if let Some((first, later)) = self.here.split_first() {
-                self.here = later;
-                return Some(*first);
-            }
-            let (highest, lower) = self.lower.split_last()?;
-            self.here = highest.as_slice();
-            self.lower = lower;
-        }
+        let (number, place) = self.nodes.next_place(self.here, self.number)?;
+        self.number = number;
+        self.here = self.nodes.next_in(place, number);
+        Some(self.nodes.account(place, number))
     }
-}
-
-/// The first account of the highest of these bags that has one.
-pub(crate) fn top_of(bags: &[Bag]) -> Option<AccountId>
-    ensures { result ≡ slice_get (walk (walk_from 0 bags.now)) 0 }
-{
-    Walk::over(bags).next()
 }

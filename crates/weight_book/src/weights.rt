@@ -14,13 +14,15 @@ use std::marker::Model;
 /// How many targets a `u16` can name.
 const NAMES: usize = 65_536;
 
-/// A committee and edges. Contracts see their lists and the spare of each: how many more members or edges it takes
-/// before memory is asked for. The room of a list is its length and its spare together; no call lowers it.
+/// A committee and edges. Contracts see their lists and the spare of each: how many more members or
+/// edges it takes before memory is asked for. The room of a list is its length and its spare
+/// together; no call lowers it.
 #[derive(Drop)]
 pub struct Weights {
     members: Room<u16>,
     edges: Room<Edge>,
-    /// By target, what the edges to it sum to. It is kept up as edges come, so that no call looks for them.
+    /// By target, what the edges to it sum to. It is kept up as edges come, so that no call looks
+    /// for them.
     supports: Vec<u128>,
 }
 
@@ -40,7 +42,8 @@ impl Model for Weights {
 }
 
 impl Weights {
-    /// No member and no edge, and room for each target as a member and for an edge along each nomination.
+    /// No member and no edge, and room for each target as a member and for an edge along each
+    /// nomination.
     pub fn with_room(alloc: Global, snapshot: &Snapshot) -> Result<Weights, NoMemory>
         ensures empty { IfOk result (λ weights. weights.plain ≡ no_weights) }
         ensures room { IfOk result (HasRoom snapshot.now) }

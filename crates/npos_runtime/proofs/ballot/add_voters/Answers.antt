@@ -7,7 +7,7 @@ use Rattle.npos_runtime.proofs.ballot.add_voters.Goals.{else-loop-voters-test, t
 
 pub loop-voters-init : goal.loop-voters-init
 loop-voters-init c = record {
-  polled = polled_first c.args.chain.now c.args.builder.now c.walk-walk.result c.requires.live c.requires.empty c.walk-walk.ensures;
+  polled = polled_first c.args.chain.now c.args.builder.now c.walk-walk.result c.requires.live c.requires.empty c.walk-walk.ensures.accounts;
   counted = sym (ap (λ (draft : Draft). length draft.voters) c.requires.empty);
 }
 

@@ -1,32 +1,25 @@
--- The account is noted with its bag and joins it, or the note is taken back.
-use Rattle.std.proofs.Common.{◌≡◌, ◌∙◌, sym, ap, length, subst, arith}
+-- The account takes a place at the tail of the bag.
+use Rattle.std.proofs.Common.{◌∙◌, ap, length, arith}
 use Rattle.voter_lists.specs.Bags.{is_listed, in_walk_order, joined, bag_of}
-use Rattle.voter_lists.specs.BagRows.{walk_from, home_in, AreHomes}
-use Rattle.voter_lists.proofs.ListingLemmas.{not_listed, noted_anew, joined_homes, joined_walk, homes_back}
+use Rattle.voter_lists.specs.BagRows.{walk_from}
+use Rattle.voter_lists.specs.Nodes.{bags_in, home_of}
+use Rattle.voter_lists.proofs.ListingLemmas.{not_listed, joined_walk}
+use Rattle.voter_lists.proofs.LinkedLemmas.{no_place, linked_joined, then_ok}
 use Rattle.voter_lists.proofs.bags.Bags.insert.Goals as goal
 
-pub join_bag-requires : goal.join_bag-requires
-join_bag-requires c = omega (arith, c.number_of_score-number.ensures.within, ap length c.as_slice.ensures, c.self.invariant.count)
+pub join-requires-clause-absent : goal.join-requires-clause-absent
+join-requires-clause-absent c =
+    no_place c.self.inside.thresholds c.self.inside.nodes c.self.invariant c.args.who (not_listed c.self.inside.thresholds (bags_in c.self.inside.nodes) (home_of c.self.inside.nodes) c.self.invariant.homes c.args.who (ap (λ listing. is_listed listing.order c.args.who) c.self.view_is ∙ c.requires))
 
-pub invariant_of-self-in-Ok : goal.invariant_of-self-in-Ok
-invariant_of-self-in-Ok c =
-    joined_homes c.self.inside.thresholds c.self.inside.bags.items (home_in c.self.inside.homes.entries) c.self.invariant _ (home_in c.insert.new.self.entries) c.args.who c.number_of_score-number.result
-    (omega (arith, c.number_of_score-number.ensures.within, ap length c.as_slice.ensures, c.self.invariant.count))
-    (not_listed c.self.inside.thresholds c.self.inside.bags.items (home_in c.self.inside.homes.entries) c.self.invariant c.args.who (ap (λ listing. is_listed listing.order c.args.who) c.self.view_is ∙ c.requires))
-    c.in-Ok.ensures.ok
-    (noted_anew c.self.inside.homes.entries c.insert.new.self.entries c.args.who _ c.in_ok-insert.ensures.updates.1 c.in_ok-insert.ensures.updates.2)
+pub invariant_of-self : goal.invariant_of-self
+invariant_of-self c =
+    linked_joined c.self.inside.thresholds c.self.inside.nodes c.self.invariant c.join.new.self c.args.who c.number_of_score-number.result c.join.result (omega (arith, c.number_of_score-number.ensures.within, ap length c.as_slice.ensures, c.self.invariant.homes.count))
+    (not_listed c.self.inside.thresholds (bags_in c.self.inside.nodes) (home_of c.self.inside.nodes) c.self.invariant.homes c.args.who (ap (λ listing. is_listed listing.order c.args.who) c.self.view_is ∙ c.requires)) c.join.ensures.ok c.join.ensures.err
 
-pub invariant_of-self-in-Err : goal.invariant_of-self-in-Err
-invariant_of-self-in-Err c =
-    subst (λ bags. AreHomes c.self.inside.thresholds bags (home_in c.remove.new.self.entries)) (sym c.in-Err.ensures.err)
-    (homes_back c.self.inside.thresholds c.self.inside.bags.items c.self.inside.homes.entries c.insert.new.self.entries c.remove.new.self.entries c.args.who
-    (not_listed c.self.inside.thresholds c.self.inside.bags.items (home_in c.self.inside.homes.entries) c.self.invariant c.args.who (ap (λ listing. is_listed listing.order c.args.who) c.self.view_is ∙ c.requires))
-    c.in_ok-insert.ensures.updates.2 c.remove.ensures.updates.1 c.remove.ensures.updates.2 c.self.invariant)
-
-pub returns-in-Ok-clause-ok : goal.returns-in-Ok-clause-ok
-returns-in-Ok-clause-ok c =
-    let number : c.number_of_score-number.result ≡ bag_of c.self.inside.thresholds c.args.score = c.number_of_score-number.ensures.number ∙ ap (λ ts. bag_of ts c.args.score) c.as_slice.ensures in
-    rw (← c.self.view_is) (ap (λ order. record { thresholds = c.self.inside.thresholds; order = order })
-    (joined_walk c.self.inside.thresholds c.self.inside.bags.items (home_in c.self.inside.homes.entries) c.self.invariant _ c.args.who c.number_of_score-number.result
-    (omega (arith, c.number_of_score-number.ensures.within, ap length c.as_slice.ensures, c.self.invariant.count)) c.in-Ok.ensures.ok
-    ∙ ap (λ n. in_walk_order c.self.inside.thresholds (joined (walk_from 0 c.self.inside.bags.items) c.args.who n)) number))
+pub returns-clause-ok : goal.returns-clause-ok
+returns-clause-ok c =
+    rw (← c.self.view_is) (then_ok c.join.result
+    (λ becomes. ap (λ order. record { thresholds = c.self.inside.thresholds; order = order })
+    (joined_walk c.self.inside.thresholds (bags_in c.self.inside.nodes) (home_of c.self.inside.nodes) c.self.invariant.homes (bags_in c.join.new.self) c.args.who c.number_of_score-number.result (omega (arith, c.number_of_score-number.ensures.within, ap length c.as_slice.ensures, c.self.invariant.homes.count)) becomes.lists
+    ∙ ap (λ n. in_walk_order c.self.inside.thresholds (joined (walk_from 0 (bags_in c.self.inside.nodes)) c.args.who n)) (c.number_of_score-number.ensures.number ∙ ap (λ ts. bag_of ts c.args.score) c.as_slice.ensures)))
+    c.join.ensures.ok)

@@ -1,25 +1,29 @@
--- The account after another one is in its bag, or the first of a lower one.
-use Rattle.std.proofs.Common.{◌≡◌, ◌∙◌, sym, ap, take, slice_get}
-use Rattle.voter_lists.specs.Bags.{is_listed, walk, account_after}
-use Rattle.voter_lists.specs.BagRows.{walk_from, home_in}
+-- The account after another one in its bag, or the first of a lower bag.
+use Rattle.std.proofs.Common.{◌∙◌, sym, ap, take, Some}
+use Rattle.std.specs.Option.{option_map}
+use Rattle.voter_lists.specs.Bags.{is_listed}
+use Rattle.voter_lists.specs.BagRows.{falling}
+use Rattle.voter_lists.specs.Nodes.{bags_in, home_of, account_at}
 use Rattle.voter_lists.proofs.ListingLemmas.{noted_somewhere}
-use Rattle.voter_lists.proofs.WalkLemmas.{after_walk, or_first_here, or_first_later}
+use Rattle.voter_lists.proofs.WalkLemmas.{or_first}
+use Rattle.voter_lists.proofs.LinkedLemmas.{after_is}
 use Rattle.voter_lists.proofs.bags.Bags.next.Goals as goal
 
 pub unreachable-requires : goal.unreachable-requires
-unreachable-requires c =
-    noted_somewhere c.self.inside.thresholds c.self.inside.bags.items (home_in c.self.inside.homes.entries) c.self.invariant c.args.who
-    (ap (λ listing. is_listed listing.order c.args.who) c.self.view_is ∙ c.requires) (sym c.home_of.ensures ∙ c.in_default.is)
+unreachable-requires c = noted_somewhere c.self.inside.thresholds (bags_in c.self.inside.nodes) (home_of c.self.inside.nodes) c.self.invariant.homes c.args.who (ap (λ listing. is_listed listing.order c.args.who) c.self.view_is ∙ c.requires) c.in_default.ensures.absent
 
-pub returns-then-is_some : goal.returns-then-is_some
-returns-then-is_some c = rw (← c.self.view_is)
-    (or_first_here c.after-after.result _ (walk (walk_from 0 (take c.in-Some.home c.self.inside.bags.items))) (c.after-after.ensures ∙ ap (λ accounts. account_after accounts c.args.who) c.index.ensures) (sym c.if-is_some.ensures)
-    ∙ sym (after_walk (home_in c.self.inside.homes.entries) c.args.who c.in-Some.home c.self.inside.bags.items c.index.result.now (sym c.home_of.ensures ∙ c.in-Some.is) c.self.invariant.noted (c.self.invariant.within c.args.who c.in-Some.home (sym c.home_of.ensures ∙ c.in-Some.is))))
-
-pub returns : goal.returns
-returns c =
-    let below : c.top_of.result ≡ slice_get (walk (walk_from 0 (take c.in-Some.home c.self.inside.bags.items))) 0 =
-    c.top_of.ensures ∙ ap (λ bags. slice_get (walk (walk_from 0 (take c.in-Some.home bags))) 0) c.as_slice.ensures.value in
+pub returns-in-Some-next_in : goal.returns-in-Some-next_in
+returns-in-Some-next_in c =
+    let account = account_at c.self.inside.nodes.accounts.items in
     rw (← c.self.view_is)
-    (below ∙ or_first_later c.after-after.result _ (walk (walk_from 0 (take c.in-Some.home c.self.inside.bags.items))) (c.after-after.ensures ∙ ap (λ accounts. account_after accounts c.args.who) c.index.ensures) (sym c.if-is_some.ensures)
-    ∙ sym (after_walk (home_in c.self.inside.homes.entries) c.args.who c.in-Some.home c.self.inside.bags.items c.index.result.now (sym c.home_of.ensures ∙ c.in-Some.is) c.self.invariant.noted (c.self.invariant.within c.args.who c.in-Some.home (sym c.home_of.ensures ∙ c.in-Some.is))))
+    (sym (after_is c.self.inside.thresholds c.self.inside.nodes c.self.invariant c.args.who c.in-Some.place c.in-Some.home c.in-Some.ensures.found.0 c.in-Some.ensures.found.1 c.in-Some.ensures.found.2
+    ∙ ap (λ o. or_first (option_map account o) (falling (take c.in-Some.home (bags_in c.self.inside.nodes)))) (sym c.next_in.ensures.value ∙ c.in-Some-next_in.is)
+    ∙ ap (λ a. Some a) (sym c.account.ensures)))
+
+pub returns-in-None : goal.returns-in-None
+returns-in-None c =
+    let account = account_at c.self.inside.nodes.accounts.items in
+    rw (← c.self.view_is)
+    (c.first_below.ensures
+    ∙ sym (after_is c.self.inside.thresholds c.self.inside.nodes c.self.invariant c.args.who c.in-Some.place c.in-Some.home c.in-Some.ensures.found.0 c.in-Some.ensures.found.1 c.in-Some.ensures.found.2
+    ∙ ap (λ o. or_first (option_map account o) (falling (take c.in-Some.home (bags_in c.self.inside.nodes)))) (sym c.next_in.ensures.value ∙ c.in-None.is)))

@@ -1,0 +1,257 @@
+//! Worked bundles, whose verdicts were computed by hand, through the top call.
+use crate::run;
+use npos_base::{AccountId, List, MemorySink, MemorySource, NoMemory};
+use scale_wire::Pen;
+use std::alloc::Global;
+use std::test::Fail;
+
+/// The stakes of the voters, with their votes.
+type Voters = &'static [(u64, &'static [u64])];
+
+/// A voter with 60 for the first target, and one with 40 for the second.
+const APART: Voters = &[(60, &[0]), (40, &[1])];
+
+/// One voter with 10 for two targets.
+const ONE: Voters = &[(10, &[0, 1])];
+
+/// Bundles with two seats: how many targets, the voters, the claimed score, the front of a solution and how many zeros
+/// follow it; and then the status and the line.
+const PACKED: [(u64, Voters, (u64, u64, u128), &[u8], u32, u8, &str); 14] = [
+    (
+        3,
+        APART,
+        (40, 100, 5200),
+        &[8, 0, 0, 4, 4],
+        15,
+        0,
+        "verdict 0\n",
+    ),
+    (
+        3,
+        APART,
+        (41, 100, 5200),
+        &[8, 0, 0, 4, 4],
+        15,
+        1,
+        "verdict 9 40 100 5200\n",
+    ),
+    (3, APART, (40, 100, 5200), &[], 0, 1, "verdict 1 0 1\n"),
+    (
+        3,
+        APART,
+        (40, 100, 5200),
+        &[8, 0, 0, 4, 4],
+        16,
+        1,
+        "verdict 1 20 6\n",
+    ),
+    (3, APART, (40, 100, 5200), &[4, 8], 16, 1, "verdict 2 2\n"),
+    (
+        3,
+        APART,
+        (40, 100, 5200),
+        &[4, 0, 12],
+        15,
+        1,
+        "verdict 3 3\n",
+    ),
+    (
+        3,
+        APART,
+        (40, 100, 5200),
+        &[0, 4, 0, 0, 4],
+        15,
+        1,
+        "verdict 5 0\n",
+    ),
+    (
+        3,
+        APART,
+        (40, 100, 5200),
+        &[4, 0, 4],
+        15,
+        1,
+        "verdict 6 0 1\n",
+    ),
+    (
+        3,
+        APART,
+        (40, 100, 5200),
+        &[4, 0, 0],
+        15,
+        1,
+        "verdict 8 1\n",
+    ),
+    // equal to the threshold outweighs, and one unit below does not
+    (
+        3,
+        &[(50, &[0, 1]), (50, &[2])],
+        (24, 50, 1252),
+        &[0, 4, 0, 0, 254, 255, 1, 0, 4],
+        14,
+        1,
+        "verdict 10 2 50\n",
+    ),
+    (
+        3,
+        &[(51, &[0, 1]), (49, &[2])],
+        (25, 51, 1301),
+        &[0, 4, 0, 0, 254, 255, 1, 0, 4],
+        14,
+        0,
+        "verdict 0\n",
+    ),
+    // a third of the stake, all of it, and a voter in two groups
+    (
+        2,
+        ONE,
+        (3, 10, 58),
+        &[0, 4, 0, 0, 86, 85, 1, 0, 4],
+        14,
+        0,
+        "verdict 0\n",
+    ),
+    (
+        2,
+        ONE,
+        (3, 10, 58),
+        &[0, 4, 0, 0, 254, 255, 3, 0, 4],
+        14,
+        1,
+        "verdict 7 0\n",
+    ),
+    (
+        2,
+        ONE,
+        (3, 10, 58),
+        &[4, 0, 0, 4, 0, 0, 86, 85, 1, 0, 4],
+        14,
+        1,
+        "verdict 4 0\n",
+    ),
+];
+
+/// Bundles with two seats and other work, spelled out.
+const SPELLED: [(u64, Voters, &[u8], u8, &str); 7] = [
+    (3, APART, &[0], 3, "fault 169 nosolution\n"),
+    (3, APART, &[3], 3, "fault 169 badtag\n"),
+    (3, APART, &[0, 0], 3, "fault 170 trailing\n"),
+    (
+        3,
+        APART,
+        &[2, 8, 0, 4, 8, 0, 0, 244, 4, 4, 160],
+        1,
+        "verdict 11 0\n",
+    ),
+    // poor weights of a proportional committee
+    (
+        3,
+        &[(50, &[0, 2]), (50, &[0, 1])],
+        &[2, 8, 0, 4, 8, 4, 0, 100, 4, 4, 100],
+        1,
+        "verdict 10 2 50\n",
+    ),
+    (
+        3,
+        &[(2, &[0, 1]), (1, &[2])],
+        &[0],
+        3,
+        "fault 0 snapshot 2 3 2\n",
+    ),
+    (1, &[(9, &[0])], &[0], 3, "fault 0 snapshot 1 1 2\n"),
+];
+
+/// Appends a bundle with two seats, up to its work.
+fn put_election(pen: &mut Pen, targets: u64, voters: Voters) -> Result<(), NoMemory> {
+    pen.put_compact(2)?;
+    pen.put_compact(targets)?;
+    for target in 0..targets {
+        pen.put_account(AccountId {
+            hi: 0,
+            lo: u128::from(target),
+        })?;
+    }
+    pen.put_compact(voters.len() as u64)?;
+    for (place, (stake, votes)) in voters.iter().enumerate() {
+        pen.put_account(AccountId {
+            hi: 1,
+            lo: place as u128,
+        })?;
+        pen.put_compact(*stake)?;
+        pen.put_compact(votes.len() as u64)?;
+        for vote in *votes {
+            pen.put_compact(*vote)?;
+        }
+    }
+    Ok(())
+}
+
+/// Appends packed work.
+fn put_packed(
+    pen: &mut Pen,
+    claim: (u64, u64, u128),
+    front: &[u8],
+    zeros: u32,
+) -> Result<(), NoMemory> {
+    pen.put_u8(1)?;
+    pen.put_compact(claim.0)?;
+    pen.put_compact(claim.1)?;
+    pen.put_u128(claim.2)?;
+    pen.put_compact(front.len() as u64 + u64::from(zeros))?;
+    pen.put_bytes(front)?;
+    for _ in 0..zeros {
+        pen.put_u8(0)?;
+    }
+    Ok(())
+}
+
+/// What a check of these bytes writes, its status, and how many bytes it leaves.
+fn check(alloc: Global, bytes: List<u8>) -> Result<(Vec<u8>, u8, usize), NoMemory> {
+    let mut words = Vec::new(alloc);
+    words.push(String::from_str(alloc, "npos")?)?;
+    words.push(String::from_str(alloc, "check")?)?;
+    let mut source = MemorySource::new(bytes, 4096, List::new(alloc));
+    let mut sink = MemorySink::new(alloc, 4096, List::new(alloc));
+    sink.reserve(4096)?;
+    let status = run(alloc, words.as_slice(), &mut source, &mut sink).number();
+    Ok((
+        Vec::from_slice(alloc, sink.written())?,
+        status,
+        source.left().len(),
+    ))
+}
+
+#[test]
+fn packed_work_gets_its_verdict(rt: HostRuntime) -> Result<(), Fail> {
+    for (targets, voters, claim, front, zeros, status, line) in PACKED {
+        let mut pen = Pen::new(rt.alloc());
+        put_election(&mut pen, targets, voters)?;
+        put_packed(&mut pen, claim, front, zeros)?;
+        let (text, ended, left) = check(rt.alloc(), pen.finish())?;
+        assert_eq!(rt; text.as_slice(), line.as_bytes());
+        assert_eq!(rt; (ended, left), (status, 0));
+    }
+    Ok(())
+}
+
+#[test]
+fn spelled_work_gets_its_verdict_or_its_fault(rt: HostRuntime) -> Result<(), Fail> {
+    for (targets, voters, work, status, line) in SPELLED {
+        let mut pen = Pen::new(rt.alloc());
+        put_election(&mut pen, targets, voters)?;
+        pen.put_bytes(work)?;
+        let (text, ended, _) = check(rt.alloc(), pen.finish())?;
+        assert_eq!(rt; text.as_slice(), line.as_bytes());
+        assert_eq!(rt; ended, status);
+    }
+    Ok(())
+}
+
+#[test]
+fn a_bundle_that_is_too_long_is_not_read_on(rt: HostRuntime) -> Result<(), Fail> {
+    let bytes = Vec::from_elem(rt.alloc(), 0, 16_777_220)?;
+    let (text, ended, left) = check(rt.alloc(), List::from_vec(bytes))?;
+    assert_eq!(rt; text.as_slice(), b"fault 16777216 long\n".as_slice());
+    assert_eq!(rt; (ended, left), (3, 3));
+    Ok(())
+}

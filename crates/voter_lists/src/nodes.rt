@@ -1,0 +1,209 @@
+//! The accounts of all bags as linked nodes, so that no call searches a bag.
+ghost use Rattle.std.specs.Prelude.{◌≡◌, ◌≢◌, ℕ, ◌+◌, ◌<◌, ◌≤◌, [], ◌∷◌, ◌++◌, length, Some, None, IfOk, IfSome, IfNone, OnOk, OnErr, map, take, slice_get, slice_set, slice_index_or};
+ghost use Rattle.npos_base.specs.declared.account.AccountId.{AccountId};
+ghost use Rattle.voter_lists.specs.Bag.{without, with_before};
+ghost use Rattle.voter_lists.specs.Bags.{account_after};
+ghost use Rattle.voter_lists.specs.BagRows.{falling};
+ghost use Rattle.voter_lists.specs.Rings.{list_of, list_count, items, after, IsFit, Relinks};
+ghost use Rattle.voter_lists.specs.Nodes.{account_at, place_in, bags_in, home_of, IsStanding, Becomes, Stays, IsTop, IsWalk, moved_bags, ahead};
+
+use crate::rings::Rings;
+use npos_base::{AccountId, NoMemory};
+use std::alloc::Global;
+use std::collections::BTreeMap;
+
+/// A node for each listed account: its place among the accounts, and that place in the list of its bag. Places that
+/// were freed are in the list behind those of the bags, and are used again.
+#[derive(Drop)]
+pub(crate) struct Nodes {
+    rings: Rings,
+    accounts: Vec<AccountId>,
+    places: BTreeMap<AccountId, usize>,
+    bags: usize,
+}
+
+impl Nodes {
+    /// So many empty bags.
+    pub(crate) fn new(alloc: Global, bags: usize) -> Result<Nodes, NoMemory>
+        requires { bags < 1000 }
+        ensures bags { IfOk result (λ nodes. (number : ℕ) → items nodes.rings number ≡ []) }
+        ensures count { IfOk result (λ nodes. nodes.bags ≡ bags) }
+        ensures homes { IfOk result (λ nodes. nodes.places.entries ≡ []) }
+        ensures standing { IfOk result (λ nodes. IsStanding nodes) }
+    {
+        let rings = Rings::new(alloc, bags + 1)?;
+        Ok(Nodes {
+            rings,
+            accounts: Vec::new(alloc),
+            places: BTreeMap::new(alloc),
+            bags,
+        })
+    }
+
+    /// The place of an account.
+    pub(crate) fn place_of(&self, who: AccountId) -> Option<usize>
+        ensures { result ≡ place_in self.now.places.entries who }
+    {
+        self.places.get(&who).copied()
+    }
+
+    /// The place of a listed account, and its bag.
+    pub(crate) fn find(&self, who: AccountId) -> Option<(usize, usize)>
+        requires { IsStanding self.now }
+        ensures found { IfSome result (λ at. (place_in self.now.places.entries who ≡ Some at.0) × (home_of self.now who ≡ Some at.1) × (at.1 < self.now.bags)) }
+        ensures absent { IfNone result (home_of self.now who ≡ None) }
+    {
+        let place = self.place_of(who)?;
+        match self.rings.list_of(place) {
+            Some(number) => Some((place, number)),
+            None => unreachable!(),
+        }
+    }
+
+    /// A place in no bag, with room for its links.
+    fn free_place(&mut self, who: AccountId) -> Result<usize, NoMemory>
+        requires { IsStanding self.old }
+        ensures free { OnOk result (IfOk result (λ place. list_of self.new.rings place ≡ Some self.new.bags)) }
+        ensures stays { Stays self.old self.new }
+        ensures places { self.new.places.entries ≡ self.old.places.entries }
+    {
+        if let Some(place) = self.rings.front(self.bags) {
+            return Ok(place);
+        }
+        let place = self.accounts.len();
+        self.rings.reserve_key(place)?;
+        self.accounts.push(who)?;
+        self.rings.push_back(self.bags, place);
+        Ok(place)
+    }
+
+    /// An account that has no place joins the tail of a bag.
+    pub(crate) fn join(&mut self, who: AccountId, number: usize) -> Result<(), NoMemory>
+        requires standing { IsStanding self.old }
+        requires within { number < self.old.bags }
+        requires absent { place_in self.old.places.entries who ≡ None }
+        ensures ok { OnOk result (Becomes self.old self.new (slice_set (bags_in self.old) number (slice_index_or (bags_in self.old) number [] ++ who ∷ [])) who (Some number)) }
+        ensures err { OnErr result (Stays self.old self.new) }
+    {
+        let place = self.free_place(who)?;
+        self.places.insert(who, place)?;
+        self.accounts[place] = who;
+        self.relink(place, self.bags, number);
+        Ok(())
+    }
+
+    /// A listed account leaves its bag, and its place is free.
+    pub(crate) fn leave(&mut self, who: AccountId, place: usize, number: usize)
+        requires standing { IsStanding self.old }
+        requires placed { place_in self.old.places.entries who ≡ Some place }
+        requires listed { list_of self.old.rings place ≡ Some number }
+        requires within { number < self.old.bags }
+        ensures { Becomes self.old self.new (slice_set (bags_in self.old) number (without (slice_index_or (bags_in self.old) number []) who)) who None }
+    {
+        let _ = self.places.remove(&who);
+        self.relink(place, number, self.bags);
+    }
+
+    /// A listed account leaves its bag for the tail of another one.
+    pub(crate) fn move_to(&mut self, place: usize, home: usize, number: usize)
+        requires standing { IsStanding self.old }
+        requires listed { list_of self.old.rings place ≡ Some home }
+        requires within { home < self.old.bags }
+        requires number { number < self.old.bags }
+        requires apart { home ≢ number }
+        ensures { (who : AccountId) → place_in self.old.places.entries who ≡ Some place → Becomes self.old self.new (moved_bags (bags_in self.old) who home number) who (Some number) }
+    {
+        self.relink(place, home, number);
+    }
+
+    /// A listed account goes directly before another one of its bag.
+    pub(crate) fn put_before(&mut self, place: usize, number: usize, other: usize)
+        requires standing { IsStanding self.old }
+        requires listed { list_of self.old.rings place ≡ Some number }
+        requires beside { list_of self.old.rings other ≡ Some number }
+        requires within { number < self.old.bags }
+        requires apart { other ≢ place }
+        ensures { (who lighter : AccountId) → place_in self.old.places.entries who ≡ Some place → place_in self.old.places.entries lighter ≡ Some other → Becomes self.old self.new (slice_set (bags_in self.old) number (with_before (without (slice_index_or (bags_in self.old) number []) who) who lighter)) who (Some number) }
+    {
+        self.rings.unlink(number, place);
+        self.rings.put_before(number, place, other);
+    }
+
+    /// A place leaves one list for the end of another.
+    fn relink(&mut self, place: usize, from: usize, to: usize)
+        requires fit { IsFit self.old.rings }
+        requires listed { list_of self.old.rings place ≡ Some from }
+        requires within { to < list_count self.old.rings }
+        ensures nodes { self.new ≡ record self.old { rings = self.new.rings } }
+        ensures relinks { Relinks self.old.rings self.new.rings place from to }
+    {
+        self.rings.unlink(from, place);
+        self.rings.push_back(to, place);
+    }
+
+    /// The highest bag below this number that has an account, and the place of its head.
+    pub(crate) fn top_below(&self, number: usize) -> Option<(usize, usize)>
+        requires standing { IsStanding self.now }
+        requires within { number ≤ self.now.bags }
+        ensures some { IfSome result (λ top. IsTop self.now number top.0 top.1) }
+        ensures none { IfNone result (falling (take number (bags_in self.now)) ≡ []) }
+    {
+        let mut lower = number;
+        while lower > 0 {
+            lower -= 1;
+            if let Some(place) = self.rings.front(lower) {
+                return Some((lower, place));
+            }
+        }
+        None
+    }
+
+    /// The place at which a walk goes on, and its bag.
+    pub(crate) fn next_place(&self, here: Option<usize>, number: usize) -> Option<(usize, usize)>
+        requires { IsWalk self.now number here }
+        ensures some { IfSome result (λ at. (ahead self.now number here ≡ ahead self.now at.0 (Some at.1)) × (list_of self.now.rings at.1 ≡ Some at.0) × (at.0 < self.now.bags)) }
+        ensures none { IfNone result (ahead self.now number here ≡ []) }
+    {
+        match here {
+            Some(place) => Some((number, place)),
+            None => self.top_below(number),
+        }
+    }
+
+    /// The first account of the bags below this number, from the highest down.
+    pub(crate) fn first_below(&self, number: usize) -> Option<AccountId>
+        requires standing { IsStanding self.now }
+        requires within { number ≤ self.now.bags }
+        ensures { result ≡ slice_get (falling (take number (bags_in self.now))) 0 }
+    {
+        match self.top_below(number) {
+            Some((number, place)) => Some(self.account(place, number)),
+            None => None,
+        }
+    }
+
+    /// How many bags there are.
+    pub(crate) fn count(&self) -> usize
+        ensures { result ≡ self.now.bags }
+    {
+        self.bags
+    }
+
+    /// The account at a place in a bag.
+    pub(crate) fn account(&self, place: usize, number: usize) -> AccountId
+        requires standing { IsStanding self.now }
+        requires listed { list_of self.now.rings place ≡ Some number }
+        ensures { result ≡ account_at self.now.accounts.items place }
+    {
+        self.accounts[place]
+    }
+
+    /// The place after this one in its bag.
+    pub(crate) fn next_in(&self, place: usize, number: usize) -> Option<usize>
+        requires { list_of self.now.rings place ≡ Some number }
+        ensures value { result ≡ after place (items self.now.rings number) }
+        ensures member { IfSome result (λ other. list_of self.now.rings other ≡ Some number) }
+    {
+        self.rings.next(number, place)
+    }
+}
