@@ -1,7 +1,7 @@
 -- Entries without a fault make feasible weights.
-use Rattle.std.proofs.Common.{◌≡◌, ℕ, ◌+◌, ◌-◌, ◌*◌, ◌/◌, ◌<◌, ◌≤◌, Bool, true, false, cond, not, ◌||◌, ◌&&◌, nat_eq, nat_le, List, [], ◌∷◌, ◌++◌, length, map, filter, get_or, Option, Some, None, option_map, find, All, inl, inr, refl, sym, ap, ap₂, ◌∙◌, subst, arith}
-use Rattle.std.specs.Prelude.{sum, sum_by, IsTrue, if◌then◌else◌}
-use Rattle.std.specs.List.{IsDistinct, AllByRecursion, list_any, flat_map, range_with_len}
+use Rattle.std.proofs.Common.{◌≡◌, ℕ, ◌+◌, ◌*◌, ◌<◌, ◌≤◌, Bool, true, false, cond, not, nat_eq, nat_le, List, [], ◌∷◌, ◌++◌, length, map, get_or, Some, None, find, All, inl, inr, refl, sym, ap, ap₂, ◌∙◌, subst, arith}
+use Rattle.std.specs.Prelude.{sum, sum_by}
+use Rattle.std.specs.List.{IsDistinct, AllByRecursion, list_any, range_with_len}
 use Rattle.std.proofs.lemmas.Bool.{cases_Bool, true≢false, or_parts, or_from, eqb-true, eq-eqb, ne_eqb, and_left, and_right, leb-false, not-false, cond_both}
 use Rattle.std.proofs.lemmas.List.{map-append, length-map}
 use Rattle.std.proofs.lemmas.List.Elements.{All-head, All-tail, All-cons, All-nil, All-from_recursion, All-append, All-map, filter-append}
@@ -12,14 +12,13 @@ use Rattle.std.proofs.lemmas.List.FromFn.{fill_by_all}
 use Rattle.std.proofs.Math.Nat.{div-mul-le_self, mul-le-mul_left}
 use Rattle.npos_base.specs.declared.figures.Edge.{Edge}
 use Rattle.election_snapshot.specs.Snapshot.{Snapshot, Voter, nobody, has, nominates, stake_of, voter_at, votes_of}
-use Rattle.weight_book.specs.Weights.{Weights, Follows, IsFeasible, same_pair, spent, amount_sum, edges_from}
+use Rattle.weight_book.specs.Weights.{Follows, IsFeasible, same_pair, spent, amount_sum, edges_from}
 use Rattle.weight_book.specs.Room.{vote_count}
 use Rattle.weight_book.proofs.SumLemmas.{sum_covered, sum_filter-cons, sum_of_ones, sum_le}
 use Rattle.compact_solution.specs.declared.entry.Share.{Share}
-use Rattle.compact_solution.specs.Solution.{Entry, targets_of, parts_of, entries_of}
-use Rattle.election_check.specs.declared.verdict.Verdict.{Verdict}
+use Rattle.compact_solution.specs.Solution.{Entry, targets_of, parts_of}
 use Rattle.election_check.specs.declared.verdict.Verdict.TheVariants.{NoVoter, NoTarget, VoterTwice, TargetTwice, NotNominated, BadShare, WrongSize}
-use Rattle.election_check.specs.First.{when, first_of}
+use Rattle.election_check.specs.First.{when}
 use Rattle.election_check.specs.Steps.{size_fault}
 use Rattle.election_check.specs.Packed.{amount_of, edge_of, rest_of, edges_of, whole_stake, listed_in, weights_of, first_repeat, unknown_target, repeated_target, unnominated_target, has_bad_share, entry_fault, voters_in, entries_fault}
 use Rattle.election_check.proofs.FirstLemmas.{when_none, first_none, all_good}

@@ -1,7 +1,7 @@
 -- A packed solution while its entries are taken.
-use Rattle.std.proofs.Common.{◌≡◌, ◌≢◌, ℕ, zero, suc, ◌+◌, ◌-◌, ◌*◌, ◌/◌, ◌%◌, ◌<◌, ◌≤◌, Bool, true, false, cond, not, ◌||◌, nat_eq, nat_lt, nat_le, List, [], ◌∷◌, ◌++◌, length, map, take, drop, filter, get_or, set, Option, Some, None, option_map, find, All, inl, inr, refl, sym, ap, ap₂, ◌∙◌, subst, lit<, append-nil, append_assoc, length-append, slice_set, arith}
-use Rattle.std.specs.Prelude.{sum, sum_by, if◌then◌else◌, Result, Ok, Err}
-use Rattle.std.specs.List.{list_any, flat_map, range_with_len}
+use Rattle.std.proofs.Common.{◌≡◌, ℕ, zero, suc, ◌+◌, ◌-◌, ◌*◌, ◌/◌, ◌%◌, ◌<◌, ◌≤◌, Bool, true, false, cond, ◌||◌, nat_eq, nat_lt, nat_le, List, [], ◌∷◌, ◌++◌, length, take, drop, filter, get_or, Option, Some, None, find, All, inl, inr, refl, sym, ap, ◌∙◌, subst, lit<, append-nil, append_assoc, length-append, slice_set, arith}
+use Rattle.std.specs.Prelude.{if◌then◌else◌, Ok, Err}
+use Rattle.std.specs.List.{range_with_len}
 use Rattle.std.proofs.Math.Nat.{mul-add-div_right}
 use Rattle.std.proofs.lemmas.Bool.{cases_Bool, true≢false, or_left, or_right, eqb-true, eq-eqb, lt-ltb, leb-false}
 use Rattle.std.proofs.Math.Bool.{or-false}
@@ -12,11 +12,10 @@ use Rattle.std.proofs.lemmas.List.Elements.{filter_agree}
 use Rattle.std.proofs.lemmas.List.Sums.{length-filter, count_by-le-length}
 use Rattle.std.proofs.lemmas.List.FromFn.{length-range_with_len}
 use Rattle.std.proofs.lemmas.Grind.{flat_map-append, get_or-set_at}
-use Rattle.election_snapshot.specs.Snapshot.{Snapshot, has, nominates, stake_of}
+use Rattle.election_snapshot.specs.Snapshot.{Snapshot, has, stake_of}
 use Rattle.npos_base.specs.declared.figures.Edge.{Edge}
 use Rattle.weight_book.specs.Weights.{Weights}
 use Rattle.weight_book.specs.Room.{WeightBook, HasRoom, KeepsRoom, vote_count}
-use Rattle.compact_solution.specs.declared.entry.Share.{Share}
 use Rattle.compact_solution.specs.Solution.{Entry, targets_of, entries_of}
 use Rattle.election_check.specs.declared.verdict.Verdict.{Verdict}
 use Rattle.election_check.specs.declared.verdict.Verdict.TheVariants.{NoTarget}

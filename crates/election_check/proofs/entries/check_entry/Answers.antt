@@ -1,4 +1,4 @@
-use Rattle.std.proofs.Common.{◌≡◌, ◌∙◌, ◌<◌, ℕ, sym, subst}
+use Rattle.std.proofs.Common.{◌∙◌, ◌<◌, ℕ, sym, subst}
 use Rattle.std.proofs.Common.{All}
 use Rattle.compact_solution.specs.Solution.{targets_of}
 use Rattle.election_check.proofs.TakingLemmas.{targets_known}

@@ -1,4 +1,4 @@
-use Rattle.std.proofs.Common.{◌≡◌, length, drop}
+use Rattle.std.proofs.Common.{◌≡◌, drop}
 use Rattle.std.specs.Prelude.{find, not}
 use Rattle.election_snapshot.specs.Snapshot.{nominates}
 use Rattle.compact_solution.specs.Solution.{targets_of}

@@ -1,11 +1,11 @@
-use Rattle.std.proofs.Common.{◌≡◌, ◌≤◌, ◌∙◌, [], ◌∷◌, Option, Some, None, ap, sym, length, rules, arith}
+use Rattle.std.proofs.Common.{◌≡◌, ◌∙◌, [], ◌∷◌, Option, None, ap, sym, length, rules, arith}
 use Rattle.weight_book.specs.Weights.{Weights}
 use Rattle.compact_solution.specs.Solution.{entries_of}
 use Rattle.election_check.specs.declared.verdict.Verdict.{Verdict}
 use Rattle.election_check.specs.First.{answer_of, first_of}
 use Rattle.election_check.specs.Packed.{expanded, entries_fault}
 use Rattle.election_check.specs.Steps.{size_fault}
-use Rattle.election_check.proofs.TakingLemmas.{alone, no_error, weights_are, members_few}
+use Rattle.election_check.proofs.TakingLemmas.{alone, weights_are, members_few}
 use Rattle.election_check.proofs.entries.fill_weights.Goals as goal
 
 pub check_size-requires : goal.check_size-requires

@@ -1,4 +1,4 @@
-use Rattle.std.proofs.Common.{◌≡◌, ◌≤◌, ◌<◌, ℕ, ◌+◌, ◌++◌, [], ◌∷◌, List, sym, ◌∙◌, ap, subst, map, take, get_or, append_assoc, arith}
+use Rattle.std.proofs.Common.{◌≤◌, ℕ, ◌++◌, [], ◌∷◌, List, sym, ◌∙◌, ap, subst, map, take, get_or, append_assoc, arith}
 use Rattle.std.specs.Prelude.{sum_by}
 use Rattle.std.proofs.lemmas.List.{map_more}
 use Rattle.std.proofs.lemmas.List.Sums.{sum_by_more, sum_by_more_le}

@@ -1,9 +1,7 @@
-use Rattle.std.proofs.Common.{◌≡◌, ◌≤◌, ◌<◌, ◌+◌, ◌++◌, length, take, map}
+use Rattle.std.proofs.Common.{◌≡◌, ◌≤◌, ◌+◌, ◌++◌, length, take, map}
 use Rattle.std.specs.Prelude.{sum_by}
-use Rattle.npos_base.specs.declared.figures.Edge.{Edge}
 use Rattle.weight_book.specs.Room.{KeepsRoom}
 use Rattle.compact_solution.specs.Solution.{targets_of}
-use Rattle.compact_solution.specs.declared.entry.Share.{Share}
 use Rattle.election_check.specs.Packed.{amount_of, edge_of}
 use Rattle.election_check.proofs.entries.push_edges.Given as goal
 

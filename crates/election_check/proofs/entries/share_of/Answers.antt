@@ -1,4 +1,3 @@
-use Rattle.std.proofs.Common.{◌≡◌, ◌*◌, rules}
 use Rattle.election_check.proofs.TakingLemmas.{parts_of_whole}
 use Rattle.election_check.proofs.entries.share_of.Goals as goal
 

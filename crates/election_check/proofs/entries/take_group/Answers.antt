@@ -1,11 +1,10 @@
-use Rattle.std.proofs.Common.{◌≡◌, ◌<◌, ◌+◌, ◌-◌, ◌++◌, ◌∷◌, [], None, ℕ, ◌∙◌, ap, sym, subst, take, get_or, false, List, append_assoc, arith}
+use Rattle.std.proofs.Common.{◌≡◌, ◌+◌, ◌++◌, ◌∷◌, [], None, ℕ, ◌∙◌, ap, sym, subst, take, get_or, false, List, arith}
 use Rattle.std.proofs.lemmas.Result.{err_from_is_err_and}
 use Rattle.std.proofs.lemmas.List.{take_all}
-use Rattle.npos_base.specs.declared.figures.Edge.{Edge}
-use Rattle.election_snapshot.specs.Snapshot.{stake_of, has}
+use Rattle.election_snapshot.specs.Snapshot.{stake_of}
 use Rattle.compact_solution.specs.Solution.{Entry, entries_of}
 use Rattle.election_check.specs.First.{answer_of}
-use Rattle.election_check.specs.Packed.{voters_in, edges_of, entry_fault, entries_fault}
+use Rattle.election_check.specs.Packed.{edges_of, entry_fault, entries_fault}
 use Rattle.election_check.specs.Taking.{AreTaken}
 use Rattle.election_check.proofs.TakingLemmas.{no_error, an_error, stops_in, behind_sound, room_for, taken_more, group_more, this_group, groups_more, keeps_then}
 use Rattle.election_check.proofs.entries.take_group.Goals as goal
