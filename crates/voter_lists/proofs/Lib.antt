@@ -11,3 +11,4 @@ pub mod LinkedLemmas
 pub mod ScoreLemmas
 pub mod DistinctLemmas
 pub mod OneWalkLemmas
+pub mod RepeatLemmas
