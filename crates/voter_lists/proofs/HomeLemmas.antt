@@ -29,7 +29,7 @@ by_same {P} q who one other = at (same_account q who) refl where
   at true e = one (same_exact q who e)
   at false e = other e
 
-same_back : (q who : AccountId) → same_account q who ≡ false → same_account who q ≡ false
+pub same_back : (q who : AccountId) → same_account q who ≡ false → same_account who q ≡ false
 same_back q who e = at (same_account who q) refl where
   at : (b : Bool) → same_account who q ≡ b → b ≡ false
   at true f = sym (same_itself q) ∙ ap (λ z. same_account q z) (sym (same_exact who q f)) ∙ e

@@ -12,3 +12,4 @@ pub mod ScoreLemmas
 pub mod DistinctLemmas
 pub mod PlaceLemmas
 pub mod OneWalkLemmas
+pub mod RepeatLemmas

@@ -96,7 +96,8 @@ impl Bags {
 
     /// Moves the account to the tail of the bag of this score. It takes no memory.
     pub fn rebag(&mut self, who: AccountId, score: u64) -> Result<(), ListRefusal>
-        ensures meets { Meets refusals.NoMemory (rebag_refusal self.old who score) (moved self.old who score) self.old self.new result }
+        ensures meets { Meets refusals.NoMemory (rebag_refusal self.old who score)
+            (moved self.old who score) self.old self.new result }
         ensures never { IfErr result (λ refusal. refusal ≢ refusals.NoMemory) }
     {
         if !self.contains(who) {
@@ -117,7 +118,9 @@ impl Bags {
         lighter: AccountId,
         lighter_score: u64,
     ) -> Result<(), ListRefusal>
-        ensures meets { Meets refusals.NoMemory (put_in_front_refusal self.old who score lighter lighter_score) (put_in_front self.old who lighter) self.old self.new result }
+        ensures meets { Meets refusals.NoMemory
+            (put_in_front_refusal self.old who score lighter lighter_score)
+            (put_in_front self.old who lighter) self.old self.new result }
         ensures never { IfErr result (λ refusal. refusal ≢ refusals.NoMemory) }
     {
         let Some((place, home)) = self.nodes.find(who) else {

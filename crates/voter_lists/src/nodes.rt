@@ -50,7 +50,8 @@ impl Nodes {
     /// The place of a listed account, and its bag.
     pub(crate) fn find(&self, who: AccountId) -> Option<(usize, usize)>
         requires { IsStanding self.now }
-        ensures found { IfSome result (λ at. (place_in self.now.places.entries who ≡ Some at.0) × (home_of self.now who ≡ Some at.1) × (at.1 < self.now.bags)) }
+        ensures found { IfSome result (λ at. (place_in self.now.places.entries who ≡ Some at.0)
+            × (home_of self.now who ≡ Some at.1) × (at.1 < self.now.bags)) }
         ensures absent { IfNone result (home_of self.now who ≡ None) }
     {
         let place = self.place_of(who)?;
@@ -82,7 +83,9 @@ impl Nodes {
         requires standing { IsStanding self.old }
         requires within { number < self.old.bags }
         requires absent { place_in self.old.places.entries who ≡ None }
-        ensures ok { OnOk result (Becomes self.old self.new (slice_set (bags_in self.old) number (slice_index_or (bags_in self.old) number [] ++ who ∷ [])) who (Some number)) }
+        ensures ok { OnOk result (Becomes self.old self.new
+            (slice_set (bags_in self.old) number (slice_index_or (bags_in self.old) number [] ++ who ∷ []))
+            who (Some number)) }
         ensures err { OnErr result (Stays self.old self.new) }
     {
         let place = self.free_place(who)?;
@@ -98,7 +101,9 @@ impl Nodes {
         requires placed { place_in self.old.places.entries who ≡ Some place }
         requires listed { list_of self.old.rings place ≡ Some number }
         requires within { number < self.old.bags }
-        ensures { Becomes self.old self.new (slice_set (bags_in self.old) number (without (slice_index_or (bags_in self.old) number []) who)) who None }
+        ensures { Becomes self.old self.new
+            (slice_set (bags_in self.old) number (without (slice_index_or (bags_in self.old) number []) who))
+            who None }
     {
         let _ = self.places.remove(&who);
         self.relink(place, number, self.bags);
@@ -111,7 +116,8 @@ impl Nodes {
         requires within { home < self.old.bags }
         requires number { number < self.old.bags }
         requires apart { home ≢ number }
-        ensures { (who : AccountId) → place_in self.old.places.entries who ≡ Some place → Becomes self.old self.new (moved_bags (bags_in self.old) who home number) who (Some number) }
+        ensures { (who : AccountId) → place_in self.old.places.entries who ≡ Some place
+            → Becomes self.old self.new (moved_bags (bags_in self.old) who home number) who (Some number) }
     {
         self.relink(place, home, number);
     }
@@ -123,7 +129,12 @@ impl Nodes {
         requires beside { list_of self.old.rings other ≡ Some number }
         requires within { number < self.old.bags }
         requires apart { other ≢ place }
-        ensures { (who lighter : AccountId) → place_in self.old.places.entries who ≡ Some place → place_in self.old.places.entries lighter ≡ Some other → Becomes self.old self.new (slice_set (bags_in self.old) number (with_before (without (slice_index_or (bags_in self.old) number []) who) who lighter)) who (Some number) }
+        ensures { (who lighter : AccountId) → place_in self.old.places.entries who ≡ Some place
+            → place_in self.old.places.entries lighter ≡ Some other
+            → Becomes self.old self.new
+            (slice_set (bags_in self.old) number
+            (with_before (without (slice_index_or (bags_in self.old) number []) who) who lighter))
+            who (Some number) }
     {
         self.rings.unlink(number, place);
         self.rings.put_before(number, place, other);
@@ -161,7 +172,8 @@ impl Nodes {
     /// The place at which a walk goes on, and its bag.
     pub(crate) fn next_place(&self, here: Option<usize>, number: usize) -> Option<(usize, usize)>
         requires { IsWalk self.now number here }
-        ensures some { IfSome result (λ at. (ahead self.now number here ≡ ahead self.now at.0 (Some at.1)) × (list_of self.now.rings at.1 ≡ Some at.0) × (at.0 < self.now.bags)) }
+        ensures some { IfSome result (λ at. (ahead self.now number here ≡ ahead self.now at.0 (Some at.1))
+            × (list_of self.now.rings at.1 ≡ Some at.0) × (at.0 < self.now.bags)) }
         ensures none { IfNone result (ahead self.now number here ≡ []) }
     {
         match here {

@@ -48,7 +48,8 @@ impl Roles {
 
     /// The account becomes a nominator of these targets, in place of any role that it had.
     pub fn nominate(&mut self, who: AccountId, targets: List<AccountId>) -> Result<(), ListRefusal>
-        ensures meets { Meets refusals.NoMemory (nominate_refusal self.old who targets) (nominated self.old who targets) self.old self.new result }
+        ensures meets { Meets refusals.NoMemory (nominate_refusal self.old who targets)
+            (nominated self.old who targets) self.old self.new result }
         ensures others { KeepsOthers self.old self.new who }
     {
         self.check_targets(who, targets.as_slice())?;
@@ -59,7 +60,8 @@ impl Roles {
 
     /// The account becomes a validator with this commission in billionths, in place of any role that it had.
     pub fn validate(&mut self, who: AccountId, commission: u32) -> Result<(), ListRefusal>
-        ensures meets { Meets refusals.NoMemory (validate_refusal self.old who commission) (validating self.old who commission) self.old self.new result }
+        ensures meets { Meets refusals.NoMemory (validate_refusal self.old who commission)
+            (validating self.old who commission) self.old self.new result }
         ensures others { KeepsOthers self.old self.new who }
     {
         if commission > WHOLE_FRACTION {
@@ -77,7 +79,8 @@ impl Roles {
 
     /// The account has no role any more. It takes no memory.
     pub fn chill(&mut self, who: AccountId) -> Result<(), ListRefusal>
-        ensures meets { Meets refusals.NoMemory (chill_refusal self.old who) (without_role self.old who) self.old self.new result }
+        ensures meets { Meets refusals.NoMemory (chill_refusal self.old who)
+            (without_role self.old who) self.old self.new result }
         ensures answer { result ≡ answer_of (chill_refusal self.old who) }
         ensures others { KeepsOthers self.old self.new who }
     {

@@ -1,7 +1,7 @@
 //! The walk of five accounts over three bags, each refusal of the lists, and bags of many accounts.
 ghost use Rattle.std.specs.Prelude.{◌≡◌, IfOk};
 
-use crate::{Bags, ListRefusal, Role, Roles};
+use crate::{Bags, ListRefusal, Role, Roles, laws};
 use npos_base::{AccountId, List, NoMemory};
 use std::alloc::Global;
 use std::test::Fail;
@@ -152,16 +152,18 @@ fn nth(n: u32) -> AccountId {
 fn crowd(alloc: Global, count: u32) -> Result<Bags, NoMemory> {
     let mut bags = Bags::new(alloc, List::new(alloc))?;
     for n in 0..count {
-        if !bags.contains(nth(n)) {
-            bags.insert(nth(n), 1)?;
+        let who = nth(n);
+        if !bags.contains(who) {
+            bags.insert(who, 1)?;
         }
     }
     Ok(bags)
 }
 
 fn leave(bags: &mut Bags, n: u32) {
-    if bags.contains(nth(n)) {
-        bags.remove(nth(n));
+    let who = nth(n);
+    if bags.contains(who) {
+        bags.remove(who);
     }
 }
 
@@ -184,14 +186,19 @@ fn every_second_of_five_thousand_leaves_one_bag(rt: HostRuntime) -> Result<(), F
         leave(&mut bags, 2 * n + 1);
         plain.push(2 * n)?;
     }
+    let mut moved = Vec::new(rt.alloc());
+    for n in 1..2499 {
+        moved.push(2 * n)?;
+    }
+    moved.push(0)?;
+    moved.push(4998)?;
     assert_eq!(rt;
         bags.put_in_front(nth(0), 7, nth(4998), 7),
         Err(ListRefusal::NotHeavier)
     );
     assert!(rt; finds(&bags, plain.as_slice()));
     assert_eq!(rt; bags.put_in_front(nth(0), 8, nth(4998), 7), Ok(()));
-    plain.as_mut_slice()[..2499].rotate_left(1);
-    assert!(rt; finds(&bags, plain.as_slice()));
+    assert!(rt; finds(&bags, moved.as_slice()));
     Ok(())
 }
 
@@ -210,4 +217,10 @@ fn the_middle_of_four_hundred_thousand_leaves_one_bag(rt: HostRuntime) -> Result
     }
     assert!(rt; finds(&bags, plain.as_slice()));
     Ok(())
+}
+
+#[test]
+fn each_law_is_called(_rt: HostRuntime) {
+    laws::calls_end_with_one_walk();
+    laws::accounts_repeat_or_are_distinct();
 }
