@@ -97,7 +97,14 @@ impl SnapshotBuilder {
     {
         let stands = self.voters.contains_key(&who);
         let total = self.parts.total();
-        match fault_by(self.parts.target_count(), self.parts.voter_count(), stands, total, stake, votes) {
+        match fault_by(
+            self.parts.target_count(),
+            self.parts.voter_count(),
+            stands,
+            total,
+            stake,
+            votes,
+        ) {
             Some(fault) => Err(fault),
             None => Ok(()),
         }
