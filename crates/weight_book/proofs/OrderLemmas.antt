@@ -1,5 +1,5 @@
 -- The order of the members does not matter.
-use Rattle.std.proofs.Common.{◌≡◌, ℕ, zero, suc, ◌+◌, ◌<◌, ◌≤◌, Bool, true, false, nat_eq, List, [], ◌∷◌, length, get_or, sum_by, Contains, IsPermutation, inl, inr, refl, sym, ap, subst, ◌∙◌, arith}
+use Rattle.std.proofs.Common.{◌≡◌, ℕ, zero, suc, ◌+◌, ◌<◌, ◌≤◌, true, nat_eq, List, [], ◌∷◌, length, get_or, Contains, IsPermutation, inl, inr, sym, ◌∙◌, arith}
 use Rattle.std.specs.List.{IsDistinct, range_with_len}
 use Rattle.std.specs.List.Sorted.{IsNonDecreasing, IsStrictlyIncreasing}
 use Rattle.std.proofs.lemmas.List.Sorted.{All-permutation, Contains-permutation, IsPermutation-sym, length_permutation}
@@ -9,8 +9,8 @@ use Rattle.std.proofs.lemmas.Map.Keys.{IsDistinct-IsPermutation}
 use Rattle.std.proofs.lemmas.Map.Made.{AllPairs-from_IsDistinct}
 use Rattle.std.proofs.lemmas.Bool.{or_cases, eqb-true, eq-eqb, true≢false, cases_Bool, both_ways}
 use Rattle.std.proofs.lemmas.Bool.Decides.{Decides-eqb}
-use Rattle.election_snapshot.specs.Snapshot.{Snapshot, has, nominates}
-use Rattle.weight_book.specs.Weights.{Weights, Follows, IsFeasible}
+use Rattle.election_snapshot.specs.Snapshot.{Snapshot, has}
+use Rattle.weight_book.specs.Weights.{Weights, Follows}
 use Rattle.weight_book.specs.Passing.{Passes}
 use Rattle.weight_book.proofs.SumLemmas.{sum_covered, sum_of_ones, has_range, eqb_turned}
 

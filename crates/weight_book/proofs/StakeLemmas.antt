@@ -1,12 +1,12 @@
 -- Sums over the voters by their positions, and what feasible weights give in all.
-use Rattle.std.proofs.Common.{◌≡◌, ℕ, zero, suc, ◌+◌, ◌-◌, ◌<◌, ◌≤◌, Bool, true, cond, nat_eq, List, [], ◌∷◌, ◌++◌, length, get_or, map, filter, sum_by, All, refl, sym, ap, ◌∙◌, arith}
+use Rattle.std.proofs.Common.{◌≡◌, ℕ, zero, suc, ◌+◌, ◌-◌, ◌<◌, ◌≤◌, true, cond, List, [], ◌∷◌, ◌++◌, length, get_or, map, sum_by, refl, sym, ap, ◌∙◌, arith}
 use Rattle.std.specs.List.{range_with_len}
-use Rattle.std.proofs.lemmas.List.Sums.{sum_by-append, sum_by-cons, sum-map}
+use Rattle.std.proofs.lemmas.List.Sums.{sum_by-append, sum_by-cons}
 use Rattle.std.proofs.lemmas.List.FromFn.{fill_by_all, get_or-range_with_len, length-range_with_len}
 use Rattle.npos_base.specs.declared.figures.Edge.{Edge}
 use Rattle.election_snapshot.specs.Snapshot.{Snapshot, Voter, nobody, has, stake_of, total_stake}
 use Rattle.weight_book.specs.Weights.{Weights, IsFeasible, amount_sum, spent}
-use Rattle.weight_book.proofs.SumLemmas.{sum_le, sum_among, at_least, has_range, sum_filter-le}
+use Rattle.weight_book.proofs.SumLemmas.{sum_le, at_least, has_range}
 
 pub range_append : (low a b : ℕ) → range_with_len low (a + b) ≡ range_with_len low a ++ range_with_len (low + a) b
 range_append low zero b = rw (zero_more low, zero_less b) refl where
