@@ -65,8 +65,8 @@ impl Shares {
     }
 }
 
-/// What one voter gives: some targets with their shares, and a last target that gets the rest of its stake. Contracts
-/// see the voter, the list of shares and the last target.
+/// What one voter gives: some targets with their shares, and a last target that gets the rest of
+/// its stake. Contracts see the voter, the list of shares and the last target.
 #[derive(Drop)]
 pub struct Entry {
     voter: u32,

@@ -1,4 +1,5 @@
-//! The compact form in which solvers hand in a solution of an election: bytes in, groups of entries out, and back.
+//! The compact form in which solvers hand in a solution of an election: bytes in, groups of entries
+//! out, and back.
 #![tactic(auto)]
 
 mod entry;

@@ -28,7 +28,8 @@ pub(crate) fn read_group(
     Ok(entries)
 }
 
-// This many entries. Room is made at once for those that the bytes left can hold, at two bytes for each target.
+// This many entries. Room is made at once for those that the bytes left can hold, at two bytes for
+// each target.
 fn read_entries(
     alloc: Global,
     cursor: &mut Cursor<'_>,

@@ -14,8 +14,8 @@ use scale_wire::{Cursor, Pen, Wire, read_whole};
 use std::alloc::Global;
 use std::marker::Model;
 
-/// A solution, after Substrate's compact ones: groups of entries by the number of their targets. Contracts see the list
-/// of the groups, which has a spelling.
+/// A solution, after Substrate's compact ones: groups of entries by the number of their targets.
+/// Contracts see the list of the groups, which has a spelling.
 #[derive(Drop)]
 pub struct Solution {
     groups: Vec<List<Entry>>,
@@ -33,9 +33,10 @@ impl Model for Solution {
 }
 
 impl Solution {
-    /// The solution that the bytes spell. They must be the whole input: where they spell none, the fault names the place
-    /// of the first part that is refused and the first reason that applies to it, and the first byte behind a solution is
-    /// refused as `Trailing`. Memory is taken for entries whose bytes are there, whatever lengths are announced.
+    /// The solution that the bytes spell. They must be the whole input: where they spell none, the
+    /// fault names the place of the first part that is refused and the first reason that applies to
+    /// it, and the first byte behind a solution is refused as `Trailing`. Memory is taken for
+    /// entries whose bytes are there, whatever lengths are announced.
     pub fn decode(alloc: Global, bytes: &[u8]) -> Result<Solution, ReadFault>
         ensures grammar { ReadsWhole solution_form bytes.now result }
         ensures function { AnswersAs solution_form solution_laws bytes.now result }

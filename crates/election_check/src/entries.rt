@@ -19,8 +19,8 @@ use weight_book::Weights;
 /// The parts that a whole stake is shared in.
 const WHOLE_STAKE: u64 = 65_535;
 
-/// Fills empty weights with the members and edges of a solution, or tells the first fault of its entries or of the number
-/// of members.
+/// Fills empty weights with the members and edges of a solution, or tells the first fault of its
+/// entries or of the number of members.
 pub(crate) fn fill_weights(
     snapshot: &Snapshot,
     solution: &Solution,
@@ -41,7 +41,8 @@ pub(crate) fn fill_weights(
     check_size(snapshot, weights)
 }
 
-/// Takes all entries into empty weights, marks their voters and stamps their targets, or tells the first fault.
+/// Takes all entries into empty weights, marks their voters and stamps their targets, or tells the
+/// first fault.
 fn take_entries(
     snapshot: &Snapshot,
     solution: &Solution,
@@ -54,7 +55,8 @@ fn take_entries(
     requires voters { length has_entry.old ≡ length snapshot.now.voters }
     requires targets { length stamps.old ≡ length snapshot.now.targets }
     ensures fault { result ≡ answer_of (entries_fault snapshot.now [] (entries_of solution.now)) }
-    ensures taken { OnOk result (AreTaken snapshot.now (entries_of solution.now) has_entry.new stamps.new weights.new) }
+    ensures taken { OnOk result
+        (AreTaken snapshot.now (entries_of solution.now) has_entry.new stamps.new weights.new) }
     ensures room { KeepsRoom weights.old weights.new }
 {
     has_entry.fill(false);
@@ -76,11 +78,14 @@ fn take_group(
 ) -> Result<(), Verdict>
     requires place { place < length solution.now }
     requires few { place < GROUPS }
-    requires taken { AreTaken snapshot.now (entries_of (take place solution.now)) has_entry.old stamps.old weights.old }
+    requires taken { AreTaken snapshot.now (entries_of (take place solution.now))
+        has_entry.old stamps.old weights.old }
     requires voters { length has_entry.old ≡ length snapshot.now.voters }
     requires targets { length stamps.old ≡ length snapshot.now.targets }
-    ensures fault { result ≡ answer_of (entries_fault snapshot.now (entries_of (take place solution.now)) (slice_index_or solution.now place [])) }
-    ensures taken { OnOk result (AreTaken snapshot.now (entries_of (take (place + 1) solution.now)) has_entry.new stamps.new weights.new) }
+    ensures fault { result ≡ answer_of (entries_fault snapshot.now
+        (entries_of (take place solution.now)) (slice_index_or solution.now place [])) }
+    ensures taken { OnOk result (AreTaken snapshot.now (entries_of (take (place + 1) solution.now))
+        has_entry.new stamps.new weights.new) }
     ensures room { KeepsRoom weights.old weights.new }
 {
     for entry in solution.group(place + 1) {
@@ -90,8 +95,9 @@ fn take_group(
     Ok(())
 }
 
-/// Tells the first fault of an entry, or marks its voter and stamps its targets. The stamp of a target is one more than
-/// the voter whose entry named it last, so that this voter's own stamp tells a target that stands twice.
+/// Tells the first fault of an entry, or marks its voter and stamps its targets. The stamp of a
+/// target is one more than the voter whose entry named it last, so that this voter's own stamp
+/// tells a target that stands twice.
 fn check_entry(
     snapshot: &Snapshot,
     entry: &Entry,
@@ -102,10 +108,12 @@ fn check_entry(
     requires targets { length stamps.old ≡ length snapshot.now.targets }
     requires own { (target : ℕ) → slice_index_or stamps.old target 0 ≡ entry.now.voter + 1
         → slice_index_or has_entry.old entry.now.voter false ≡ true }
-    ensures fault { result ≡ answer_of (entry_fault snapshot.now (slice_index_or has_entry.old entry.now.voter false) entry.now) }
+    ensures fault { result ≡ answer_of (entry_fault snapshot.now
+        (slice_index_or has_entry.old entry.now.voter false) entry.now) }
     ensures marked { OnOk result (has_entry.new ≡ slice_set has_entry.old entry.now.voter true) }
     ensures stamped { OnOk result ((target : ℕ) → slice_index_or stamps.new target 0
-        ≡ (if has (targets_of entry.now) target then entry.now.voter + 1 else slice_index_or stamps.old target 0)) }
+        ≡ (if has (targets_of entry.now) target then entry.now.voter + 1
+        else slice_index_or stamps.old target 0)) }
 {
     let voter = entry.voter();
     if voter as usize >= snapshot.voter_count() {
@@ -141,7 +149,8 @@ fn stamp_targets(entry: &Entry, stamp: u32, stamps: &mut [u32]) -> Result<(), Ve
     requires unused { (target : ℕ) → slice_index_or stamps.old target 0 ≢ stamp }
     ensures fault { result ≡ answer_of (repeated_target entry.now) }
     ensures stamped { OnOk result ((target : ℕ) → slice_index_or stamps.new target 0
-        ≡ (if has (targets_of entry.now) target then stamp else slice_index_or stamps.old target 0)) }
+        ≡ (if has (targets_of entry.now) target then stamp
+        else slice_index_or stamps.old target 0)) }
 {
     for i in 0..entry.len() {
         let target = entry.target(i);
@@ -179,7 +188,8 @@ fn is_vote(votes: &[u16], target: u16) -> bool
 
 /// Tells whether a share is nothing, or the shares leave nothing for the last target.
 fn check_shares(entry: &Entry) -> Result<(), Verdict>
-    ensures { result ≡ answer_of (when (has_bad_share entry.now) (Verdict.BadShare entry.now.voter)) }
+    ensures { result
+        ≡ answer_of (when (has_bad_share entry.now) (Verdict.BadShare entry.now.voter)) }
 {
     let mut sum = 0;
     let mut is_bad = false;
@@ -220,8 +230,8 @@ fn push_edges(stake: u64, entry: &Entry, weights: &mut Weights)
     });
 }
 
-/// So many parts of the stake, rounded down. The product of the two may not fit, so the stake is split at a multiple of
-/// all parts.
+/// So many parts of the stake, rounded down. The product of the two may not fit, so the stake is
+/// split at a multiple of all parts.
 fn share_of(stake: u64, parts: u16) -> u64
     ensures { result ≡ stake * parts / whole_stake }
 {
@@ -235,7 +245,8 @@ fn push_members(snapshot: &Snapshot, stamps: &[u32], weights: &mut Weights)
     requires empty { weights.old.plain.committee ≡ [] }
     requires spare { length snapshot.now.targets ≤ weights.old.member_spare }
     ensures members { weights.new.plain.committee
-        ≡ filter (λ target. nat_lt 0 (slice_index_or stamps.now target 0)) (range_with_len 0 (length snapshot.now.targets)) }
+        ≡ filter (λ target. nat_lt 0 (slice_index_or stamps.now target 0))
+        (range_with_len 0 (length snapshot.now.targets)) }
     ensures edges { weights.new.plain.edges ≡ weights.old.plain.edges }
     ensures room { KeepsRoom weights.old weights.new }
 {

@@ -18,14 +18,15 @@ use std::alloc::Global;
 use weight_book::Weights;
 
 impl Checker {
-    /// Expands a solution into empty weights: the listed targets in rising order as the committee, and the edges in the
-    /// order of the entries. The verdict is Yes, or the first fault of the entries or of the number of members; the
-    /// weights are then empty. It takes no memory.
+    /// Expands a solution into empty weights: the listed targets in rising order as the committee,
+    /// and the edges in the order of the entries. The verdict is Yes, or the first fault of the
+    /// entries or of the number of members; the weights are then empty. It takes no memory.
     pub fn expand(&mut self, solution: &Solution, weights: &mut Weights) -> Verdict
         requires empty { weights.old.plain ≡ no_weights }
         requires room { HasRoom self.old weights.old }
         ensures verdict { result ≡ expand_verdict self.old solution.now }
-        ensures weights { weights.new.plain ≡ given (expand_fault self.old solution.now) (expanded self.old solution.now) }
+        ensures weights { weights.new.plain
+            ≡ given (expand_fault self.old solution.now) (expanded self.old solution.now) }
         ensures room { KeepsRoom weights.old weights.new }
         ensures snapshot { self.new ≡ self.old }
     {
@@ -38,13 +39,15 @@ impl Checker {
         }
     }
 
-    /// The verdict on a solution with a claimed score. Where it is Yes, or tells a wrong score or a target that outweighs,
-    /// the weights are then the expanded ones, and else they are empty. It takes no memory.
+    /// The verdict on a solution with a claimed score. Where it is Yes, or tells a wrong score or a
+    /// target that outweighs, the weights are then the expanded ones, and else they are empty. It
+    /// takes no memory.
     pub fn judge(&mut self, solution: &Solution, claim: &Score, weights: &mut Weights) -> Verdict
         requires empty { weights.old.plain ≡ no_weights }
         requires room { HasRoom self.old weights.old }
         ensures verdict { result ≡ verdict_solution self.old claim.now solution.now }
-        ensures weights { weights.new.plain ≡ given (expand_fault self.old solution.now) (expanded self.old solution.now) }
+        ensures weights { weights.new.plain
+            ≡ given (expand_fault self.old solution.now) (expanded self.old solution.now) }
         ensures room { KeepsRoom weights.old weights.new }
         ensures snapshot { self.new ≡ self.old }
     {
@@ -60,8 +63,8 @@ impl Checker {
         }
     }
 
-    /// The verdict on bytes with a claimed score: as `judge`, or that they are no solution, and then the weights are
-    /// empty. Memory is taken for the solution alone.
+    /// The verdict on bytes with a claimed score: as `judge`, or that they are no solution, and
+    /// then the weights are empty. Memory is taken for the solution alone.
     pub fn judge_bytes(
         &mut self,
         alloc: Global,
@@ -71,8 +74,10 @@ impl Checker {
     ) -> Result<Verdict, NoMemory>
         requires empty { weights.old.plain ≡ no_weights }
         requires room { HasRoom self.old weights.old }
-        ensures verdict { IfOk result (λ verdict. verdict ≡ verdict_packed self.old claim.now bytes.now) }
-        ensures weights { OnOk result (weights.new.plain ≡ weights_decoded self.old (decoded bytes.now)) }
+        ensures verdict { IfOk result
+            (λ verdict. verdict ≡ verdict_packed self.old claim.now bytes.now) }
+        ensures weights { OnOk result
+            (weights.new.plain ≡ weights_decoded self.old (decoded bytes.now)) }
         ensures refused { OnErr result (weights.new ≡ weights.old) }
         ensures room { KeepsRoom weights.old weights.new }
         ensures snapshot { self.new ≡ self.old }
@@ -105,10 +110,12 @@ impl Checker {
         fill_weights(snapshot, solution, has_entry, stamps, weights)
     }
 
-    /// Tells that the score is another one than the claim, or the lowest target outside that outweighs.
+    /// Tells that the score is another one than the claim, or the lowest target outside that
+    /// outweighs.
     fn check_claim(&mut self, claim: &Score, weights: &Weights) -> Result<(), Verdict>
         requires { IsFeasible self.old weights.now.plain }
-        ensures fault { result ≡ answer_of (first_of (score_fault claim.now weights.now.plain ∷ outweighed self.old weights.now.plain ∷ [])) }
+        ensures fault { result ≡ answer_of (first_of
+            (score_fault claim.now weights.now.plain ∷ outweighed self.old weights.now.plain ∷ [])) }
         ensures snapshot { self.new ≡ self.old }
     {
         let Checker { snapshot, tables } = self;
