@@ -205,30 +205,35 @@ fn check_work(alloc: Global, snapshot: Snapshot, work: &Work, size: u64) -> Resu
     }
 }
 
-/// The answer on a bundle that has so many bytes.
-fn check_bundle(alloc: Global, bundle: &Bundle, size: u64) -> Result<Answer, NoMemory>
+/// The answer on a bundle that has so many bytes. Targets and voters go once the election is built.
+fn check_bundle(alloc: Global, bundle: Bundle, size: u64) -> Result<Answer, NoMemory>
     requires { 1 ≤ size }
-    ensures report { IfOk result (λ answer. report_of answer ≡ read_report size (Ok bundle.now)) }
+    ensures report { IfOk result (λ answer. report_of answer ≡ read_report size (Ok bundle)) }
     ensures sound { IfOk result (λ answer. answer.status ≡ statuses.Done
-        → (snapshot : instance) × (snapshot_of bundle.now ≡ Ok snapshot) × IsSoundWork snapshot bundle.now.work) }
+        → (snapshot : instance) × (snapshot_of bundle ≡ Ok snapshot) × IsSoundWork snapshot bundle.work) }
 {
-    match snapshot_of(alloc, bundle) {
-        Ok(snapshot) => check_work(alloc, snapshot, &bundle.work, size),
+    let elected = snapshot_of(alloc, &bundle);
+    let Bundle { work, .. } = bundle;
+    match elected {
+        Ok(snapshot) => check_work(alloc, snapshot, &work, size),
         Err(SnapshotFault::NoMemory) => Err(NoMemory),
         Err(fault) => unelectable(alloc, fault),
     }
 }
 
-/// The answer on the bytes of a bundle.
-pub fn check_bytes(alloc: Global, bytes: &[u8]) -> Result<Answer, NoMemory>
-    ensures report { IfOk result (λ answer. report_of answer ≡ check_report bytes.now) }
-    ensures sound { IfOk result (λ answer. answer.status ≡ statuses.Done → IsSound bytes.now) }
+/// The answer on the bytes of a bundle, which go once they are read.
+pub fn check_bytes(alloc: Global, bytes: Vec<u8>) -> Result<Answer, NoMemory>
+    ensures report { IfOk result (λ answer. report_of answer ≡ check_report bytes.items) }
+    ensures sound { IfOk result (λ answer. answer.status ≡ statuses.Done → IsSound bytes.items) }
 {
-    if bytes.len() > MOST_BUNDLE {
+    let size = bytes.len();
+    if size > MOST_BUNDLE {
         return long(alloc);
     }
-    match read_whole::<Bundle>(alloc, bytes) {
-        Ok(bundle) => check_bundle(alloc, &bundle, bytes.len() as u64),
+    let read = read_whole::<Bundle>(alloc, bytes.as_slice());
+    drop(bytes);
+    match read {
+        Ok(bundle) => check_bundle(alloc, bundle, size as u64),
         Err(ReadFault::Wire(fault)) => refused(alloc, fault),
         Err(ReadFault::NoMemory) => Err(NoMemory),
     }

@@ -14,6 +14,8 @@ mod numbers;
 pub mod promises;
 mod replaying;
 mod status;
+#[cfg(test)]
+mod stream_tests;
 mod telling;
 #[cfg(test)]
 mod tests;

@@ -91,7 +91,7 @@ fn check_due<S: Source>(alloc: Global, source: &mut S) -> Result<Due, Status>
     ensures halts { HaltsWell (S.faults source.old) (S.faults source.new) result }
 {
     let bytes = read_up_to(alloc, source, MOST_BUNDLE)?;
-    let Answer { text, status } = check_bytes(alloc, bytes.as_slice())?;
+    let Answer { text, status } = check_bytes(alloc, bytes)?;
     Ok(Due::Answer { text, status })
 }
 
