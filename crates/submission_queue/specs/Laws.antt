@@ -14,8 +14,8 @@ abbrev pub BestOfBothLaw : Type 0
 BestOfBothLaw = (queue : Ranking) (offers : List Submission) → IsOrdered queue →
     (after_offers queue offers).items ≡ take queue.places (ranked (queue.items ++ offers))
 
--- A valid submission that was offered is no better than the first valid one by rank; where none of those that
--- wait is valid, they fill all places.
+-- A valid submission that was offered is no better than the first valid one by rank; where none of
+-- those that wait is valid, they fill all places.
 abbrev pub CrowdingLaw : Type 0
 CrowdingLaw = (valid : Submission → Bool) (places : ℕ) (offers : List Submission) (item : Submission) →
     Contains offers item → valid item ≡ true →

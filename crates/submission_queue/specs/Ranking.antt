@@ -19,9 +19,12 @@ abbrev pub offered : Ranking → Submission → Ranking
 offered queue item = record queue { items = take queue.places (ranked (queue.items ++ item ∷ [])) }
 
 -- against the last of a full queue: a better claim ejects it, any other is refused and handed back
-abbrev pub against : Option Submission → Submission → Result (Option Submission) (NotBetter × Submission)
+abbrev pub against : Option Submission → Submission
+    → Result (Option Submission) (NotBetter × Submission)
 against None item = Ok None
-against (Some last) item = if outranks item last then Ok (Some last) else Err (record { worst = last.score }, item)
+against (Some last) item =
+    if outranks item last then Ok (Some last)
+    else Err (record { worst = last.score }, item)
 
 -- while there is a free place nothing is ejected or refused
 abbrev pub offer_answer : Ranking → Submission → Result (Option Submission) (NotBetter × Submission)

@@ -11,8 +11,8 @@ use npos_base::{NoMemory, Score};
 use std::alloc::Global;
 use std::marker::Model;
 
-/// A queue of submissions by rank: the best claim first, and an earlier one before a later one that claims the same.
-/// Contracts see it as the submissions that wait and the number of places.
+/// A queue of submissions by rank: the best claim first, and an earlier one before a later one that
+/// claims the same. Contracts see it as the submissions that wait and the number of places.
 #[derive(Debug, Drop)]
 pub struct Queue {
     items: Vec<Submission>,
@@ -33,7 +33,8 @@ impl Model for Queue {
         × (q.places ≤ vec_capacity q.items) };
 }
 
-/// The place of a claim among submissions by rank: before the first that it is better than, or behind all of them.
+/// The place of a claim among submissions by rank: before the first that it is better than, or
+/// behind all of them.
 fn place_of(items: &[Submission], score: &Score) -> usize
     ensures { result ≡ position_or_len (λ queued. is_better score.now queued.score) items.now }
 {
@@ -57,7 +58,8 @@ fn put(items: &mut Vec<Submission>, item: Submission)
 }
 
 impl Queue {
-    /// A queue with places for `max` submissions, in which nothing waits. It takes all its memory here.
+    /// A queue with places for `max` submissions, in which nothing waits. It takes all its memory
+    /// here.
     pub fn new(alloc: Global, max: u32) -> Result<Queue, NoMemory>
         requires some { 1 ≤ max }
         requires most { max ≤ MOST_QUEUED }
@@ -67,9 +69,10 @@ impl Queue {
         Ok(Queue { items, places: max })
     }
 
-    /// Offers a submission. While there is a free place it is taken. A full queue takes it where its claim is better
-    /// than that of the last one by rank, which is handed out; otherwise the submission is handed back, and nothing
-    /// changes. It takes no memory, and at most as many steps as there are places.
+    /// Offers a submission. While there is a free place it is taken. A full queue takes it where
+    /// its claim is better than that of the last one by rank, which is handed out; otherwise the
+    /// submission is handed back, and nothing changes. It takes no memory, and at most as many
+    /// steps as there are places.
     pub fn offer(&mut self, item: Submission) -> Result<Option<Submission>, (NotBetter, Submission)>
         ensures answer { result ≡ offer_answer self.old item }
         ensures after { self.new ≡ offered self.old item }
@@ -91,7 +94,8 @@ impl Queue {
         Ok(ejected)
     }
 
-    /// Takes the best submission out, the earliest of the best claims. None where nothing waits. It takes no memory.
+    /// Takes the best submission out, the earliest of the best claims. None where nothing waits. It
+    /// takes no memory.
     pub fn take_best(&mut self) -> Option<Submission>
         ensures best { result ≡ slice_get self.old.items 0 }
         ensures rest { self.new ≡ record self.old { items = drop 1 self.old.items } }
