@@ -1,0 +1,3 @@
+pub mod Rank
+pub mod Ranking
+pub mod Laws
