@@ -40,7 +40,7 @@ fn add_voters(builder: &mut SnapshotBuilder, voters: &[BundleVoter]) -> Result<(
 
 /// The snapshot of a bundle's election, or its first fault, or `NoMemory`.
 pub fn snapshot_of(alloc: Global, bundle: &Bundle) -> Result<Snapshot, SnapshotFault>
-    ensures { IsElection NoMemory (snapshot_of bundle.now) result }
+    ensures { IsElection (snapshot_of bundle.now) result }
 {
     let mut builder = SnapshotBuilder::new(alloc);
     add_targets(&mut builder, bundle.targets.as_slice())?;
