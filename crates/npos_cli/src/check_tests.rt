@@ -16,7 +16,7 @@ const ONE: Voters = &[(10, &[0, 1])];
 
 /// Bundles with two seats: how many targets, the voters, the claimed score, the front of a solution and how many zeros
 /// follow it; and then the status and the line.
-const PACKED: [(u64, Voters, (u64, u64, u128), &[u8], u32, u8, &str); 14] = [
+const PACKED: [(u64, Voters, (u64, u64, u128), &[u8], u32, u8, &str); 16] = [
     (
         3,
         APART,
@@ -45,12 +45,21 @@ const PACKED: [(u64, Voters, (u64, u64, u128), &[u8], u32, u8, &str); 14] = [
         1,
         "verdict 1 20 6\n",
     ),
-    (3, APART, (40, 100, 5200), &[4, 8], 16, 1, "verdict 2 2\n"),
+    // a wrong entry behind a right one
     (
         3,
         APART,
         (40, 100, 5200),
-        &[4, 0, 12],
+        &[8, 0, 0, 8, 0],
+        15,
+        1,
+        "verdict 2 2\n",
+    ),
+    (
+        3,
+        APART,
+        (40, 100, 5200),
+        &[8, 0, 0, 4, 12],
         15,
         1,
         "verdict 3 3\n",
@@ -59,20 +68,39 @@ const PACKED: [(u64, Voters, (u64, u64, u128), &[u8], u32, u8, &str); 14] = [
         3,
         APART,
         (40, 100, 5200),
-        &[0, 4, 0, 0, 4],
+        &[8, 0, 0, 0, 0],
         15,
         1,
-        "verdict 5 0\n",
+        "verdict 4 0\n",
     ),
     (
         3,
         APART,
         (40, 100, 5200),
-        &[4, 0, 4],
+        &[4, 0, 0, 4, 4, 4, 4, 4],
+        14,
+        1,
+        "verdict 5 1\n",
+    ),
+    (
+        3,
+        APART,
+        (40, 100, 5200),
+        &[8, 0, 0, 4, 0],
         15,
         1,
-        "verdict 6 0 1\n",
+        "verdict 6 1 0\n",
     ),
+    (
+        3,
+        &[(60, &[0]), (40, &[0, 1])],
+        (40, 100, 5200),
+        &[4, 0, 0, 4, 4, 0, 254, 255, 3, 0, 4],
+        14,
+        1,
+        "verdict 7 1\n",
+    ),
+    // and one that is wrong alone
     (
         3,
         APART,

@@ -1,19 +1,21 @@
 //! What follows from the contract of `run`, said status by status.
-ghost use Rattle.std.specs.Prelude.{◌≡◌, ◌≢◌, ◌⊎◌, Some, [], map, true, false, IfSome, string_bytes};
+ghost use Rattle.std.specs.Prelude.{◌≡◌, ◌≢◌, ◌⊎◌, ℕ, List, Some, [], map, true, false, IfSome, string_bytes};
 ghost use Rattle.npos_base.specs.Outside.{Rose};
 ghost use Rattle.npos_cli.specs.declared.job.Job.TheVariants as jobs;
+ghost use Rattle.npos_cli.specs.declared.status.Status.{Status as status};
 ghost use Rattle.npos_cli.specs.Words.{HasForm, job_of, usage_line};
 ghost use Rattle.npos_cli.specs.Chain.{npos_machine};
-ghost use Rattle.npos_cli.specs.Owed.{Delivers, DeliversFront, DeliversReplay, DeliversReplayFront, Comes, ComesWith};
+ghost use Rattle.npos_cli.specs.Owed.{IsOwed, Delivers, DeliversFront, DeliversReplay, DeliversReplayFront, Comes, ComesWith};
 
 use crate::{Status, run};
 use npos_base::{Sink, Source};
 use std::alloc::Global;
 use std::string::String;
 
-/// Runs the program, and says of each status when it comes and what was then written and read: of
-/// Usage for all words, and of the others for a replay. The body calls `run` and nothing else, so each
-/// clause here is one of `run` too.
+/// Runs the program, and says of each status when it comes and what was then written and read. For all
+/// words, whatever is owed comes, unless a count of faults rose or memory was refused; then of Usage for
+/// all words, and of the others for a replay. The body calls `run` and nothing else, so each clause here
+/// is one of `run` too.
 #[tactic(auto, using(crate::proofs::PromiseLaws::usage_due, crate::proofs::PromiseLaws::unasked, crate::proofs::PromiseLaws::usage_comes))]
 pub fn run_by_status<S: Source, K: Sink>(
     alloc: Global,
@@ -21,6 +23,10 @@ pub fn run_by_status<S: Source, K: Sink>(
     source: &mut S,
     sink: &mut K,
 ) -> Status
+    ensures owed_comes { (text : List ℕ) (due : status) → IsOwed (map string_bytes words.now)
+        (S.left source.old) text due → Comes due result
+        (Rose (S.faults source.old) (S.faults source.new)
+        ⊎ Rose (K.faults sink.old) (K.faults sink.new)) }
     ensures usage { result ≡ Status.Usage → (HasForm (map string_bytes words.now) → ⊥)
         × Delivers (K.told sink.old) (K.told sink.new) usage_line }
     ensures usage_comes { (HasForm (map string_bytes words.now) → ⊥)

@@ -1,6 +1,6 @@
 use Rattle.std.proofs.Common.{map, string_bytes, true, false}
 use Rattle.npos_base.specs.Outside.{Rose}
-use Rattle.npos_cli.proofs.PromiseLaws.{usage_front_of, done_of, bad_of, comes_of, front_of}
+use Rattle.npos_cli.proofs.PromiseLaws.{comes_owed, usage_front_of, done_of, bad_of, comes_of, front_of}
 use Rattle.npos_cli.proofs.promises.run_by_status.Goals as goal
 
 pub returns-clause-usage_front : goal.returns-clause-usage_front
@@ -30,3 +30,9 @@ returns-clause-bad_comes g c = λ asked. comes_of (map string_bytes c.args.words
 pub returns-clause-replay_front : goal.returns-clause-replay_front
 returns-clause-replay_front g c = λ asked. front_of (map string_bytes c.args.words.now) asked (g.S.Source.left c.args.source.now) (g.K.Sink.told c.args.sink.now)
     (g.K.Sink.told c.run.new.sink) c.run.ensures.front
+
+pub returns-clause-owed_comes : goal.returns-clause-owed_comes
+returns-clause-owed_comes g c = λ text due owed. comes_owed (map string_bytes c.args.words.now) (g.S.Source.left c.args.source.now) (g.K.Sink.told c.args.sink.now)
+    (g.K.Sink.told c.run.new.sink) text due owed (Rose (g.S.Source.faults c.args.source.now) (g.S.Source.faults c.run.new.source))
+    (Rose (g.K.Sink.faults c.args.sink.now) (g.K.Sink.faults c.run.new.sink)) c.run.result c.run.ensures.answers (λ is. (c.run.ensures.read_fault is).1)
+    c.run.ensures.write_fault
