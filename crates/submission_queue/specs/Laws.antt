@@ -17,7 +17,8 @@ BestOfBothLaw = (queue : Ranking) (offers : List Submission) → IsOrdered queue
 -- A valid submission that was offered is no better than the first valid one by rank; where none of
 -- those that wait is valid, they fill all places.
 abbrev pub CrowdingLaw : Type 0
-CrowdingLaw = (valid : Submission → Bool) (places : ℕ) (offers : List Submission) (item : Submission) →
+CrowdingLaw =
+    (valid : Submission → Bool) (places : ℕ) (offers : List Submission) (item : Submission) →
     Contains offers item → valid item ≡ true →
     let kept : List Submission = (after_offers (empty_queue places) offers).items in
     MatchOption (find valid kept)

@@ -16,9 +16,11 @@ empty_queue places = record { items = []; places = places }
 
 -- an offer ranks the item among those that wait, and cuts the list at the places
 abbrev pub offered : Ranking → Submission → Ranking
-offered queue item = record queue { items = take queue.places (ranked (queue.items ++ item ∷ [])) }
+offered queue item =
+    record queue { items = take queue.places (ranked (queue.items ++ item ∷ [])) }
 
--- against the last of a full queue: a better claim ejects it, any other is refused and handed back
+-- against the last of a full queue, which has at least one place: a better claim ejects it, any
+-- other is refused and handed back
 abbrev pub against : Option Submission → Submission
     → Result (Option Submission) (NotBetter × Submission)
 against None item = Ok None
@@ -27,7 +29,8 @@ against (Some last) item =
     else Err (record { worst = last.score }, item)
 
 -- while there is a free place nothing is ejected or refused
-abbrev pub offer_answer : Ranking → Submission → Result (Option Submission) (NotBetter × Submission)
+abbrev pub offer_answer : Ranking → Submission
+    → Result (Option Submission) (NotBetter × Submission)
 offer_answer queue item =
     if nat_lt (length queue.items) queue.places then Ok None
     else against (slice_get queue.items (length queue.items - 1)) item
