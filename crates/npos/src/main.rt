@@ -1,5 +1,6 @@
 //! `npos`: replays a chain's staking from standard input to standard output.
 #![tactic(auto)]
+
 ghost use Rattle.std.specs.Prelude.{◌≡◌, map, IfOk, IfErr, string_bytes};
 ghost use Rattle.std.specs.Process.{exit_status};
 ghost use Rattle.npos_cli.specs.declared.status.Status.{Status};
