@@ -14,7 +14,7 @@ pub mod CompactSteps
 pub mod CompactRange
 pub mod Laws
 pub mod WholeReading
--- Proofs that each form keeps its laws. No meaning rests on them.
+-- Proofs that each form keeps its laws. Only `read_as`, what bytes read as, is made from them.
 pub mod TableLaws
 pub mod FormLaws
 pub mod PartLaws

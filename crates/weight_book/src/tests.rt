@@ -19,17 +19,17 @@ fn small(alloc: Global) -> Result<Snapshot, NoMemory> {
     }
 }
 
-/// The score of two members that two voters give to, whatever was there before.
+/// The score of a target of the election and of a number past its targets, whatever was there before.
 fn score_of_two(weights: &mut Weights, first: u64, second: u64) -> Result<Score, NoMemory>
     requires { first + second < 2 ^ 64 }
 {
     weights.clear();
     weights.reserve(2, 2)?;
     weights.push_member(65_535);
-    weights.push_member(7);
+    weights.push_member(0);
     weights.push_edge(Edge {
         voter: 9,
-        target: 7,
+        target: 0,
         amount: first,
     });
     weights.push_edge(Edge {

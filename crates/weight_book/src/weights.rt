@@ -11,9 +11,6 @@ use npos_base::{Edge, NoMemory, Room, Score};
 use std::alloc::Global;
 use std::marker::Model;
 
-/// How many targets a `u16` can name.
-const NAMES: usize = 65_536;
-
 /// A committee and edges. Contracts see their lists and the spare of each: how many more members or
 /// edges it takes before memory is asked for. The room of a list is its length and its spare
 /// together; no call lowers it.
@@ -21,8 +18,8 @@ const NAMES: usize = 65_536;
 pub struct Weights {
     members: Room<u16>,
     edges: Room<Edge>,
-    /// By target, what the edges to it sum to. It is kept up as edges come, so that no call looks
-    /// for them.
+    /// By target of the election, what the edges to it sum to. It is kept up as edges come, so that
+    /// no call looks for them.
     supports: Vec<u128>,
 }
 
@@ -50,7 +47,7 @@ impl Weights {
     {
         let members = Room::with_room(alloc, snapshot.target_count())?;
         let edges = Room::with_room(alloc, count_votes(snapshot))?;
-        let supports = zeros(alloc, NAMES)?;
+        let supports = zeros(alloc, snapshot.target_count())?;
         Ok(Weights {
             members,
             edges,
@@ -92,7 +89,9 @@ impl Weights {
         ensures room { KeepsRoom self.old self.new }
     {
         let _count = self.edges.len();
-        self.supports[usize::from(edge.target)] += u128::from(edge.amount);
+        if let Some(support) = self.supports.get_mut(usize::from(edge.target)) {
+            *support += u128::from(edge.amount);
+        }
         self.edges.push_within(edge);
     }
 
@@ -130,11 +129,15 @@ impl Weights {
         self.edges.as_slice()
     }
 
-    /// The sum of the amounts over the edges to the target. It is looked up.
+    /// The sum of the amounts over the edges to the target. It is looked up for each target of the
+    /// election that the weights were made for.
     pub fn support(&self, target: u16) -> u128
         ensures { result ≡ support self.now.plain.edges target }
     {
-        self.supports[usize::from(target)]
+        match self.supports.get(usize::from(target)) {
+            Some(support) => *support,
+            None => sum_to(self.edges(), target),
+        }
     }
 
     /// The sum of the amounts over the edges from the voter. It goes through all edges.
@@ -170,6 +173,19 @@ impl Weights {
         }
         score
     }
+}
+
+/// The sum of the amounts over the edges to the target. It goes through all edges.
+fn sum_to(edges: &[Edge], target: u16) -> u128
+    ensures { result ≡ support edges.now target }
+{
+    let mut sum = 0;
+    for edge in edges {
+        if edge.target == target {
+            sum += u128::from(edge.amount);
+        }
+    }
+    sum
 }
 
 /// As many zeros.
