@@ -1,5 +1,5 @@
 -- The place of an account among rising accounts.
-use Rattle.std.proofs.Common.{◌≡◌, ℕ, zero, suc, ◌+◌, ◌<◌, Bool, true, false, List, [], ◌∷◌, length, get_or, refl, ap, sym, ◌∙◌, arith, Option, Some, None, slice_get, true≢false}
+use Rattle.std.proofs.Common.{◌≡◌, ℕ, zero, suc, ◌+◌, ◌<◌, Bool, true, false, List, [], ◌∷◌, length, get_or, refl, ap, sym, ◌∙◌, arith, Option, Some, None, slice_get, true≢false, is_some, if◌then◌else◌}
 use Rattle.std.specs.Prelude.{position}
 use Rattle.std.specs.List.{position_from}
 use Rattle.std.proofs.lemmas.Iterator.Adapters.{position_from-zero}
@@ -10,7 +10,10 @@ use Rattle.std.specs.declared.cmp.Ordering.TheVariants.{Less, Equal}
 use Rattle.std.proofs.lemmas.Cmp.{tied_itself}
 use Rattle.npos_base.specs.declared.account.AccountId.{AccountId}
 use Rattle.npos_base.specs.Account.{account_cmp, same_account}
-use Rattle.npos_base.proofs.AccountOrder.{account_total, account_exact, same_itself, same_exact}
+use Rattle.npos_base.proofs.AccountOrder.{account_total, account_exact, account_apart, same_itself, same_exact}
+use Rattle.std.specs.Map.{keys_of}
+use Rattle.voter_lists.specs.Roles.{RoleList, validators_of, is_validator, is_validator_in, is_validator_standing}
+use Rattle.voter_lists.proofs.ValidatorLemmas.{unlisted, all_same}
 
 pub at_all : (P : AccountId → Type 0) (xs : List AccountId) (i : ℕ) (who : AccountId) → AllByRecursion P xs → slice_get xs i ≡ Some who → P who
 at_all P [] i who all there = absurd (cc)
@@ -65,3 +68,32 @@ pub held_at : (who : AccountId) (xs : List AccountId) (i : ℕ) → i < length x
 held_at who [] i h here = absurd (omega (arith, h))
 held_at who (x ∷ xs) zero h here = ap (λ y. Some y) (account_exact x who (here x))
 held_at who (x ∷ xs) (suc i) h here = held_at who xs i (omega (arith, h)) here
+
+-- An account has a place among the validators exactly where it is one of them.
+module _ (who : AccountId) where
+  abbrev pub IsTested : RoleList → ℕ → Type 0
+  IsTested rows first = is_some (position_from (same_account who) first (validators_of rows)) ≡ is_validator rows who
+
+  pub ranked_test : (rows : RoleList) → IsStrictlySortedBy account_cmp (keys_of rows) → (first : ℕ) → IsTested rows first
+  unfolding IsStrictlySortedBy
+  ranked_test [] s first = refl
+  ranked_test (row ∷ rows) s first = by_test (same_account who row.0) refl (ranked_test rows s.1) where
+    by_test : (t : Bool) → same_account who row.0 ≡ t → ((n : ℕ) → IsTested rows n) → IsTested (row ∷ rows) first
+    by_test true same later = rw tied (at (is_validator_standing row.1)) where
+      tied : account_cmp who row.0 ≡ Equal
+      tied = ap (λ y. account_cmp who y) (sym (same_exact who row.0 same)) ∙ tied_itself account_total who
+
+      at : (valid : Bool) → is_some (position_from (same_account who) first (if valid then row.0 ∷ validators_of rows else validators_of rows)) ≡ valid
+      at true = rw same refl
+      at false = later first ∙ ap is_validator_in (unlisted who rows (all_same who row.0 (keys_of rows) tied s.0))
+    by_test false other later = rw apart (at (is_validator_standing row.1)) where
+      apart : is_eq (account_cmp who row.0) ≡ false
+      apart = account_apart who row.0 (λ e. true≢false (sym (same_itself who) ∙ (ap (λ z. same_account who z) e ∙ other)))
+
+      at : (valid : Bool) → is_some (position_from (same_account who) first (if valid then row.0 ∷ validators_of rows else validators_of rows)) ≡ is_validator rows who
+      at true = rw other (later (first + 1))
+      at false = later first
+
+pub rank_tells : (who : AccountId) (rows : RoleList) → IsStrictlySortedBy account_cmp (keys_of rows)
+    → is_some (position (same_account who) (validators_of rows)) ≡ is_validator rows who
+rank_tells who rows s = ap is_some (position_from-zero (same_account who) (validators_of rows)) ∙ ranked_test who rows s 0

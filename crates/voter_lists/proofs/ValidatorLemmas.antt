@@ -1,5 +1,5 @@
 -- The validators by rising account, after one standing is set or taken away.
-use Rattle.std.proofs.Common.{◌≡◌, ℕ, suc, ◌+◌, ◌<◌, ◌≤◌, Bool, true, false, cond, List, [], ◌∷◌, length, refl, ap, sym, ◌∙◌, subst, arith, Some, None, true≢false, if◌then◌else◌}
+use Rattle.std.proofs.Common.{◌≡◌, ℕ, suc, ◌+◌, ◌<◌, ◌≤◌, Bool, true, false, cond, List, [], ◌∷◌, length, refl, ap, sym, ◌∙◌, subst, arith, Option, Some, None, IfNone, is_some, true≢false, if◌then◌else◌}
 use Rattle.std.specs.BTreeMap.{insert_entry, is_at}
 use Rattle.std.specs.BTreeSet.{insert_key}
 use Rattle.std.specs.Set.{remove_key}
@@ -22,7 +22,7 @@ module _ (who : AccountId) where
   all_below e [] is all = all
   all_below e (y ∷ ys) is all = (account_total.trans who e y is all.0, all_below e ys is all.1)
 
-  all_same : (e : AccountId) (ks : List AccountId) → account_cmp who e ≡ Equal → AllByRecursion (λ y. account_cmp e y ≡ Less) ks → AllByRecursion (λ y. account_cmp who y ≡ Less) ks
+  pub all_same : (e : AccountId) (ks : List AccountId) → account_cmp who e ≡ Equal → AllByRecursion (λ y. account_cmp e y ≡ Less) ks → AllByRecursion (λ y. account_cmp who y ≡ Less) ks
   all_same e [] is all = all
   all_same e (y ∷ ys) is all = (account_total.congr who e y is ∙ all.0, all_same e ys is all.1)
 
@@ -41,7 +41,7 @@ module _ (who : AccountId) where
     at true rest = rw all.0 (ap (λ vs. row.0 ∷ vs) rest)
     at false rest = rest
 
-  unlisted : (rows : RoleList) → AllByRecursion (λ y. account_cmp who y ≡ Less) (keys_of rows) → lookup (is_at (account_cmp who)) rows ≡ None
+  pub unlisted : (rows : RoleList) → AllByRecursion (λ y. account_cmp who y ≡ Less) (keys_of rows) → lookup (is_at (account_cmp who)) rows ≡ None
   unlisted [] all = refl
   unlisted (row ∷ rows) all = rw all.0 (unlisted rows all.1)
 
@@ -208,3 +208,8 @@ ranked_validating who commission rows new accounts now h room is rise now_is = r
 pub others_keep : (old new : RoleList) (who : AccountId) → ((q : AccountId) → is_at (account_cmp who) q ≡ false → lookup (is_at (account_cmp q)) new ≡ lookup (is_at (account_cmp q)) old)
     → KeepsOthers old new who
 others_keep old new who stays = λ other differ. stays other (account_apart who other (λ e. differ (sym e)))
+
+-- what is said of None holds where nothing is there
+pub of_none : {T : Type 0} (found : Option T) (P : Type 0) → is_some found ≡ false → IfNone found P → P
+of_none None P none said = said
+of_none (Some value) P none said = absurd (true≢false none)

@@ -61,10 +61,7 @@ impl Bags {
         requires { is_listed self.old.order who ≡ true }
         ensures { self.new ≡ removed self.old who }
     {
-        match self.nodes.find(who) {
-            Some((place, number)) => self.nodes.leave(who, place, number),
-            None => unreachable!(),
-        }
+        self.nodes.leave(who);
     }
 
     /// Whether the account stands in a bag.

@@ -96,16 +96,19 @@ impl Nodes {
     }
 
     /// A listed account leaves its bag, and its place is free.
-    pub(crate) fn leave(&mut self, who: AccountId, place: usize, number: usize)
+    pub(crate) fn leave(&mut self, who: AccountId)
         requires standing { IsStanding self.old }
-        requires placed { place_in self.old.places.entries who ≡ Some place }
-        requires listed { list_of self.old.rings place ≡ Some number }
-        requires within { number < self.old.bags }
-        ensures { Becomes self.old self.new
+        requires listed { home_of self.old who ≢ None }
+        ensures { (number : ℕ) × (home_of self.old who ≡ Some number) × Becomes self.old self.new
             (slice_set (bags_in self.old) number (without (slice_index_or (bags_in self.old) number []) who))
             who None }
     {
-        let _ = self.places.remove(&who);
+        let Some(place) = self.places.remove(&who) else {
+            unreachable!()
+        };
+        let Some(number) = self.rings.list_of(place) else {
+            unreachable!()
+        };
         self.relink(place, number, self.bags);
     }
 

@@ -1,5 +1,5 @@
 //! The roles of accounts, after Substrate's staking pallet.
-ghost use Rattle.std.specs.Prelude.{◌≡◌, ◌≢◌, ◌<◌, ◌≤◌, [], ◌∷◌, length, Some, slice_get, position};
+ghost use Rattle.std.specs.Prelude.{◌≡◌, ◌≢◌, ◌<◌, ◌≤◌, [], ◌∷◌, length, Some, slice_get, position, is_some};
 ghost use Rattle.std.specs.List.{list_any};
 ghost use Rattle.std.specs.List.Sorted.{IsStrictlySortedBy};
 ghost use Rattle.npos_base.specs.Account.{account_cmp, same_account};
@@ -84,10 +84,9 @@ impl Roles {
         ensures answer { result ≡ answer_of (chill_refusal self.old who) }
         ensures others { KeepsOthers self.old self.new who }
     {
-        if !self.standings.contains_key(&who) {
+        if self.standings.remove(&who).is_none() {
             return Err(ListRefusal::NotListed);
         }
-        let _ = self.standings.remove(&who);
         leave(&mut self.validators, who);
         Ok(())
     }
@@ -134,7 +133,8 @@ impl Roles {
 
     /// The place of a validator among all by rising account. It is found in the logarithm of their number.
     pub fn rank(&self, who: AccountId) -> Option<u16>
-        ensures { result ≡ position (same_account who) (validators_of self.now) }
+        ensures place { result ≡ position (same_account who) (validators_of self.now) }
+        ensures some { is_some result ≡ is_validator self.now who }
     {
         match self.validators.as_slice().binary_search(&who) {
             Ok(rank) => Some(rank as u16),
@@ -142,10 +142,11 @@ impl Roles {
         }
     }
 
+    /// The validators are few and stand side by side, so that they are searched and not the roles.
     fn is_validator(&self, who: AccountId) -> bool
         ensures { result ≡ is_validator self.now who }
     {
-        matches!(self.standings.get(&who), Some(Standing::Validator { .. }))
+        self.rank(who).is_some()
     }
 
     /// Whether the account may nominate these targets.
