@@ -1,15 +1,17 @@
 -- The bags stay the one list of the accounts with a role.
-use Rattle.std.proofs.Common.{◌≡◌, ◌≢◌, ℕ, zero, suc, ◌+◌, ◌≤◌, ◌<◌, Bool, true, false, cond, not, nat_lt, nat_eq, All, List, [], ◌∷◌, ◌++◌, length, filter, Some, is_some, refl, sym, ◌∙◌, ap, ap₂, subst, arith, true≢false, if◌then◌else◌}
+use Rattle.std.proofs.Common.{◌≡◌, ◌≢◌, ℕ, zero, suc, ◌+◌, ◌≤◌, ◌<◌, Bool, true, false, cond, not, nat_lt, nat_eq, All, List, [], ◌∷◌, ◌++◌, length, filter, Option, Some, None, is_some, refl, sym, ◌∙◌, ap, ap₂, subst, arith, true≢false, if◌then◌else◌}
 use Rattle.std.proofs.lemmas.Bool.Decides.{nat_tests}
 use Rattle.std.proofs.lemmas.List.Elements.{All-filter, All-append, All-cons, All-head, All-tail}
 use Rattle.std.proofs.lemmas.List.Sums.{sum_by-cons}
 use Rattle.npos_base.specs.declared.account.AccountId.{AccountId}
 use Rattle.npos_base.specs.Account.{same_account}
 use Rattle.npos_base.proofs.AccountOrder.{same_exact, same_itself}
-use Rattle.voter_lists.specs.Roles.{RoleList}
+use Rattle.voter_lists.specs.declared.standing.Standing.{Standing}
+use Rattle.voter_lists.specs.declared.standing.Standing.TheVariants.{Nominator, Validator}
+use Rattle.voter_lists.specs.Roles.{RoleList, standing_of, role_in, role_of}
 use Rattle.voter_lists.specs.Bags.{Order, Listing, walk, in_bag, from_bag, in_walk_order, joined, left, placed_before, number_of, number_at, is_listed, is_at_home, bag_of, inserted, removed, moved, updated, put_in_front}
-use Rattle.npos_runtime.specs.Lists.{has_role, followed, unlisted, placed}
-use Rattle.npos_runtime.specs.Live.{IsListing, times}
+use Rattle.npos_runtime.specs.Lists.{has_role, is_role, followed, unlisted, placed}
+use Rattle.npos_runtime.specs.Live.{IsJoined, IsListing, times}
 
 abbrev pub one : Bool → ℕ
 one b = cond b 1 0
@@ -367,3 +369,16 @@ nowhere_unlisted listing who = at (is_listed listing.order who) refl where
   at : (b : Bool) → is_listed listing.order who ≡ b → is_listed (if b then removed listing who else listing).order who ≡ false
   at true e = gone listing.thresholds listing.order
   at false e = e
+
+-- who has a role has one of the two
+role_found : (found : Option Standing) → is_role (role_in found) ≡ is_some found
+role_found None = refl
+role_found (Some (Nominator targets)) = refl
+role_found (Some (Validator commission)) = refl
+
+pub role_tells : (roles : RoleList) (who : AccountId) → is_role (role_of roles who) ≡ has_role roles who
+role_tells roles who = role_found (standing_of roles who)
+
+-- and that one stands in the bags
+pub role_listed : (roles : RoleList) (listing : Listing) (who : AccountId) → IsJoined roles listing → is_listed listing.order who ≡ is_role (role_of roles who)
+role_listed roles listing who joined = joined who ∙ sym (role_tells roles who)

@@ -12,6 +12,11 @@ use Rattle.npos_runtime.specs.declared.chain.Chain.{Chain}
 abbrev pub has_role : RoleList → AccountId → Bool
 has_role roles who = is_some (standing_of roles who)
 
+abbrev pub is_role : Role → Bool
+is_role role.Nobody = false
+is_role role.Nominator = true
+is_role (role.Validator commission) = true
+
 abbrev pub is_nominator_role : Role → Bool
 is_nominator_role role.Nominator = true
 is_nominator_role other = false

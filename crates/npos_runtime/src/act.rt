@@ -6,7 +6,8 @@ ghost use Rattle.npos_runtime.specs.Outcome.{Meets};
 ghost use Rattle.npos_runtime.specs.Live.{IsLive, IsJoined};
 ghost use Rattle.npos_runtime.specs.Ballots.{active_of};
 ghost use Rattle.npos_runtime.specs.Calls.{release_now, stop_of, done_of, transfer_stop, transfer_done, bond_stop, bond_done, bond_extra_stop, bond_extra_done, unbond_stop, unbond_done, rebond_stop, rebond_done, withdraw_stop, withdraw_done, least_active, role_refusal, nominate_stop, nominate_done, validate_stop, validate_done, chill_stop, chill_done, rebag_stop, rebag_done, put_in_front_stop, put_in_front_done};
-ghost use Rattle.npos_runtime.specs.Lists.{has_role, listed_anew, placed, retired, unlisted, with_stake};
+ghost use Rattle.voter_lists.specs.Bags.{is_listed};
+ghost use Rattle.npos_runtime.specs.Lists.{has_role, is_role, listed_anew, placed, retired, unlisted, with_stake};
 
 use crate::rules::{bonding_eras_of, era_of, least_bond_of};
 use crate::stop::Stop;
@@ -61,10 +62,17 @@ fn least_active(chain: &Chain, who: AccountId) -> u64
     }
 }
 
+#[tactic(auto, using(crate::proofs::ListLemmas::role_tells))]
 fn has_role(chain: &Chain, who: AccountId) -> bool
     ensures { result ≡ has_role chain.now.roles who }
 {
-    match chain.roles.role(who) {
+    is_role(chain.roles.role(who))
+}
+
+fn is_role(role: Role) -> bool
+    ensures { result ≡ is_role role }
+{
+    match role {
         Role::Nobody => false,
         Role::Nominator | Role::Validator { .. } => true,
     }
@@ -133,44 +141,50 @@ fn check_stake(chain: &Chain, who: AccountId) -> Result<(), LedgerRefusal>
 }
 
 /// A listed account leaves.
-fn unlist(bags: &mut Bags, who: AccountId)
+fn unlist(bags: &mut Bags, who: AccountId, listed: bool)
+    requires { is_listed bags.old.order who ≡ listed }
     ensures { bags.new ≡ unlisted bags.old who }
 {
-    if bags.contains(who) {
+    if listed {
         bags.remove(who);
     }
 }
 
-/// The account goes to the tail of the bag of its active stake, and leaves its old place first.
+/// The account goes to the tail of the bag of its active stake, and leaves its old place first, where it has one.
 #[tactic(auto, using(crate::proofs::ListLemmas::nowhere_unlisted))]
-fn list_anew(chain: &mut Chain, who: AccountId) -> Result<(), NoMemory>
+fn list_anew(chain: &mut Chain, who: AccountId, listed: bool) -> Result<(), NoMemory>
+    requires { is_listed chain.old.bags.order who ≡ listed }
     ensures { OnOk result (chain.new ≡ record chain.old { bags = listed_anew chain.old.bags who (active_of chain.old who) }) }
 {
     let score = chain.book.active(who);
-    unlist(&mut chain.bags, who);
+    unlist(&mut chain.bags, who, listed);
     chain.bags.insert(who, score)
 }
 
+#[tactic(auto, using(crate::proofs::ListLemmas::role_listed))]
 fn nominate(chain: &mut Chain, who: AccountId, targets: List<AccountId>) -> Result<(), Stop>
+    requires { IsJoined chain.old.roles chain.old.bags }
     ensures { Meets (nominate_stop chain.old who targets) (nominate_done chain.old who targets) chain.old chain.new result }
 {
     check_stake(chain, who)?;
-    let stays = matches!(chain.roles.role(who), Role::Nominator);
+    let before = chain.roles.role(who);
     chain.roles.nominate(who, targets)?;
-    if !stays {
-        list_anew(chain, who)?;
+    if !matches!(before, Role::Nominator) {
+        list_anew(chain, who, is_role(before))?;
     }
     Ok(())
 }
 
+#[tactic(auto, using(crate::proofs::ListLemmas::role_listed))]
 fn validate(chain: &mut Chain, who: AccountId, commission: u32) -> Result<(), Stop>
+    requires { IsJoined chain.old.roles chain.old.bags }
     ensures { Meets (validate_stop chain.old who commission) (validate_done chain.old who commission) chain.old chain.new result }
 {
     check_stake(chain, who)?;
-    let stays = matches!(chain.roles.role(who), Role::Validator { .. });
+    let before = chain.roles.role(who);
     chain.roles.validate(who, commission)?;
-    if !stays {
-        list_anew(chain, who)?;
+    if !matches!(before, Role::Validator { .. }) {
+        list_anew(chain, who, is_role(before))?;
     }
     Ok(())
 }
