@@ -1,4 +1,5 @@
-//! How long the lists of a stream and of a bundle are at most, besides the limits that other crates keep too.
+//! How long the lists of a stream and of a bundle are at most, besides the limits that other crates
+//! keep too.
 pub(crate) use npos_base::{MOST_ENDOWMENTS, MOST_SOLUTION_BYTES, MOST_THRESHOLDS};
 
 /// Calls of a block.

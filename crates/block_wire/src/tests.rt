@@ -9,7 +9,8 @@ fn account(n: u128) -> AccountId {
     AccountId { hi: 0, lo: n }
 }
 
-// A block with two transfers of account 1 to account 2, of 40 and of 61 units, as the stream has it.
+// A block with two transfers of account 1 to account 2, of 40 and of 61 units, as the stream has
+// it.
 const BLOCK: [u8; 135] = [
     0x01, 0x04, 0x08, // Some, block 1, two calls
     0, 0, 0, 0, 0, 0, 0, 0, 0, 0, 0, 0, 0, 0, 0, 0, 0, 0, 0, 0, 0, 0, 0, 0, 0, 0, 0, 0, 0, 0, 0,

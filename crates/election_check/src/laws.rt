@@ -7,8 +7,8 @@ pub fn a_plain_yes_is_passing()
     ensures { PlainYesIsPassing }
 {}
 
-/// Where the verdict on bytes with a claimed score is Yes, they are a solution, the verdict on the weights that it expands
-/// to is Yes, and their score is the claimed one.
+/// Where the verdict on bytes with a claimed score is Yes, they are a solution, the verdict on the
+/// weights that it expands to is Yes, and their score is the claimed one.
 pub fn a_packed_yes_is_a_plain_yes()
     ensures { PackedYesIsAccepting }
 {}

@@ -115,7 +115,8 @@ impl Checker {
     fn check_claim(&mut self, claim: &Score, weights: &Weights) -> Result<(), Verdict>
         requires { IsFeasible self.old weights.now.plain }
         ensures fault { result ≡ answer_of (first_of
-            (score_fault claim.now weights.now.plain ∷ outweighed self.old weights.now.plain ∷ [])) }
+            (score_fault claim.now weights.now.plain ∷ outweighed self.old weights.now.plain
+            ∷ [])) }
         ensures snapshot { self.new ≡ self.old }
     {
         let Checker { snapshot, tables } = self;

@@ -107,7 +107,8 @@ fn pay(edge: &Edge, price: u64, support: u128) -> u64
 /// By target, what its nominators have left.
 fn fill_prescores(snapshot: &Snapshot, slacks: &[u64], prescores: &mut [u64])
     requires voters { length slacks.now ≡ length snapshot.now.voters }
-    requires within { (voter : ℕ) → slice_index_or slacks.now voter 0 ≤ stake_of snapshot.now voter }
+    requires within { (voter : ℕ)
+        → slice_index_or slacks.now voter 0 ≤ stake_of snapshot.now voter }
     requires targets { length prescores.old ≡ length snapshot.now.targets }
     ensures { (target : ℕ) → target < length snapshot.now.targets
         → slice_index_or prescores.new target 0 ≡ left_of slacks.now snapshot.now target }

@@ -11,9 +11,9 @@ use std::alloc::Global;
 use std::collections::BTreeMap;
 use std::marker::Model;
 
-/// The targets and voters of a snapshot so far, each looked at before it is added. The accounts of the voters stand in
-/// an ordered map too, so that a repeated one is found in the logarithm of their number, whatever they are. Contracts
-/// see both lists in the order of their addition.
+/// The targets and voters of a snapshot so far, each looked at before it is added. The accounts of
+/// the voters stand in an ordered map too, so that a repeated one is found in the logarithm of
+/// their number, whatever they are. Contracts see both lists in the order of their addition.
 #[derive(Drop)]
 pub struct SnapshotBuilder {
     parts: SnapshotParts,
@@ -44,7 +44,8 @@ impl SnapshotBuilder {
 
     /// Adds a target behind those that stand.
     pub fn add_target(&mut self, who: AccountId) -> Result<(), SnapshotFault>
-        ensures { Meets NoMemoryFault (target_fault self.old who) (with_target self.old who) self.old self.new result }
+        ensures { Meets NoMemoryFault (target_fault self.old who)
+            (with_target self.old who) self.old self.new result }
     {
         self.parts.add_target(who)
     }
@@ -63,7 +64,8 @@ impl SnapshotBuilder {
         stake: u64,
         votes: &[u16],
     ) -> Result<(), SnapshotFault>
-        ensures { Meets NoMemoryFault (voter_fault self.old who stake votes.now) (with_voter self.old who stake votes.now) self.old self.new result }
+        ensures { Meets NoMemoryFault (voter_fault self.old who stake votes.now)
+            (with_voter self.old who stake votes.now) self.old self.new result }
     {
         self.check_voter(who, stake, votes)?;
         self.voters.insert(who, ())?;
@@ -76,11 +78,13 @@ impl SnapshotBuilder {
         }
     }
 
-    /// Takes the targets and voters as the snapshot of an election of this many seats, or hands them back. It takes
-    /// no memory.
+    /// Takes the targets and voters as the snapshot of an election of this many seats, or hands
+    /// them back. It takes no memory.
     pub fn finish(self, seats: u32) -> Result<Snapshot, (SnapshotBuilder, SnapshotFault)>
-        ensures ok { IfOk result (λ snapshot. (finish_fault self seats ≡ None) × (snapshot ≡ seated self seats)) }
-        ensures err { IfErr result (λ back. (back.0 ≡ self) × (finish_fault self seats ≡ Some back.1)) }
+        ensures ok { IfOk result (λ snapshot. (finish_fault self seats ≡ None)
+            × (snapshot ≡ seated self seats)) }
+        ensures err { IfErr result (λ back. (back.0 ≡ self)
+            × (finish_fault self seats ≡ Some back.1)) }
     {
         match self.parts.seats_fault(seats) {
             Some(fault) => Err((self, fault)),

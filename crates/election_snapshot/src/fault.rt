@@ -4,8 +4,8 @@ ghost use Rattle.election_snapshot.specs.declared.fault.SnapshotFault.TheVariant
 
 use std::alloc::{AllocError, AllocFailed};
 
-/// Why a snapshot or a part of it was refused. The number that a fault of an addition carries is the position that
-/// the account would have had.
+/// Why a snapshot or a part of it was refused. The number that a fault of an addition carries is
+/// the position that the account would have had.
 #[derive(Clone, Copy, Debug, PartialEq, Eq, Hash)]
 pub enum SnapshotFault {
     /// There are fewer targets than seats.

@@ -1,4 +1,5 @@
-//! The instance of one election: targets, voters and seats, built once and well formed from then on.
+//! The instance of one election: targets, voters and seats, built once and well formed from then
+//! on.
 #![tactic(auto)]
 
 mod ballot;

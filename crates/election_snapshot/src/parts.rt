@@ -14,8 +14,8 @@ use npos_base::{AccountId, MOST_SEATS, MOST_TARGETS, NoMemory};
 use std::alloc::Global;
 use std::marker::Model;
 
-/// The targets and voters of a snapshot so far, for whoever knows that what it adds has no fault. Contracts see both
-/// lists in the order of their addition.
+/// The targets and voters of a snapshot so far, for whoever knows that what it adds has no fault.
+/// Contracts see both lists in the order of their addition.
 #[derive(Drop)]
 pub struct SnapshotParts {
     targets: IndexSet<AccountId>,
@@ -32,9 +32,13 @@ impl Model for SnapshotParts {
 
     ghost use Rattle.election_snapshot.specs.Kept.{voters_of, AreKept};
 
-    ghost view = { λ b. record { targets = b.targets.keys; voters = voters_of b.accounts.items b.stakes.items b.ballots.items } };
+    ghost view = { λ b. record {
+      targets = b.targets.keys;
+      voters = voters_of b.accounts.items b.stakes.items b.ballots.items;
+    } };
 
-    ghost invariant = { λ b. AreKept b.targets.keys b.accounts.items b.stakes.items b.ballots.items b.total };
+    ghost invariant = { λ b. AreKept b.targets.keys b.accounts.items b.stakes.items b.ballots.items
+        b.total };
 }
 
 impl SnapshotParts {
@@ -53,7 +57,8 @@ impl SnapshotParts {
 
     /// Adds a target behind those that stand, or tells its fault.
     pub fn add_target(&mut self, who: AccountId) -> Result<(), SnapshotFault>
-        ensures { Meets NoMemoryFault (target_fault self.old who) (with_target self.old who) self.old self.new result }
+        ensures { Meets NoMemoryFault (target_fault self.old who)
+            (with_target self.old who) self.old self.new result }
     {
         if self.targets.len() >= MOST_TARGETS {
             return Err(SnapshotFault::TooManyTargets);
@@ -91,9 +96,11 @@ impl SnapshotParts {
         Ok(())
     }
 
-    /// Takes the targets and voters as the snapshot of an election of this many seats. It takes no memory.
+    /// Takes the targets and voters as the snapshot of an election of this many seats. It takes no
+    /// memory.
     pub fn finish(self, seats: u32) -> Result<Snapshot, SnapshotFault>
-        ensures ok { IfOk result (λ snapshot. (finish_fault self seats ≡ None) × (snapshot ≡ seated self seats)) }
+        ensures ok { IfOk result (λ snapshot. (finish_fault self seats ≡ None)
+            × (snapshot ≡ seated self seats)) }
         ensures err { IfErr result (λ fault. finish_fault self seats ≡ Some fault) }
     {
         match self.seats_fault(seats) {

@@ -8,7 +8,8 @@ use crate::SnapshotParts;
 use npos_base::AccountId;
 use std::marker::Model;
 
-/// The instance of one election. Contracts see its targets, voters and seats, which are well formed.
+/// The instance of one election. Contracts see its targets, voters and seats, which are well
+/// formed.
 #[derive(Drop)]
 pub struct Snapshot {
     parts: SnapshotParts,
@@ -89,7 +90,8 @@ impl Snapshot {
         self.parts.stakes()
     }
 
-    /// The nominations of a voter, in the order in which they were added: 1 to 16 different positions of targets.
+    /// The nominations of a voter, in the order in which they were added: 1 to 16 different
+    /// positions of targets.
     pub fn votes(&self, i: u32) -> &[u16]
         requires { i < length self.now.voters }
         ensures votes { result.now ≡ votes_of self.now i }

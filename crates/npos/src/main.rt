@@ -36,15 +36,16 @@ fn words(rt: &HostRuntime) -> Result<Vec<String>, u8> {
     Ok(words)
 }
 
-/// Runs the program over its words and ends with the number of its status. Where there are no words it ends with the
-/// status that says why, and reads and writes nothing.
+/// Runs the program over its words and ends with the number of its status. Where there are no words
+/// it ends with the status that says why, and reads and writes nothing.
 fn finish<S: Source, K: Sink>(
     alloc: Global,
     words: Result<Vec<String>, u8>,
     source: &mut S,
     sink: &mut K,
 ) -> ExitCode
-    ensures answers { IfOk words (λ words. (status : Status) × (exit_status result ≡ number_of status)
+    ensures answers { IfOk words (λ words. (status : Status)
+        × (exit_status result ≡ number_of status)
         × (IsAnswer status → Answers (map string_bytes words.items) (S.left source.old)
         (K.told sink.old) (K.told sink.new) status)) }
     ensures no_words { IfErr words (λ number. (exit_status result ≡ number)

@@ -9,8 +9,8 @@ ghost use Rattle.npos_base.specs.Account.{account_bytes, account_of};
 
 use std::cmp::Ordering;
 
-/// An account: an identity of 32 bytes. `hi` is the first 16 bytes read big-endian, `lo` the last 16,
-/// so the order of accounts is the order of their bytes.
+/// An account: an identity of 32 bytes. `hi` is the first 16 bytes read big-endian, `lo` the last
+/// 16, so the order of accounts is the order of their bytes.
 #[derive(Clone, Copy, Debug, PartialEq, Eq, Hash)]
 pub struct AccountId {
     pub hi: u128,
@@ -18,7 +18,8 @@ pub struct AccountId {
 }
 
 impl Ord for AccountId {
-    ghost cmp = { then_cmp (on (λ account. account.hi) nat_cmp) (on (λ account. account.lo) nat_cmp) };
+    ghost cmp = { then_cmp (on (λ account. account.hi) nat_cmp)
+        (on (λ account. account.lo) nat_cmp) };
 
     ghost total = { Prim.search (comparing, rules) };
 
@@ -26,7 +27,8 @@ impl Ord for AccountId {
 
     ghost matches_eq = { Prim.search (comparing, rules) };
 
-    /// The order of the bytes. `Greater` is asked first, since a search in a map of accounts asks it at each key.
+    /// The order of the bytes. `Greater` is asked first, since a search in a map of accounts asks
+    /// it at each key.
     fn cmp(&self, other: &AccountId) -> Ordering {
         if self.hi > other.hi {
             Ordering::Greater
@@ -39,9 +41,11 @@ impl Ord for AccountId {
 }
 
 impl PartialOrd for AccountId {
-    ghost partial_cmp = { as_partial_cmp (then_cmp (on (λ account. account.hi) nat_cmp) (on (λ account. account.lo) nat_cmp)) };
+    ghost partial_cmp = { as_partial_cmp
+        (then_cmp (on (λ account. account.hi) nat_cmp) (on (λ account. account.lo) nat_cmp)) };
 
-    ghost laws = { partial_order_from_own_ties (Prim.search (comparing, rules)) (Prim.search (comparing, rules)) };
+    ghost laws = { partial_order_from_own_ties (Prim.search (comparing, rules))
+        (Prim.search (comparing, rules)) };
 
     fn partial_cmp(&self, other: &AccountId) -> Option<Ordering> {
         Some(self.cmp(other))

@@ -2,8 +2,8 @@
 ghost use Rattle.std.specs.Prelude.{◌≡◌, ◌≤◌, ◌<◌, ◌*◌, ◌/◌};
 ghost use Rattle.npos_base.specs.Score.{is_better};
 
-/// The score of a solution, as Substrate compares election results: the least support of a winner, the
-/// sum of the supports and the sum of their squares, all in units of stake.
+/// The score of a solution, as Substrate compares election results: the least support of a winner,
+/// the sum of the supports and the sum of their squares, all in units of stake.
 #[derive(Clone, Copy, Debug, PartialEq, Eq, Hash)]
 pub struct Score {
     pub minimal: u64,
@@ -12,8 +12,8 @@ pub struct Score {
 }
 
 impl Score {
-    /// Whether this score is better than the other: by a greater minimal, at equal ones by a greater sum, and at
-    /// equal sums by smaller squares.
+    /// Whether this score is better than the other: by a greater minimal, at equal ones by a
+    /// greater sum, and at equal sums by smaller squares.
     pub fn better_than(&self, other: &Score) -> bool
         ensures { result ≡ is_better self.now other.now }
     {
@@ -27,7 +27,8 @@ impl Score {
     }
 }
 
-/// One edge of plain weights: the voter at this position gives this amount of stake to the target at that position.
+/// One edge of plain weights: the voter at this position gives this amount of stake to the target
+/// at that position.
 #[derive(Clone, Copy, Debug, PartialEq, Eq, Hash)]
 pub struct Edge {
     pub voter: u32,

@@ -24,7 +24,8 @@ pub fn bytes_keep_their_account(account: &AccountId)
 
 /// The order of accounts is the order of their bytes.
 pub fn accounts_stand_in_the_order_of_their_bytes(a: &AccountId, b: &AccountId)
-    ensures bytes { slice_cmp nat_cmp (account_bytes a.now) (account_bytes b.now) ≡ account_cmp a.now b.now }
+    ensures bytes { slice_cmp nat_cmp (account_bytes a.now) (account_bytes b.now)
+        ≡ account_cmp a.now b.now }
     ensures derived { ⟦<AccountId as Ord>⟧.cmp a.now b.now ≡ account_cmp a.now b.now }
 {
     let _a_hi = a.hi;
@@ -33,7 +34,8 @@ pub fn accounts_stand_in_the_order_of_their_bytes(a: &AccountId, b: &AccountId)
     let _b_lo = b.lo;
 }
 
-/// The one equality of accounts tells exactly which are one. It agrees with their order and with `==`.
+/// The one equality of accounts tells exactly which are one. It agrees with their order and with
+/// `==`.
 pub fn equality_tells_accounts_apart(a: &AccountId, b: &AccountId)
     ensures decides { IsTrue (same_account a.now b.now) ↔ (a.now ≡ b.now) }
     ensures ordered { same_account a.now b.now ≡ is_eq (account_cmp a.now b.now) }
@@ -54,7 +56,8 @@ pub fn no_score_is_better_than_itself(score: &Score)
 
 /// What is better than a better score is better.
 pub fn better_than_a_better_score_is_better(best: &Score, middle: &Score, last: &Score)
-    ensures { is_better best.now middle.now ≡ true → is_better middle.now last.now ≡ true → is_better best.now last.now ≡ true }
+    ensures { is_better best.now middle.now ≡ true → is_better middle.now last.now ≡ true
+        → is_better best.now last.now ≡ true }
 {
     let _best = *best;
     let _middle = *middle;

@@ -1,4 +1,5 @@
-//! What every crate of npos stands on: accounts, scores and edges, lists, and the edge to the outside.
+//! What every crate of npos stands on: accounts, scores and edges, lists, and the edge to the
+//! outside.
 #![tactic(auto)]
 
 mod account;

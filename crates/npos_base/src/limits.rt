@@ -1,4 +1,5 @@
-//! The limits that several crates keep, each named once. Contracts and definitions cite them by these names.
+//! The limits that several crates keep, each named once. Contracts and definitions cite them by
+//! these names.
 
 /// Validators that one nominator names, and votes of one voter.
 pub const MOST_NOMINATIONS: usize = 16;

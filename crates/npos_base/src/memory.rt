@@ -8,8 +8,8 @@ use crate::{Failed, List, NoMemory, Sink, Source};
 use std::alloc::Global;
 use std::marker::Model;
 
-/// A source over bytes in memory. A read gives at most `most` bytes, and fails exactly where its number, counted
-/// from 0, stands in `failing`.
+/// A source over bytes in memory. A read gives at most `most` bytes, and fails exactly where its
+/// number, counted from 0, stands in `failing`.
 #[derive(Drop)]
 pub struct MemorySource {
     bytes: List<u8>,
@@ -26,7 +26,13 @@ impl Model for MemorySource {
 
     ghost Value = { Input };
 
-    ghost view = { λ s. record { left = drop s.at s.bytes; most = s.most; failing = s.failing; next = s.next; faults = s.faults } };
+    ghost view = { λ s. record {
+      left = drop s.at s.bytes;
+      most = s.most;
+      failing = s.failing;
+      next = s.next;
+      faults = s.faults;
+    } };
 
     ghost invariant = { λ s. (s.at ≤ length s.bytes) × (1 ≤ s.most) };
 }
@@ -35,7 +41,13 @@ impl MemorySource {
     /// A source of these bytes that has not been read. It takes no memory.
     pub fn new(bytes: List<u8>, most: usize, failing: List<u64>) -> MemorySource
         requires { 1 ≤ most }
-        ensures { result ≡ record { left = bytes; most = most; failing = failing; next = Some 0; faults = 0 } }
+        ensures { result ≡ record {
+          left = bytes;
+          most = most;
+          failing = failing;
+          next = Some 0;
+          faults = 0;
+        } }
     {
         MemorySource {
             bytes,
@@ -88,9 +100,9 @@ fn number_fails(next: &mut Option<u64>, failing: &[u64]) -> bool
     failing.contains(&number)
 }
 
-/// A sink that keeps its bytes in memory. A write takes at most `most` bytes and no more than the spare. It fails
-/// exactly where its number stands in `failing`, or where there are bytes and no spare; a flush only by its number.
-/// Writes and flushes share one numbering, from 0.
+/// A sink that keeps its bytes in memory. A write takes at most `most` bytes and no more than the
+/// spare. It fails exactly where its number stands in `failing`, or where there are bytes and no
+/// spare; a flush only by its number. Writes and flushes share one numbering, from 0.
 #[derive(Drop)]
 pub struct MemorySink {
     written: Vec<u8>,
@@ -108,7 +120,15 @@ impl Model for MemorySink {
 
     ghost Value = { Output };
 
-    ghost view = { λ s. record { written = s.written.items; flushed = s.flushed; spare = vec_capacity s.written - vec_len s.written; most = s.most; failing = s.failing; next = s.next; faults = s.faults } };
+    ghost view = { λ s. record {
+      written = s.written.items;
+      flushed = s.flushed;
+      spare = vec_capacity s.written - vec_len s.written;
+      most = s.most;
+      failing = s.failing;
+      next = s.next;
+      faults = s.faults;
+    } };
 
     ghost invariant = { λ s. 1 ≤ s.most };
 }
@@ -117,7 +137,15 @@ impl MemorySink {
     /// A sink that has taken nothing yet. It takes no memory, and may have no spare.
     pub fn new(alloc: Global, most: usize, failing: List<u64>) -> MemorySink
         requires { 1 ≤ most }
-        ensures { result ≡ record { written = []; flushed = 0; spare = result.spare; most = most; failing = failing; next = Some 0; faults = 0 } }
+        ensures { result ≡ record {
+          written = [];
+          flushed = 0;
+          spare = result.spare;
+          most = most;
+          failing = failing;
+          next = Some 0;
+          faults = 0;
+        } }
     {
         MemorySink {
             written: Vec::new(alloc),

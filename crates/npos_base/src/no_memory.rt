@@ -2,7 +2,8 @@
 
 use std::alloc::{AllocError, AllocFailed};
 
-/// The answer of a call that refuses for want of memory alone. The object of the call is then unchanged.
+/// The answer of a call that refuses for want of memory alone. The object of the call is then
+/// unchanged.
 #[derive(Clone, Copy, Debug, PartialEq, Eq, Hash)]
 pub struct NoMemory;
 

@@ -7,8 +7,8 @@ use crate::{Failed, List, NoMemory, Sink, Source};
 use std::alloc::Global;
 use std::marker::Model;
 
-/// A source over bytes in memory that never fails and gives as many bytes as the buffer takes. Contracts see it as
-/// the bytes that are left.
+/// A source over bytes in memory that never fails and gives as many bytes as the buffer takes.
+/// Contracts see it as the bytes that are left.
 #[derive(Drop)]
 pub struct PlainSource {
     bytes: List<u8>,
@@ -54,8 +54,8 @@ impl Source for PlainSource {
     }
 }
 
-/// A sink that never fails. It keeps the bytes that its room takes and counts the others, so it tells its bytes
-/// while they all fit.
+/// A sink that never fails. It keeps the bytes that its room takes and counts the others, so it
+/// tells its bytes while they all fit.
 #[derive(Drop)]
 pub struct PlainSink {
     kept: Vec<u8>,
@@ -71,7 +71,12 @@ impl Model for PlainSink {
 
     ghost Value = { Kept };
 
-    ghost view = { λ s. record { kept = s.kept.items; room = s.room; past = s.past; flushed = s.flushed } };
+    ghost view = { λ s. record {
+      kept = s.kept.items;
+      room = s.room;
+      past = s.past;
+      flushed = s.flushed;
+    } };
 
     ghost invariant = { λ s. (vec_len s.kept ≤ s.room) × (s.room ≤ vec_capacity s.kept) };
 }
@@ -79,7 +84,8 @@ impl Model for PlainSink {
 impl PlainSink {
     /// A sink that has taken nothing yet, with room for `room` bytes.
     pub fn new(alloc: Global, room: usize) -> Result<PlainSink, NoMemory>
-        ensures { IfOk result (λ sink. sink ≡ record { kept = []; room = room; past = 0; flushed = 0 }) }
+        ensures { IfOk result (λ sink. sink
+            ≡ record { kept = []; room = room; past = 0; flushed = 0 }) }
     {
         let kept = Vec::with_capacity(alloc, room)?;
         Ok(PlainSink {

@@ -5,7 +5,8 @@ use crate::{List, NoMemory};
 use std::alloc::Global;
 use std::marker::Model;
 
-/// A list with room made beforehand. Contracts see it as its items and its spare: how many more items it takes.
+/// A list with room made beforehand. Contracts see it as its items and its spare: how many more
+/// items it takes.
 #[derive(Debug, Drop)]
 pub struct Room<T> {
     items: Vec<T>,
@@ -18,7 +19,10 @@ impl<T> Model for Room<T> {
 
     ghost Value = { RoomOf T };
 
-    ghost view = { λ r. record { items = r.items.items; spare = vec_capacity r.items - vec_len r.items } };
+    ghost view = { λ r. record {
+      items = r.items.items;
+      spare = vec_capacity r.items - vec_len r.items;
+    } };
 }
 
 impl<T> Room<T> {

@@ -128,8 +128,8 @@ pub fn write_both<A: Wire, B: Wire>(first: &A, second: &B, pen: &mut Pen) -> Res
     second.write(pen)
 }
 
-/// Reads a value that must be the whole input. The first byte behind it is refused as `Trailing`. The bytes determine
-/// every answer but want of memory.
+/// Reads a value that must be the whole input. The first byte behind it is refused as `Trailing`.
+/// The bytes determine every answer but want of memory.
 pub fn read_whole<T: Wire>(alloc: Global, bytes: &[u8]) -> Result<T, ReadFault>
     ensures grammar { ReadsWhole T.form bytes.now result }
     ensures function { AnswersAs T.form T.laws bytes.now result }

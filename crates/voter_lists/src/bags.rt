@@ -1,4 +1,5 @@
-//! The bags, after Substrate's bags-list pallet: accounts by coarse score, so that no list is ever sorted.
+//! The bags, after Substrate's bags-list pallet: accounts by coarse score, so that no list is ever
+//! sorted.
 ghost use Rattle.std.specs.Prelude.{◌≡◌, ◌≢◌, ◌≤◌, [], ◌∷◌, length, IsTrue, Some, None, Ok, IfOk, IsOk, IfErr, OnOk, OnErr, not, true, false, slice_get};
 ghost use Rattle.std.specs.List.{IsDistinct};
 ghost use Rattle.npos_base.specs.Account.{same_account};
@@ -14,8 +15,8 @@ use npos_base::{AccountId, List, NoMemory};
 use std::alloc::Global;
 use std::marker::Model;
 
-/// The bags between thresholds of score. Contracts see the thresholds and the one list of accounts with the numbers
-/// of their bags, in the order of the walk.
+/// The bags between thresholds of score. Contracts see the thresholds and the one list of accounts
+/// with the numbers of their bags, in the order of the walk.
 #[derive(Drop)]
 pub struct Bags {
     thresholds: List<u64>,
@@ -30,7 +31,10 @@ impl Model for Bags {
     ghost use Rattle.voter_lists.specs.BagRows.{walk_from};
     ghost use Rattle.voter_lists.specs.Nodes.{bags_in, AreLinked};
 
-    ghost view = { λ b. record { thresholds = b.thresholds; order = walk_from 0 (bags_in b.nodes) } };
+    ghost view = { λ b. record {
+      thresholds = b.thresholds;
+      order = walk_from 0 (bags_in b.nodes);
+    } };
 
     ghost invariant = { λ b. AreLinked b.thresholds b.nodes };
 }
@@ -71,8 +75,8 @@ impl Bags {
         self.nodes.find(who).is_some()
     }
 
-    /// Moves the account to the tail of the bag of this score, where that is another one, and tells whether it was.
-    /// It takes no memory.
+    /// Moves the account to the tail of the bag of this score, where that is another one, and tells
+    /// whether it was. It takes no memory.
     pub fn update(&mut self, who: AccountId, score: u64) -> Result<bool, NoMemory>
         requires { is_listed self.old.order who ≡ true }
         ensures answer { IfOk result (λ changed. changed ≡ not (is_at_home self.old who score)) }
@@ -106,8 +110,8 @@ impl Bags {
         Ok(())
     }
 
-    /// Moves the account directly before a lighter one of its bag. In front of itself it stays where it is. It takes
-    /// no memory.
+    /// Moves the account directly before a lighter one of its bag. In front of itself it stays
+    /// where it is. It takes no memory.
     pub fn put_in_front(
         &mut self,
         who: AccountId,
@@ -146,7 +150,8 @@ impl Bags {
         self.nodes.first_below(self.nodes.count())
     }
 
-    /// The account after this one in the walk, from the highest bag down and within a bag from head to tail.
+    /// The account after this one in the walk, from the highest bag down and within a bag from head
+    /// to tail.
     pub fn next(&self, who: AccountId) -> Option<AccountId>
         requires { is_listed self.now.order who ≡ true }
         ensures { result ≡ account_after (walk self.now.order) who }
@@ -160,7 +165,8 @@ impl Bags {
         }
     }
 
-    /// The walk over all accounts, from the highest bag down and within a bag from head to tail. It comes to each once.
+    /// The walk over all accounts, from the highest bag down and within a bag from head to tail. It
+    /// comes to each once.
     pub fn walk(&self) -> Walk<'_>
         ensures accounts { result ≡ walk self.now.order }
         ensures once { IsDistinct same_account (walk self.now.order) }

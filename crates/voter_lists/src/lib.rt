@@ -1,5 +1,5 @@
-//! Who takes part in elections and how: the roles of accounts, and the bags by which nominators and validators
-//! are listed, after Substrate's staking and bags-list pallets.
+//! Who takes part in elections and how: the roles of accounts, and the bags by which nominators and
+//! validators are listed, after Substrate's staking and bags-list pallets.
 #![tactic(auto)]
 
 mod bags;

@@ -12,8 +12,8 @@ use npos_base::{AccountId, NoMemory};
 use std::alloc::Global;
 use std::collections::BTreeMap;
 
-/// A node for each listed account: its place among the accounts, and that place in the list of its bag. Places that
-/// were freed are in the list behind those of the bags, and are used again.
+/// A node for each listed account: its place among the accounts, and that place in the list of its
+/// bag. Places that were freed are in the list behind those of the bags, and are used again.
 #[derive(Drop)]
 pub(crate) struct Nodes {
     rings: Rings,
@@ -64,7 +64,8 @@ impl Nodes {
     /// A place in no bag, with room for its links.
     fn free_place(&mut self, who: AccountId) -> Result<usize, NoMemory>
         requires { IsStanding self.old }
-        ensures free { OnOk result (IfOk result (λ place. list_of self.new.rings place ≡ Some self.new.bags)) }
+        ensures free { OnOk result
+            (IfOk result (λ place. list_of self.new.rings place ≡ Some self.new.bags)) }
         ensures stays { Stays self.old self.new }
         ensures places { self.new.places.entries ≡ self.old.places.entries }
     {
@@ -84,7 +85,8 @@ impl Nodes {
         requires within { number < self.old.bags }
         requires absent { place_in self.old.places.entries who ≡ None }
         ensures ok { OnOk result (Becomes self.old self.new
-            (slice_set (bags_in self.old) number (slice_index_or (bags_in self.old) number [] ++ who ∷ []))
+            (slice_set (bags_in self.old) number (slice_index_or (bags_in self.old) number [] ++ who
+            ∷ []))
             who (Some number)) }
         ensures err { OnErr result (Stays self.old self.new) }
     {
@@ -100,7 +102,8 @@ impl Nodes {
         requires standing { IsStanding self.old }
         requires listed { home_of self.old who ≢ None }
         ensures { (number : ℕ) × (home_of self.old who ≡ Some number) × Becomes self.old self.new
-            (slice_set (bags_in self.old) number (without (slice_index_or (bags_in self.old) number []) who))
+            (slice_set (bags_in self.old) number
+            (without (slice_index_or (bags_in self.old) number []) who))
             who None }
     {
         let Some(place) = self.places.remove(&who) else {
@@ -120,7 +123,8 @@ impl Nodes {
         requires number { number < self.old.bags }
         requires apart { home ≢ number }
         ensures { (who : AccountId) → place_in self.old.places.entries who ≡ Some place
-            → Becomes self.old self.new (moved_bags (bags_in self.old) who home number) who (Some number) }
+            → Becomes self.old self.new (moved_bags (bags_in self.old) who home number) who
+            (Some number) }
     {
         self.relink(place, home, number);
     }
@@ -175,7 +179,8 @@ impl Nodes {
     /// The place at which a walk goes on, and its bag.
     pub(crate) fn next_place(&self, here: Option<usize>, number: usize) -> Option<(usize, usize)>
         requires { IsWalk self.now number here }
-        ensures some { IfSome result (λ at. (ahead self.now number here ≡ ahead self.now at.0 (Some at.1))
+        ensures some { IfSome result
+            (λ at. (ahead self.now number here ≡ ahead self.now at.0 (Some at.1))
             × (list_of self.now.rings at.1 ≡ Some at.0) × (at.0 < self.now.bags)) }
         ensures none { IfNone result (ahead self.now number here ≡ []) }
     {

@@ -7,11 +7,12 @@ use npos_base::NoMemory;
 use std::alloc::Global;
 use std::marker::Model;
 
-/// A fixed number of lists over small numbers, the keys. A key is in at most one list. Only `new` and `reserve_key`
-/// take memory.
+/// A fixed number of lists over small numbers, the keys. A key is in at most one list. Only `new`
+/// and `reserve_key` take memory.
 #[derive(Drop)]
 pub(crate) struct Rings {
-    // each list is a ring through its head: the head of list `n` is link `n`, the link of a key is `heads + key`
+    // each list is a ring through its head: the head of list `n` is link `n`, the link of a key is
+    // `heads + key`
     links: Vec<Link>,
     // the list of each key
     owners: Vec<Option<usize>>,

@@ -16,7 +16,8 @@ use std::alloc::Global;
 use std::collections::BTreeMap;
 use std::marker::Model;
 
-/// Who is a validator and who a nominator. Contracts see the list of accounts with their standings, by rising account.
+/// Who is a validator and who a nominator. Contracts see the list of accounts with their standings,
+/// by rising account.
 #[derive(Drop)]
 pub struct Roles {
     standings: BTreeMap<AccountId, Standing>,
@@ -58,7 +59,8 @@ impl Roles {
         Ok(())
     }
 
-    /// The account becomes a validator with this commission in billionths, in place of any role that it had.
+    /// The account becomes a validator with this commission in billionths, in place of any role
+    /// that it had.
     pub fn validate(&mut self, who: AccountId, commission: u32) -> Result<(), ListRefusal>
         ensures meets { Meets refusals.NoMemory (validate_refusal self.old who commission)
             (validating self.old who commission) self.old self.new result }
@@ -131,7 +133,8 @@ impl Roles {
         self.validators[i]
     }
 
-    /// The place of a validator among all by rising account. It is found in the logarithm of their number.
+    /// The place of a validator among all by rising account. It is found in the logarithm of their
+    /// number.
     pub fn rank(&self, who: AccountId) -> Option<u16>
         ensures place { result ≡ position (same_account who) (validators_of self.now) }
         ensures some { is_some result ≡ is_validator self.now who }

@@ -2,7 +2,8 @@
 
 use npos_base::{AccountId, List};
 
-/// The role of an account, as Substrate's staking pallet has it. A validator's commission is in billionths.
+/// The role of an account, as Substrate's staking pallet has it. A validator's commission is in
+/// billionths.
 #[derive(Clone, Copy, Debug, PartialEq, Eq, Hash)]
 pub enum Role {
     Nobody,

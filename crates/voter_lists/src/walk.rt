@@ -8,8 +8,9 @@ use crate::nodes::Nodes;
 use npos_base::AccountId;
 use std::marker::Model;
 
-/// A walk over the bags, from the highest bag down and within a bag from head to tail. Contracts see the accounts that
-/// it has still to come to. A whole walk looks at each account and each bag once, and takes no memory.
+/// A walk over the bags, from the highest bag down and within a bag from head to tail. Contracts
+/// see the accounts that it has still to come to. A whole walk looks at each account and each bag
+/// once, and takes no memory.
 #[derive(Drop)]
 pub struct Walk<'a> {
     nodes: &'a Nodes,

@@ -19,7 +19,8 @@ fn small(alloc: Global) -> Result<Snapshot, NoMemory> {
     }
 }
 
-/// The score of a target of the election and of a number past its targets, whatever was there before.
+/// The score of a target of the election and of a number past its targets, whatever was there
+/// before.
 fn score_of_two(weights: &mut Weights, first: u64, second: u64) -> Result<Score, NoMemory>
     requires { first + second < 2 ^ 64 }
 {
