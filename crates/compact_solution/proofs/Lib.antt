@@ -1,2 +1,6 @@
 pub mod Readers
 pub mod Writers
+pub mod PackLemmas
+pub mod GroupLemmas
+pub mod FitLemmas
+pub mod PackTests

@@ -1,3 +1,5 @@
 pub mod Solution
 pub mod SolutionLaws
 pub mod Decoded
+pub mod Packing
+pub mod Choosing

@@ -1,6 +1,6 @@
 //! Entries: a voter, its targets and their shares.
 ghost use Rattle.std.specs.Prelude.{◌≡◌, ◌+◌, ◌<◌, ◌≤◌, [], ◌∷◌, ◌++◌, length, slice_index};
-ghost use Rattle.compact_solution.specs.Solution.{targets_of, parts_of};
+ghost use Rattle.compact_solution.specs.Solution.{group_count, targets_of, parts_of};
 
 use std::marker::Model;
 
@@ -141,4 +141,11 @@ impl Entry {
     {
         self.last
     }
+}
+
+/// How many groups there are.
+pub(crate) fn group_count() -> usize
+    ensures { result ≡ group_count }
+{
+    GROUPS
 }

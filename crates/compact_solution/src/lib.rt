@@ -2,7 +2,10 @@
 //! out, and back.
 #![tactic(auto)]
 
+mod choosing;
 mod entry;
+mod listing;
+mod packing;
 mod reading;
 mod solution;
 #[cfg(test)]
@@ -10,4 +13,5 @@ mod tests;
 mod writing;
 
 pub use entry::{Entry, GROUPS, Share};
+pub use packing::{PackFault, pack};
 pub use solution::Solution;

@@ -1,11 +1,11 @@
 //! Solutions: decoded from bytes, read by groups, encoded again.
 ghost use Rattle.std.specs.Prelude.{◌≡◌, ◌-◌, ◌≤◌, [], length, IfOk, slice_index_or};
 ghost use Rattle.scale_wire.specs.Reading.{ReadsWhole};
-ghost use Rattle.compact_solution.specs.Solution.{group_count, solution_form};
+ghost use Rattle.compact_solution.specs.Solution.{solution_form};
 ghost use Rattle.scale_wire.specs.WholeReading.{AnswersAs};
 ghost use Rattle.compact_solution.specs.SolutionLaws.{solution_laws};
 
-use crate::entry::{Entry, GROUPS};
+use crate::entry::{Entry, GROUPS, group_count};
 use crate::reading::read_group;
 use crate::writing::write_groups;
 use npos_base::{List, NoMemory};
@@ -33,6 +33,14 @@ impl Model for Solution {
 }
 
 impl Solution {
+    /// The solution of these groups.
+    pub(crate) fn of_groups(groups: Vec<List<Entry>>) -> Solution
+        requires { solution_form.in_range groups.items }
+        ensures { result ≡ groups.items }
+    {
+        Solution { groups }
+    }
+
     /// The solution that the bytes spell. They must be the whole input: where they spell none, the
     /// fault names the place of the first part that is refused and the first reason that applies to
     /// it, and the first byte behind a solution is refused as `Trailing`. Memory is taken for
@@ -94,11 +102,4 @@ impl Wire for Solution {
         *cursor = here;
         Ok(Solution { groups })
     }
-}
-
-// How many groups there are.
-fn group_count() -> usize
-    ensures { result ≡ group_count }
-{
-    GROUPS
 }

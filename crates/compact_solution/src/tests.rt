@@ -1,5 +1,8 @@
 //! Solutions that are read and written, and bytes that are refused.
-use crate::{GROUPS, Solution};
+ghost use Rattle.std.specs.Prelude.{◌≡◌};
+
+use crate::{GROUPS, PackFault, Solution, pack};
+use npos_base::{Edge, NoMemory};
 use scale_wire::fault::{ReadFault, Why, WireFault};
 use std::alloc::Global;
 use std::fmt::Write;
@@ -81,4 +84,37 @@ fn bytes_are_refused_where_they_should(rt: HostRuntime) {
     for (bytes, at, why) in REFUSED {
         assert_eq!(rt; fault_of(rt.alloc(), bytes), Some(WireFault { at, why }));
     }
+}
+
+// An edge of a voter to a target with an amount.
+fn edge(voter: u32, target: u16, amount: u64) -> Edge
+    ensures { result ≡ record { voter = voter; target = target; amount = amount } }
+{
+    Edge {
+        voter,
+        target,
+        amount,
+    }
+}
+
+// The entries that the weights pack to, or the member that is lost.
+fn told(alloc: Global, packed: Result<Solution, PackFault>) -> Result<Result<String, u16>, Fail> {
+    match packed {
+        Ok(solution) => Ok(Ok(listed(alloc, &solution)?)),
+        Err(PackFault::LostWinner(member)) => Ok(Err(member)),
+        Err(PackFault::NoMemory) => Err(Fail::from(NoMemory)),
+    }
+}
+
+#[test]
+fn weights_are_packed(rt: HostRuntime) -> Result<(), Fail> {
+    let even = "1: 1 0\n2: 0 0*10922 1\n";
+    let alloc = rt.alloc();
+    let edges = [edge(0, 1, 50), edge(1, 0, 40), edge(0, 0, 10)];
+    let solution = told(alloc, pack(alloc, &[60, 40], &[1, 0], &edges))?;
+    assert_eq!(rt; solution.as_deref(), Ok(even));
+    let edges = [edge(0, 0, 1), edge(0, 1, 999_999)];
+    let lost = told(alloc, pack(alloc, &[1_000_000], &[0, 1], &edges))?;
+    assert_eq!(rt; lost.err(), Some(0));
+    Ok(())
 }

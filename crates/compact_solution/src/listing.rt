@@ -1,0 +1,186 @@
+//! The entries of kept edges, and the members that are lost.
+ghost use Rattle.std.specs.Prelude.{◌≡◌, ◌≢◌, ◌<◌, ◌≤◌, ◌-◌, ◌||◌, ℕ, All, [], ◌∷◌, ◌++◌, false, map, length, IfOk, OnOk, slice_index_or, slice_set};
+ghost use Rattle.std.specs.List.{list_any};
+ghost use Rattle.compact_solution.specs.Packing.{leads_to, lost_among, entry_of, share_of, groups_of, lower as lower_of};
+ghost use Rattle.compact_solution.specs.Choosing.{Fits, AreMarks, AllKeptFit, empty_groups};
+
+use crate::choosing::parts_in;
+use crate::entry::{Entry, GROUPS, Share, Shares, group_count};
+use npos_base::{Edge, List, NoMemory};
+use std::alloc::Global;
+
+/// How many targets a `u16` can name.
+const NAMES: usize = 65_536;
+
+/// The lowest member to which no edge is kept.
+pub(crate) fn lowest_lost(
+    alloc: Global,
+    kept: &[List<Edge>],
+    members: &[u16],
+) -> Result<Option<u16>, NoMemory>
+    ensures { IfOk result (λ lost. lost ≡ lost_among kept.now members.now) }
+{
+    let mut marks = no_marks(alloc, NAMES)?;
+    mark_all(&mut marks, kept);
+    Ok(lowest_unmarked(&marks, kept, members))
+}
+
+/// As many marks, none of them set.
+fn no_marks(alloc: Global, count: usize) -> Result<Vec<bool>, NoMemory>
+    ensures count { IfOk result (λ marks. length marks.items ≡ count) }
+    ensures none { IfOk result (λ marks. (k : ℕ) → slice_index_or marks.items k false ≡ false) }
+{
+    let marks = vec![in alloc; false; count]?;
+    Ok(marks)
+}
+
+/// Marks the targets of all edges.
+#[tactic(auto, using(crate::proofs::PackLemmas::marks_more))]
+fn mark_all(marks: &mut [bool], kept: &[List<Edge>])
+    requires { AreMarks [] marks.old }
+    ensures { AreMarks kept.now marks.new }
+{
+    for edges in kept {
+        mark(marks, edges.as_slice());
+    }
+}
+
+/// Marks the targets of the edges.
+#[tactic(auto, using(crate::proofs::PackLemmas::mark_more))]
+fn mark(marks: &mut [bool], edges: &[Edge])
+    requires { length marks.old ≡ NAMES }
+    ensures count { length marks.new ≡ length marks.old }
+    ensures marked { (target : ℕ) → target < NAMES → slice_index_or marks.new target false
+        ≡ (slice_index_or marks.old target false || list_any (leads_to target) edges.now) }
+{
+    for edge in edges {
+        marks[usize::from(edge.target)] = true;
+    }
+}
+
+/// The lowest member that is not marked.
+#[tactic(auto, using(crate::proofs::PackLemmas::lost_more))]
+fn lowest_unmarked(marks: &[bool], _kept: &[List<Edge>], members: &[u16]) -> Option<u16>
+    requires { AreMarks _kept.now marks.now }
+    ensures { result ≡ lost_among _kept.now members.now }
+{
+    let mut lowest = None;
+    for member in members {
+        if !marks[usize::from(*member)] {
+            lowest = lower(lowest, *member);
+        }
+    }
+    lowest
+}
+
+/// The lower of the lowest so far and the next member.
+fn lower(lowest: Option<u16>, member: u16) -> Option<u16>
+    ensures { result ≡ lower_of lowest member }
+{
+    match lowest {
+        Some(least) => Some(least.min(member)),
+        None => Some(member),
+    }
+}
+
+/// The entries by the number of their targets, each group by rising voter.
+pub(crate) fn list_entries(
+    alloc: Global,
+    stakes: &[u64],
+    kept: &[List<Edge>],
+) -> Result<Vec<List<Entry>>, NoMemory>
+    requires count { length kept.now ≡ length stakes.now }
+    requires voters { length stakes.now ≤ 65536 }
+    requires few { All (λ edges. length edges ≤ GROUPS) kept.now }
+    requires fit { AllKeptFit stakes.now kept.now }
+    ensures { IfOk result (λ groups. groups.items
+        ≡ groups_of stakes.now kept.now (length stakes.now)) }
+{
+    let mut groups = no_groups(alloc)?;
+    list_all(&mut groups, stakes, kept)?;
+    Ok(groups)
+}
+
+/// Appends the entries of all voters to their groups.
+fn list_all(groups: &mut [List<Entry>], stakes: &[u64], kept: &[List<Edge>]) -> Result<(), NoMemory>
+    requires empty { groups.old ≡ empty_groups }
+    requires count { length kept.now ≡ length stakes.now }
+    requires voters { length stakes.now ≤ 65536 }
+    requires few { All (λ edges. length edges ≤ GROUPS) kept.now }
+    requires fit { AllKeptFit stakes.now kept.now }
+    ensures { OnOk result (groups.new ≡ groups_of stakes.now kept.now (length stakes.now)) }
+{
+    for voter in 0..stakes.len() {
+        list_entry(groups, voter as u32, stakes[voter], kept[voter].as_slice())?;
+    }
+    Ok(())
+}
+
+/// Appends the entry of a voter that keeps these edges to its group. One that keeps none has none.
+fn list_entry(
+    groups: &mut [List<Entry>],
+    voter: u32,
+    stake: u64,
+    kept: &[Edge],
+) -> Result<(), NoMemory>
+    requires groups { length groups.old ≡ GROUPS }
+    requires few { length kept.now ≤ GROUPS }
+    requires fit { All (Fits stake) kept.now }
+    ensures none { length kept.now ≡ 0 → groups.new ≡ groups.old }
+    ensures some { 0 < length kept.now → OnOk result (groups.new
+        ≡ slice_set groups.old (length kept.now - 1)
+        (slice_index_or groups.old (length kept.now - 1) [] ++ entry_of voter stake kept.now ∷ [])) }
+{
+    if !kept.is_empty() {
+        let entry = entry_of(voter, stake, kept);
+        put(&mut groups[kept.len() - 1], entry)?;
+    }
+    Ok(())
+}
+
+/// Appends the entry.
+fn put(group: &mut List<Entry>, entry: Entry) -> Result<(), NoMemory>
+    ensures { OnOk result (group.new ≡ group.old ++ entry ∷ []) }
+{
+    group.push(entry).map_err(|_| NoMemory)
+}
+
+/// As many empty groups as a solution has.
+#[tactic(auto, using(crate::proofs::GroupLemmas::groups_more))]
+fn no_groups(alloc: Global) -> Result<Vec<List<Entry>>, NoMemory>
+    ensures { IfOk result (λ groups. groups.items ≡ empty_groups) }
+{
+    let mut groups = Vec::with_capacity(alloc, GROUPS)?;
+    for _ in 0..group_count() {
+        groups.push(List::new(alloc))?;
+    }
+    Ok(groups)
+}
+
+/// The entry of a voter that keeps these edges, of which there is one at least.
+fn entry_of(voter: u32, stake: u64, kept: &[Edge]) -> Entry
+    requires some { 0 < length kept.now }
+    requires few { length kept.now ≤ GROUPS }
+    requires fit { All (Fits stake) kept.now }
+    ensures { result ≡ entry_of voter stake kept.now }
+{
+    let last = kept.len() - 1;
+    let shares = list_shares(stake, &kept[..last]);
+    Entry::new(voter, shares, kept[last].target)
+}
+
+/// The shares of edges.
+fn list_shares(stake: u64, edges: &[Edge]) -> Shares
+    requires few { length edges.now < GROUPS }
+    requires fit { All (Fits stake) edges.now }
+    ensures { result ≡ map (share_of stake) edges.now }
+{
+    let mut shares = Shares::new();
+    for edge in edges {
+        shares.push(Share {
+            target: edge.target,
+            parts: parts_in(stake, *edge),
+        });
+    }
+    shares
+}
