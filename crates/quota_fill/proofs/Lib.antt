@@ -1,0 +1,3 @@
+pub mod InLemmas
+pub mod OrderLemmas
+pub mod PickLemmas
