@@ -1,10 +1,14 @@
 pub mod Rules
 pub mod Refusals
 pub mod Stops
+pub mod Committee
 pub mod Outcome
 pub mod Ballots
 pub mod Rounds
 pub mod Lists
+pub mod Deposits
+pub mod Signed
+pub mod Decision
 pub mod Calls
 pub mod Step
 pub mod Genesis

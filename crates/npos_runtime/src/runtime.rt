@@ -11,10 +11,12 @@ use crate::begin::begin;
 use crate::step::take_block;
 use crate::{Chain, GenesisFault, Line};
 use block_wire::{Block, Genesis};
+use election_check::Elected;
 use npos_base::{List, NoMemory};
 use stake_ledger::{Book, Totals};
 use std::alloc::Global;
 use std::marker::Model;
+use submission_queue::Queue;
 use thiserror::Error;
 use voter_lists::{Bags, Roles};
 
@@ -147,6 +149,22 @@ impl Runtime {
         ensures { result.now ≡ self.now.state.bags }
     {
         &self.chain.bags
+    }
+
+    /// The submissions that wait to be judged.
+    pub fn queue(&self) -> &Queue
+        ensures { result.now ≡ self.now.state.queue }
+    {
+        &self.chain.queue
+    }
+
+    /// The committee that waits for its era. There is none from an era's start to the next
+    /// decision, nor after a void round.
+    pub fn seated(&self) -> Option<&Elected> {
+        match &self.chain.waiting {
+            Some(waiting) => Some(&waiting.elected),
+            None => None,
+        }
     }
 
     /// The sums over the books. All holdings equal genesis plus minted less burned, also where the runtime is spent.

@@ -7,6 +7,7 @@ ghost use Rattle.npos_runtime.specs.Live.{IsLive};
 
 use crate::act::act;
 use crate::ballot::take_snapshot;
+use crate::decision::decide_round;
 use crate::rules::{begun_era, begun_round};
 use crate::stop::Stop;
 use crate::{Chain, Line};
@@ -14,13 +15,14 @@ use block_wire::Call;
 use npos_base::NoMemory;
 use std::alloc::Global;
 
-/// An era may begin.
-fn begin_era(chain: &Chain, lines: &mut Vec<Line>) -> Result<(), NoMemory>
-    requires { IsLive chain.now }
-    ensures { OnOk result (Goes (era_phase chain.now) chain.now lines.old.items lines.new.items) }
+/// An era may begin. Then nobody waits any more.
+fn begin_era(chain: &mut Chain, lines: &mut Vec<Line>) -> Result<(), NoMemory>
+    requires { IsLive chain.old }
+    ensures { OnOk result (Goes (era_phase chain.old) chain.new lines.old.items lines.new.items) }
 {
     if let Some(era) = begun_era(&chain.params, chain.due) {
         lines.push(Line::Era { era })?;
+        chain.waiting = None;
     }
     Ok(())
 }
@@ -40,6 +42,7 @@ fn begin_round(alloc: Global, chain: &mut Chain, lines: &mut Vec<Line>) -> Resul
 
 /// One call, at its place in the block.
 fn take_call(
+    alloc: Global,
     chain: &mut Chain,
     lines: &mut Vec<Line>,
     index: u32,
@@ -49,20 +52,31 @@ fn take_call(
     ensures { OnOk result (Goes (call_outcome index call chain.old) chain.new lines.old.items lines.new.items) }
 {
     let Call { who, kind } = call;
-    let line = match act(chain, who, kind) {
-        Ok(()) => Line::CallOk { index },
-        Err(Stop::Refused(refusal)) => Line::CallRefused {
-            index,
-            code: refusal.code(),
-        },
-        Err(Stop::NoMemory) => return Err(NoMemory),
-    };
-    lines.push(line)?;
-    Ok(())
+    let mut more = Vec::new(alloc);
+    match act(chain, &mut more, who, kind) {
+        Ok(()) => {
+            lines.push(Line::CallOk { index })?;
+            lines.extend_from_slice(more.as_slice())?;
+            Ok(())
+        }
+        Err(Stop::Refused(refusal)) => {
+            lines.push(Line::CallRefused {
+                index,
+                code: refusal.code(),
+            })?;
+            Ok(())
+        }
+        Err(Stop::NoMemory) => Err(NoMemory),
+    }
 }
 
 /// The calls in order.
-fn take_calls(chain: &mut Chain, lines: &mut Vec<Line>, calls: Vec<Call>) -> Result<(), NoMemory>
+fn take_calls(
+    alloc: Global,
+    chain: &mut Chain,
+    lines: &mut Vec<Line>,
+    calls: Vec<Call>,
+) -> Result<(), NoMemory>
     requires live { IsLive chain.old }
     requires few { length calls.items < 2 ^ 32 }
     ensures goes { OnOk result (Goes (calls_outcome 0 calls.items chain.old) chain.new lines.old.items lines.new.items) }
@@ -70,7 +84,7 @@ fn take_calls(chain: &mut Chain, lines: &mut Vec<Line>, calls: Vec<Call>) -> Res
 {
     let mut index = 0;
     'turns: for call in calls {
-        take_call(chain, lines, index, call)?;
+        take_call(alloc, chain, lines, index, call)?;
         index += 1;
     }
     Ok(())
@@ -93,7 +107,8 @@ pub fn take_block(
     lines.push(Line::Block { number })?;
     begin_era(chain, lines)?;
     begin_round(alloc, chain, lines)?;
-    take_calls(chain, lines, calls)?;
+    decide_round(alloc, chain, lines)?;
+    take_calls(alloc, chain, lines, calls)?;
     chain.due += 1;
     Ok(())
 }
