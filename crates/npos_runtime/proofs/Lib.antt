@@ -12,3 +12,6 @@ pub mod LiveLemmas
 pub mod EndowLemmas
 pub mod BeginLemmas
 pub mod OutcomeLemmas
+pub mod DepositLemmas
+pub mod OfferLemmas
+pub mod DecisionLemmas

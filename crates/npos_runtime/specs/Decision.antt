@@ -59,11 +59,13 @@ forfeit_line snapshot item = lines.Forfeit item.number item.deposit (judged snap
 abbrev pub reward_in : ℕ → Ledger → ℕ
 reward_in reward book = min reward (room_of book)
 
+abbrev pub rewarded : ℕ → Ledger → Submission → Ledger
+rewarded reward book winner = minted_free winner.who (reward_in reward book) book
+
 -- The winner gets its deposit back and the reward, and the others behind it get their deposits back.
 abbrev pub paid_out : ℕ → List Submission → Ledger → Ledger
 paid_out reward [] book = book
-paid_out reward (winner ∷ rest) book =
-    all_returned rest (minted_free winner.who (reward_in reward (returned book winner)) (returned book winner))
+paid_out reward (winner ∷ rest) book = all_returned rest (rewarded reward (returned book winner) winner)
 
 abbrev pub paid_lines : ℕ → List Submission → Ledger → List Line
 paid_lines reward [] book = []
@@ -103,12 +105,12 @@ abbrev pub books_decided : ℕ → Snapshot → List Submission → Ledger → L
 books_decided reward snapshot items book =
     paid_out reward (others snapshot items) (all_burned (losers snapshot items) book)
 
-abbrev pub lines_decided : ℕ → ℕ → Snapshot → List Submission → Ledger → List Line
-lines_decided number reward snapshot items book =
+-- what is told of the deposits, and whose committee it is
+abbrev pub deposit_lines : ℕ → ℕ → Snapshot → List Submission → Ledger → List Line
+deposit_lines number reward snapshot items book =
     map (forfeit_line snapshot) (losers snapshot items)
     ++ (paid_lines reward (others snapshot items) (all_burned (losers snapshot items) book)
-    ++ (seat_line number (others snapshot items)
-    ∷ member_lines snapshot (rising snapshot (decided_weights snapshot (others snapshot items)))))
+    ++ seat_line number (others snapshot items) ∷ [])
 
 -- the round of this number, with this snapshot, is decided
 abbrev pub decided : ℕ → Snapshot → List ℕ → Chain → Outcome
@@ -119,7 +121,8 @@ decided number snapshot commissions chain = record {
     queue = empty_queue chain.queue.places;
     waiting = Some (committee_of snapshot commissions chain.queue.items);
   };
-  lines = lines_decided number (reward_of chain.params) snapshot chain.queue.items chain.book;
+  lines = deposit_lines number (reward_of chain.params) snapshot chain.queue.items chain.book
+      ++ member_lines snapshot (committee_of snapshot commissions chain.queue.items).weights;
   seated = record {
     round = number;
     snapshot = snapshot;

@@ -1,5 +1,5 @@
 -- The deposits of submissions: what is held, and what becomes of it.
-use Rattle.std.specs.Prelude.{◌≡◌, ℕ, IsTrue, is_some, List, [], ◌∷◌, map, fold, sum_by, All, if◌then◌else◌}
+use Rattle.std.specs.Prelude.{◌≡◌, ℕ, true, is_some, List, [], ◌∷◌, map, fold, sum_by, All, if◌then◌else◌}
 use Rattle.npos_base.specs.declared.account.AccountId.{AccountId}
 use Rattle.npos_base.specs.Account.{same_account}
 use Rattle.stake_ledger.specs.Ledger.{Ledger, row_at, row_of}
@@ -10,12 +10,12 @@ use Rattle.npos_runtime.specs.declared.line.Line.TheVariants as lines
 
 -- the deposits of the account's submissions among these
 abbrev pub deposits_of : AccountId → List Submission → ℕ
-deposits_of who items = sum_by (λ item. if same_account item.who who then item.deposit else 0) items
+deposits_of who items = sum_by (λ item. if same_account who item.who then item.deposit else 0) items
 
 -- what is held of each account is the deposits of its submissions among these, and each of their accounts is known
 pub record AreHeld (book : Ledger) (items : List Submission) : Type 0 where
   pub held : (who : AccountId) → (row_at book who).held ≡ deposits_of who items
-  pub known : All (λ item. IsTrue (is_some (row_of book item.who))) items
+  pub known : All (λ item. is_some (row_of book item.who) ≡ true) items
 
 -- the deposit is free again
 abbrev pub returned : Ledger → Submission → Ledger

@@ -15,3 +15,5 @@ pub mod Genesis
 pub mod Live
 pub mod Life
 pub mod Polling
+pub mod Fates
+pub mod Laws

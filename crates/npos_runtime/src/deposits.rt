@@ -1,7 +1,8 @@
 //! What becomes of deposits, and what is told of it.
 ghost use Rattle.std.specs.Prelude.{◌≡◌, ◌++◌, ◌≤◌, [], ◌∷◌, OnOk};
 ghost use Rattle.stake_ledger.specs.Ledger.{row_at};
-ghost use Rattle.npos_runtime.specs.Deposits.{returned, all_returned, return_line, return_lines};
+ghost use Rattle.submission_queue.specs.Ranking.{empty_queue};
+ghost use Rattle.npos_runtime.specs.Deposits.{AreHeld, returned, all_returned, return_line, return_lines};
 
 use crate::Line;
 use npos_base::NoMemory;
@@ -26,13 +27,20 @@ pub fn return_deposit(
     Ok(())
 }
 
-/// The deposits of all that wait are free again, by rank.
+/// The deposits of all that wait are free again, by rank, and nobody waits then.
+#[tactic(auto, using(crate::proofs::DepositLemmas::front, crate::proofs::DepositLemmas::held_within, crate::proofs::DepositLemmas::held_returned))]
 pub fn return_all(
     book: &mut Book,
     lines: &mut Vec<Line>,
     queue: &mut Queue,
-) -> Result<(), NoMemory> {
-    while let Some(item) = queue.take_best() {
+) -> Result<(), NoMemory>
+    requires { AreHeld book.old queue.old.items }
+    ensures book { OnOk result (book.new ≡ all_returned queue.old.items book.old) }
+    ensures lines { OnOk result
+        (lines.new.items ≡ lines.old.items ++ return_lines queue.old.items) }
+    ensures queue { OnOk result (queue.new ≡ empty_queue queue.old.places) }
+{
+    'items: while let Some(item) = queue.take_best() {
         return_deposit(book, lines, &item)?;
     }
     Ok(())

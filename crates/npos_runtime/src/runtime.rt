@@ -2,8 +2,10 @@
 ghost use Rattle.std.specs.Prelude.{◌≡◌, ◌≢◌, ◌<◌, ◌≤◌, ◌^◌, true, false, length, None, Err, OnOk, IfOk, IfErr};
 ghost use Rattle.stake_ledger.specs.Ledger.{IsBalanced, totals_of};
 ghost use Rattle.npos_runtime.specs.Genesis.{IsFault, endowments_of, genesis_chain, genesis_fault, thresholds_of};
+ghost use Rattle.std.specs.Option.{option_copied};
 ghost use Rattle.npos_runtime.specs.Life.{AppliesWell, HasFault};
-ghost use Rattle.npos_runtime.specs.Live.{IsLive, IsJoined};
+ghost use Rattle.npos_runtime.specs.Committee.{IsSeated};
+ghost use Rattle.npos_runtime.specs.Live.{IsReady, IsJoined};
 ghost use Rattle.npos_runtime.specs.declared.runtime.BlockFault.TheVariants as faults;
 ghost use Rattle.npos_runtime.specs.declared.runtime.BlockFault.TheVariants.{NoMemory as NoMemoryFault};
 
@@ -59,13 +61,13 @@ pub struct Runtime {
 impl Model for Runtime {
     ghost use Rattle.std.specs.Prelude.{◌≡◌, false};
     ghost use Rattle.npos_runtime.specs.Life.{Life};
-    ghost use Rattle.npos_runtime.specs.Live.{IsLive};
+    ghost use Rattle.npos_runtime.specs.Live.{IsReady};
 
     ghost Value = { Life };
 
     ghost view = { λ r. record { state = r.chain; spent = r.spent } };
 
-    ghost invariant = { λ r. r.spent ≡ false → IsLive r.chain };
+    ghost invariant = { λ r. r.spent ≡ false → IsReady r.chain };
 }
 
 impl Runtime {
@@ -160,7 +162,9 @@ impl Runtime {
 
     /// The committee that waits for its era. There is none from an era's start to the next
     /// decision, nor after a void round.
-    pub fn seated(&self) -> Option<&Elected> {
+    pub fn seated(&self) -> Option<&Elected>
+        ensures { IsSeated self.now.state.waiting (option_copied result) }
+    {
         match &self.chain.waiting {
             Some(waiting) => Some(&waiting.elected),
             None => None,
@@ -171,7 +175,7 @@ impl Runtime {
     pub fn totals(&self) -> Totals
         ensures value { result ≡ totals_of self.now.state.book }
         ensures balanced { IsBalanced self.now.state.book }
-        ensures live { self.now.spent ≡ false → IsLive self.now.state }
+        ensures ready { self.now.spent ≡ false → IsReady self.now.state }
     {
         self.chain.book.totals()
     }

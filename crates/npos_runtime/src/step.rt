@@ -3,7 +3,7 @@ ghost use Rattle.std.specs.Prelude.{◌≡◌, ◌+◌, ◌<◌, ◌≤◌, ◌^
 ghost use Rattle.npos_runtime.specs.Outcome.{Goes, Outcome};
 ghost use Rattle.npos_runtime.specs.Step.{call_outcome, calls_outcome, era_phase, opened, step};
 ghost use Rattle.npos_runtime.specs.Rounds.{round_phase};
-ghost use Rattle.npos_runtime.specs.Live.{IsLive};
+ghost use Rattle.npos_runtime.specs.Live.{IsLive, IsReady};
 
 use crate::act::act;
 use crate::ballot::take_snapshot;
@@ -48,7 +48,8 @@ fn take_call(
     index: u32,
     call: Call,
 ) -> Result<(), NoMemory>
-    requires { IsLive chain.old }
+    requires live { IsLive chain.old }
+    requires numbers { chain.old.next + 1 < 2 ^ 64 }
     ensures { OnOk result (Goes (call_outcome index call chain.old) chain.new lines.old.items lines.new.items) }
 {
     let Call { who, kind } = call;
@@ -79,6 +80,7 @@ fn take_calls(
 ) -> Result<(), NoMemory>
     requires live { IsLive chain.old }
     requires few { length calls.items < 2 ^ 32 }
+    requires numbers { chain.old.next + length calls.items < 2 ^ 64 }
     ensures goes { OnOk result (Goes (calls_outcome 0 calls.items chain.old) chain.new lines.old.items lines.new.items) }
     ensures live_after { OnOk result (IsLive chain.new) }
 {
@@ -98,11 +100,11 @@ pub fn take_block(
     number: u32,
     calls: Vec<Call>,
 ) -> Result<(), NoMemory>
-    requires live { IsLive chain.old }
+    requires ready { IsReady chain.old }
     requires few { length calls.items < 2 ^ 32 }
     requires due { number ≡ chain.old.due }
     ensures goes { OnOk result (Goes (step chain.old (record { number = number; calls = calls.items })) chain.new lines.old.items lines.new.items) }
-    ensures live_after { OnOk result (IsLive chain.new) }
+    ensures ready_after { OnOk result (IsReady chain.new) }
 {
     lines.push(Line::Block { number })?;
     begin_era(chain, lines)?;
