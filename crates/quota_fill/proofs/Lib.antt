@@ -1,0 +1,6 @@
+pub mod DrawLemmas
+pub mod EdgeLemmas
+pub mod InLemmas
+pub mod OrderLemmas
+pub mod PassingLemmas
+pub mod PickLemmas
