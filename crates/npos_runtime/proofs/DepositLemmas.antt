@@ -112,3 +112,8 @@ held_more book item items are = record {
       (known_all book (deposit_held item.who item.deposit book) items
       (λ q known. known-changed item.who (rows.deposited item.deposit) book q ∙ or_true (same_account q item.who) (is_some (row_of book q)) known) are.known);
 }
+
+-- the account of the first is known still, once its deposit is returned
+pub known_returned : (book : Ledger) (item : Submission) (rest : List Submission) → AreHeld book (item ∷ rest) → is_some (row_of (returned book item) item.who) ≡ true
+known_returned book item rest are =
+    known-returned item.who item.deposit book item.who (held_within book (item ∷ rest) item rest are refl) ∙ known_first book item rest are

@@ -15,3 +15,8 @@ pub mod OutcomeLemmas
 pub mod DepositLemmas
 pub mod OfferLemmas
 pub mod DecisionLemmas
+pub mod BookLemmas
+pub mod ElectorateLemmas
+pub mod SeatLemmas
+pub mod VerdictLemmas
+pub mod SubmitLemmas

@@ -35,7 +35,7 @@ replaced_permutation xs x last some is =
     (IsPermutation-append_right (last ∷ []) (x ∷ ys) (placed ys x) (placed_permutation ys x)))
 
 -- what an offer that is taken does
-record IsTaken (queue : Ranking) (item : Submission) : Type 0 where
+pub record IsTaken (queue : Ranking) (item : Submission) : Type 0 where
   pub moved : IsPermutation (item ∷ queue.items) (ejected queue item ++ (offered queue item).items)
   pub ordered : IsOrdered (offered queue item)
 

@@ -1,5 +1,5 @@
 //! The decision of a round.
-ghost use Rattle.std.specs.Prelude.{◌≡◌, ◌++◌, ◌≤◌, [], ◌∷◌, drop, is_some, true, map, slice_get, OnOk, IfOk, IfSome};
+ghost use Rattle.std.specs.Prelude.{◌≡◌, ◌++◌, ◌<◌, ◌≤◌, [], ◌∷◌, length, drop, is_some, true, map, slice_get, OnOk, IfOk, IfSome};
 ghost use Rattle.stake_ledger.specs.Ledger.{row_at, row_of};
 ghost use Rattle.stake_ledger.specs.Calls.{minted_free};
 ghost use Rattle.submission_queue.specs.Ranking.{empty_queue};
@@ -221,21 +221,32 @@ fn decide(
         }
         None => {
             lines.push(Line::SeatFill { round: number })?;
-            seat_fill(alloc, checker)
+            let elected = seat_fill(alloc, checker)?;
+            Ok(elected)
         }
     }
 }
 
+/// The line of a member.
+#[tactic(auto, using(crate::proofs::SeatLemmas::stands_at))]
+fn member_line(elected: &Elected, member: u16) -> Line
+    requires { member < length elected.now.snapshot.targets }
+    ensures { result ≡ member_line elected.now.snapshot elected.now.weights.plain member }
+{
+    Line::Member {
+        who: elected.snapshot().target(member),
+        support: elected.support(member),
+    }
+}
+
 /// Tells the members by rising position.
+#[tactic(auto, using(crate::proofs::SeatLemmas::member_next))]
 fn tell_members(lines: &mut Vec<Line>, elected: &Elected) -> Result<(), NoMemory>
     ensures { OnOk result (lines.new.items
         ≡ lines.old.items ++ member_lines elected.now.snapshot elected.now.weights.plain) }
 {
     for member in elected.committee() {
-        lines.push(Line::Member {
-            who: elected.snapshot().target(*member),
-            support: elected.support(*member),
-        })?;
+        lines.push(member_line(elected, *member))?;
     }
     Ok(())
 }

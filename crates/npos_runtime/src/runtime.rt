@@ -72,7 +72,7 @@ impl Model for Runtime {
 
 impl Runtime {
     /// The chain of a genesis, or the first fault that the genesis has.
-    #[tactic(auto, using(crate::proofs::BeginLemmas::live_begun))]
+    #[tactic(auto, using(crate::proofs::BeginLemmas::ready_begun))]
     pub fn start(alloc: Global, genesis: Genesis) -> Result<Runtime, GenesisFault>
         requires few_endowments { length (endowments_of genesis) ≤ 65536 }
         requires few_thresholds { length (thresholds_of genesis) ≤ 200 }
