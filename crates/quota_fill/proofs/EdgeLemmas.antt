@@ -1,5 +1,5 @@
 -- The edges of a fill: what they sum to by voter and by target, and how they stand.
-use Rattle.std.proofs.Common.{◌≡◌, ℕ, zero, suc, ◌+◌, ◌-◌, ◌*◌, ◌/◌, ◌<◌, ◌≤◌, ◌⊎◌, min, Bool, true, false, cond, nat_eq, nat_lt, ltb, List, [], ◌∷◌, ◌++◌, length, map, filter, sum_by, inl, inr, refl, ap, sym, subst, ◌∙◌, arith}
+use Rattle.std.proofs.Common.{◌≡◌, ℕ, zero, suc, ◌+◌, ◌*◌, ◌/◌, ◌<◌, ◌≤◌, ◌⊎◌, min, Bool, true, false, cond, nat_eq, nat_lt, List, [], ◌∷◌, length, map, filter, sum_by, inl, inr, refl, ap, sym, subst, ◌∙◌, arith}
 use Rattle.std.specs.List.{flat_map, range_with_len}
 use Rattle.std.proofs.Math.Nat.{mul-div_cancel}
 use Rattle.std.proofs.lemmas.Bool.{cases_Bool, cases_eq, cases_lt, cond-true, cond-false, lt-ltb, le-ltb, eq-eqb, ne_eqb, eqb-true, or_left, or_right, true≢false}
@@ -9,7 +9,7 @@ use Rattle.std.proofs.lemmas.List.Concat.{flat_map-cons}
 use Rattle.npos_base.specs.declared.figures.Edge.{Edge}
 use Rattle.election_snapshot.specs.Snapshot.{Snapshot, has, nominates, stake_of, threshold}
 use Rattle.weight_book.specs.Weights.{edges_from, edges_to, amount_sum, support, spent}
-use Rattle.weight_book.specs.Passing.{pay, paid, slack}
+use Rattle.weight_book.specs.Passing.{pay, slack}
 use Rattle.weight_book.proofs.SumLemmas.{sum_filter-cons, sum_of_sums, sum_of_none, sum_same}
 use Rattle.quota_fill.specs.Filled.{draw, left_after, given, edge_along, edges_after}
 use Rattle.quota_fill.proofs.InLemmas.{In, in_filter, from_filter, from_map, from_flat_map, from_range, sum_agree, term_le}
@@ -55,7 +55,7 @@ none_below f n low (suc count) l = rw (sum_by-cons (λ m. cond (nat_eq m n) (f m
   none_below f n (low + 1) count (omega (arith, l)),
 ))
 
-only_one : (f : ℕ → ℕ) (n low count : ℕ) → low ≤ n → n < low + count → sum_by (λ m. cond (nat_eq m n) (f m) 0) (range_with_len low count) ≡ f n
+pub only_one : (f : ℕ → ℕ) (n low count : ℕ) → low ≤ n → n < low + count → sum_by (λ m. cond (nat_eq m n) (f m) 0) (range_with_len low count) ≡ f n
 only_one f n low zero p q = absurd (omega (arith, p, q))
 only_one f n low (suc count) p q = rw (sum_by-cons (λ m. cond (nat_eq m n) (f m) 0) low (range_with_len (low + 1) count)) (at (cases_eq low n) (λ l. only_one f n (low + 1) count l (omega (arith, q)))) where
   at : (low ≡ n) ⊎ (low ≡ n → ⊥) → (low + 1 ≤ n → sum_by (λ m. cond (nat_eq m n) (f m) 0) (range_with_len (low + 1) count) ≡ f n)
@@ -145,7 +145,7 @@ module _ (snapshot : Snapshot) where
       arith,
       sum_same (λ voter. given snapshot (pick ∷ picks) voter target) (draw snapshot (left_after snapshot picks) pick)
           (λ voter. cond-true (nat_eq pick target) (draw snapshot (left_after snapshot picks) target voter) (given snapshot picks voter target) t
-              ∙ sym (ap (λ n. draw snapshot (left_after snapshot picks) n voter) (eqb-true pick target t))) voters,
+          ∙ sym (ap (λ n. draw snapshot (left_after snapshot picks) n voter) (eqb-true pick target t))) voters,
       drawn_in_all snapshot (left_after snapshot picks) pick (length snapshot.voters),
     )
     at (inr f) more = omega (
@@ -188,14 +188,14 @@ module _ (snapshot : Snapshot) where
     spent_is voter h = sum_above (λ edge. nat_eq edge.voter voter) (flat_map row voters)
         ∙ sum_of_rows (λ (edge : Edge). edge.amount) (λ (edge : Edge). nat_eq edge.voter voter) row voters
         ∙ sum_same (λ n. amount_sum (filter (λ (edge : Edge). nat_eq edge.voter voter) (row n))) (λ n. cond (nat_eq n voter) (sum_by (given snapshot picks n) targets) 0)
-            (λ n. row_spent n voter targets) voters
+        (λ n. row_spent n voter targets) voters
         ∙ only_one (λ n. sum_by (given snapshot picks n) targets) voter 0 (length snapshot.voters) (omega arith) (omega (arith, h))
 
     pub support_is : (target : ℕ) → target < length snapshot.targets → support (edges_after snapshot picks) target ≡ sum_by (λ voter. given snapshot picks voter target) voters
     support_is target h = sum_above (λ edge. nat_eq edge.target target) (flat_map row voters)
         ∙ sum_of_rows (λ (edge : Edge). edge.amount) (λ (edge : Edge). nat_eq edge.target target) row voters
         ∙ sum_same (λ n. amount_sum (filter (λ (edge : Edge). nat_eq edge.target target) (row n))) (λ n. given snapshot picks n target)
-            (λ n. row_support n target targets ∙ only_one (given snapshot picks n) target 0 (length snapshot.targets) (omega arith) (omega (arith, h))) voters
+        (λ n. row_support n target targets ∙ only_one (given snapshot picks n) target 0 (length snapshot.targets) (omega arith) (omega (arith, h))) voters
 
     pub record IsGiven (edge : Edge) : Type 0 where
       pub voter_in_range : edge.voter < length snapshot.voters

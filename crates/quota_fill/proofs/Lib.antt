@@ -4,3 +4,7 @@ pub mod InLemmas
 pub mod OrderLemmas
 pub mod PassingLemmas
 pub mod PickLemmas
+pub mod RoundLemmas
+pub mod SeatLemmas
+pub mod SortLemmas
+pub mod TableLemmas

@@ -1,9 +1,22 @@
 -- Lists that rise strictly by a key: two with the same items are the same list.
-use Rattle.std.proofs.Common.{◌≡◌, ℕ, zero, suc, ◌+◌, ◌<◌, ◌≤◌, ◌⊎◌, ◌≢◌, Bool, true, false, nat_eq, List, [], ◌∷◌, ◌++◌, length, get_or, map, filter, inl, inr, refl, ap, ap₂, sym, ◌∙◌, arith}
+use Rattle.std.proofs.Common.{◌≡◌, ℕ, zero, suc, ◌+◌, ◌<◌, ◌≤◌, ◌⊎◌, ◌≢◌, Bool, false, nat_eq, List, [], ◌∷◌, ◌++◌, get_or, map, filter, inl, inr, refl, ap, ap₂, sym, ◌∙◌, arith}
 use Rattle.std.specs.List.{flat_map, range_with_len, IsDistinct, AllByRecursion}
 use Rattle.std.specs.List.Sorted.{IsNonDecreasingBy}
-use Rattle.std.proofs.lemmas.Bool.{cases_Bool, cond_both, eq-eqb, ne_eqb, true≢false}
-use Rattle.quota_fill.proofs.InLemmas.{In, in_left, in_right, in_either, from_filter, from_map, from_flat_map, from_range, in_contains}
+use Rattle.std.proofs.lemmas.Bool.{cond_both, eq-eqb, ne_eqb, true≢false}
+use Rattle.quota_fill.proofs.InLemmas.{In, in_either, from_filter, from_map, from_flat_map, from_range, in_contains}
+
+abbrev pub RisingNumbers : List ℕ → Type 0
+RisingNumbers [] = Unit {0}
+RisingNumbers (n ∷ numbers) = ((m : ℕ) → In numbers m → n < m) × RisingNumbers numbers
+
+pub rising_filter : (p : ℕ → Bool) (numbers : List ℕ) → RisingNumbers numbers → RisingNumbers (filter p numbers)
+rising_filter p [] r = tt
+rising_filter p (n ∷ numbers) r = cond_both (p n) (n ∷ filter p numbers) (filter p numbers) RisingNumbers
+    (λ _. (λ m k. r.0 m (from_filter p numbers m k).0, rising_filter p numbers r.1)) (λ _. rising_filter p numbers r.1)
+
+pub rising_range : (low count : ℕ) → RisingNumbers (range_with_len low count)
+rising_range low zero = tt
+rising_range low (suc count) = (λ n h. omega (arith, (from_range (low + 1) count n h).0), rising_range (low + 1) count)
 
 module _ {X : Type 0} (key : X → ℕ) where
   abbrev pub Rises : List X → Type 0
@@ -48,6 +61,12 @@ module _ {X : Type 0} (key : X → ℕ) where
   rises-map f up low (suc count) = (λ y h. at y (from_map f (range_with_len (low + 1) count) y h), rises-map f up (low + 1) count) where
     at : (y : X) → (a : ℕ) × In (range_with_len (low + 1) count) a × (f a ≡ y) → key (f low) < key y
     at y (a, i, e) = omega (arith, up low a (omega (arith, (from_range (low + 1) count a i).0)), ap key e)
+
+  pub rises-map_over : (f : ℕ → X) → ((a b : ℕ) → a < b → key (f a) < key (f b)) → (numbers : List ℕ) → RisingNumbers numbers → Rises (map f numbers)
+  rises-map_over f up [] r = tt
+  rises-map_over f up (n ∷ numbers) r = (λ y h. at y (from_map f numbers y h), rises-map_over f up numbers r.1) where
+    at : (y : X) → (a : ℕ) × In numbers a × (f a ≡ y) → key (f n) < key y
+    at y (a, i, e) = omega (arith, up n a (r.0 a i), ap key e)
 
   pub rises-flat_map : (f : ℕ → List X) → ((a : ℕ) → Rises (f a)) → ((a b : ℕ) (x y : X) → a < b → In (f a) x → In (f b) y → key x < key y)
       → (low count : ℕ) → Rises (flat_map f (range_with_len low count))

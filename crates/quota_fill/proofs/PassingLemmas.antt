@@ -1,24 +1,24 @@
 -- The fill passes. Either some pick found less than the price of a seat, and from then on every target outside has less;
 -- or each pick drew the price, and in all less than one unit a seat is left, which is no more than the price.
-use Rattle.std.proofs.Common.{◌≡◌, ℕ, zero, suc, ◌+◌, ◌-◌, ◌*◌, ◌/◌, ◌%◌, ◌<◌, ◌≤◌, ◌⊎◌, min, Bool, true, false, cond, nat_eq, List, [], ◌∷◌, length, get_or, map, filter, reverse, sum_by, All, inl, inr, refl, ap, sym, subst, ◌∙◌, arith}
-use Rattle.std.specs.List.{range_with_len, IsDistinct}
+use Rattle.std.proofs.Common.{◌≡◌, ℕ, suc, ◌+◌, ◌*◌, ◌/◌, ◌%◌, ◌<◌, ◌≤◌, ◌⊎◌, true, false, nat_eq, List, [], ◌∷◌, length, reverse, sum_by, inl, inr, refl, ap, sym, ◌∙◌, arith}
+use Rattle.std.specs.List.{range_with_len}
 use Rattle.std.proofs.Math.Nat.{div-add-mod, mul-le-mul_left}
 use Rattle.std.proofs.lemmas.Nat.{mod_below}
-use Rattle.std.proofs.lemmas.Bool.{cases_Bool, cases_lt, or_left, or_right, ne_eqb, eqb-true, true≢false}
+use Rattle.std.proofs.lemmas.Bool.{cases_Bool, cases_lt, or_right, eqb-true, true≢false}
 use Rattle.std.proofs.lemmas.List.Sorted.{IsPermutation-reverse, IsPermutation-sym, length_permutation}
 use Rattle.std.proofs.lemmas.Map.Keys.{IsDistinct-IsPermutation}
 use Rattle.npos_base.specs.declared.figures.Edge.{Edge}
-use Rattle.election_snapshot.specs.Snapshot.{Snapshot, IsWellFormed, has, nominates, stake_of, threshold, total_stake}
-use Rattle.weight_book.specs.Weights.{Weights, Follows, same_pair}
+use Rattle.election_snapshot.specs.Snapshot.{Snapshot, IsWellFormed, has, nominates, threshold, total_stake}
+use Rattle.weight_book.specs.Weights.{Follows, same_pair}
 use Rattle.weight_book.specs.Passing.{nominators, Passes, slack}
 use Rattle.weight_book.proofs.SumLemmas.{sum_filter-le, sum_le, eqb_turned}
 use Rattle.weight_book.proofs.StakeLemmas.{stakes_in_order}
-use Rattle.quota_fill.specs.Filled.{draw, left_after, backing, picked, filled, edges_after}
+use Rattle.quota_fill.specs.Filled.{left_after, backing, picked, filled, edges_after}
 use Rattle.quota_fill.specs.Laws.{EveryFillPasses}
 use Rattle.quota_fill.proofs.InLemmas.{In, in_permuted, in_has, from_has, all_in, from_filter, from_range, sum_agree}
 use Rattle.quota_fill.proofs.OrderLemmas.{distinct_by}
 use Rattle.quota_fill.proofs.PickLemmas.{AreRun, are_run, all_picks, pick_in_range, picks_distinct}
-use Rattle.quota_fill.proofs.DrawLemmas.{draw_le, drawn_in_all, left_and_drawn}
+use Rattle.quota_fill.proofs.DrawLemmas.{drawn_in_all, left_and_drawn}
 use Rattle.quota_fill.proofs.EdgeLemmas.{given_member, given_and_left, spent_is, edge_is, slack_is_left, place, edges_rise}
 
 not_in : (numbers : List ℕ) (pick target : ℕ) → has (pick ∷ numbers) target ≡ false → has numbers target ≡ false
@@ -97,14 +97,14 @@ module _ (snapshot : Snapshot) (formed : IsWellFormed snapshot) where
     at : NoneCanPay picks ⊎ (left_in_all picks + length picks * price ≡ total_stake snapshot) → NoneCanPay picks
     at (inl none) = none
     at (inr whole) = λ target h out.
-      let counted = sum_filter-le (λ voter. nominates snapshot voter target) (left_after snapshot picks) voters in
-      omega (arith, counted, left_is_rest, seats_le_price) where
-        left_is_rest : left_in_all picks < snapshot.seats
-        left_is_rest = rest snapshot.seats (total_stake snapshot) (left_in_all picks) (length picks) formed.seats_some as_many whole where
-          rest : (k total left count : ℕ) → 1 ≤ k → count ≡ k → left + count * (total / k) ≡ total → left < k
-          rest k total left count p e h =
-              let same : count * (total / k) ≡ k * (total / k) = ap (λ n. n * (total / k)) e in
-              omega (arith, h, same, div-add-mod total k, mod_below total k (omega (arith, p)))
+        let counted = sum_filter-le (λ voter. nominates snapshot voter target) (left_after snapshot picks) voters in
+        omega (arith, counted, left_is_rest, seats_le_price) where
+          left_is_rest : left_in_all picks < snapshot.seats
+          left_is_rest = rest snapshot.seats (total_stake snapshot) (left_in_all picks) (length picks) formed.seats_some as_many whole where
+            rest : (k total left count : ℕ) → 1 ≤ k → count ≡ k → left + count * (total / k) ≡ total → left < k
+            rest k total left count p e h =
+                let same : count * (total / k) ≡ k * (total / k) = ap (λ n. n * (total / k)) e in
+                omega (arith, h, same, div-add-mod total k, mod_below total k (omega (arith, p)))
 
   abbrev members : List ℕ
   members = reverse picks
@@ -142,9 +142,9 @@ module _ (snapshot : Snapshot) (formed : IsWellFormed snapshot) where
       within_stakes = λ voter h. omega (arith, spent_is snapshot picks voter h, given_and_left snapshot picks run voter);
     };
     none_outweighs = λ target h out.
-      let same = sum_agree (slack price snapshot (edges_after snapshot picks)) (left_after snapshot picks) (nominators snapshot target)
-          (λ voter i. slack_is_left snapshot picks run voter (in_reach target voter i)) in
-      omega (arith, same, none_can_pay target h (not_picked target out));
+        let same = sum_agree (slack price snapshot (edges_after snapshot picks)) (left_after snapshot picks) (nominators snapshot target)
+        (λ voter i. slack_is_left snapshot picks run voter (in_reach target voter i)) in
+        omega (arith, same, none_can_pay target h (not_picked target out));
   } where
     in_reach : (target voter : ℕ) → In (nominators snapshot target) voter → voter < length snapshot.voters
     in_reach target voter i = omega (arith, (from_range 0 (length snapshot.voters) voter (from_filter (λ n. nominates snapshot n target) voters voter i).0).1)

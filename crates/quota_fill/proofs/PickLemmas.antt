@@ -1,14 +1,14 @@
 -- A pick is the lowest of those outside with the greatest backing, so picks are different targets, and there is one as
 -- long as a target is outside.
-use Rattle.std.proofs.Common.{◌≡◌, ℕ, zero, suc, ◌+◌, ◌<◌, ◌≤◌, ◌⊎◌, Bool, true, false, not, cond, nat_eq, ltb, List, [], ◌∷◌, length, get_or, filter, sum_by, Option, Some, None, inl, inr, refl, ap, sym, subst, ◌∙◌, arith}
+use Rattle.std.proofs.Common.{◌≡◌, ℕ, zero, suc, ◌+◌, ◌<◌, ◌≤◌, ◌⊎◌, Bool, true, false, not, cond, nat_eq, ltb, List, [], ◌∷◌, length, get_or, filter, Option, Some, None, inl, inr, refl, ap, sym, subst, ◌∙◌, arith}
 use Rattle.std.specs.List.{range_with_len, fold, IsDistinct, AllByRecursion, cons_option}
-use Rattle.std.proofs.lemmas.Bool.{cases_Bool, cases_lt, cases_eq, lt-ltb, le-ltb, or_left, or_right, eq-eqb, true≢false}
+use Rattle.std.proofs.lemmas.Bool.{cases_Bool, cases_lt, cases_eq, lt-ltb, le-ltb, or_left, or_right, true≢false}
 use Rattle.std.proofs.lemmas.List.FromFn.{length-range_with_len}
-use Rattle.election_snapshot.specs.Snapshot.{Snapshot, IsWellFormed, has}
+use Rattle.election_snapshot.specs.Snapshot.{Snapshot, has}
 use Rattle.weight_book.proofs.SumLemmas.{sum_covered, sum_of_ones, eqb_turned}
-use Rattle.quota_fill.specs.Filled.{better, best_of, backing, outside, next_pick, picked}
+use Rattle.quota_fill.specs.Filled.{better, best_of, backing, next_pick, picked}
 use Rattle.quota_fill.specs.Laws.{IsPick, SeatsArePicks}
-use Rattle.quota_fill.proofs.InLemmas.{In, in_range, in_has, in_at, from_has, from_range}
+use Rattle.quota_fill.proofs.InLemmas.{In, in_at, from_range}
 use Rattle.quota_fill.proofs.OrderLemmas.{rises_range, rises_distinct}
 
 -- what a search finds from a best so far
@@ -206,7 +206,7 @@ module _ (snapshot : Snapshot) (picks : List ℕ) where
         let all = range_with_len 0 (length snapshot.targets) in
         let covered = sum_covered (λ _. 1) all picks (rises_distinct (λ n. n) all (rises_range 0 (length snapshot.targets)))
         (λ k d l. let inside = from_range 0 (length snapshot.targets) (get_or all k d) (in_at all k d l) in
-            not_false (has picks (get_or all k d)) (none (get_or all k d) inside.0 inside.1)) in
+        not_false (has picks (get_or all k d)) (none (get_or all k d) inside.0 inside.1)) in
         absurd (omega (arith, few, covered, sum_of_ones all, sum_of_ones picks, length-range_with_len 0 (length snapshot.targets)))
 
 -- each of the picks was one after those before it

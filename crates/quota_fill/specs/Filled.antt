@@ -1,7 +1,7 @@
 -- The fill of an election, where nobody hands in a solution. Seat after seat, the target outside whose nominators have
 -- the most stake left joins the committee, and draws the price of a seat from them. Lists of picks have the latest
 -- first.
-use Rattle.std.specs.Prelude.{ℕ, zero, suc, ◌-◌, min, not, nat_eq, nat_lt, if◌then◌else◌, List, [], ◌∷◌, ◌++◌, length, map, filter, flat_map, fold, reverse, sum_by, Option, Some, None}
+use Rattle.std.specs.Prelude.{ℕ, zero, suc, ◌-◌, min, not, nat_eq, nat_lt, if◌then◌else◌, List, [], ◌∷◌, length, map, filter, flat_map, fold, reverse, sum_by, Option, Some, None}
 use Rattle.std.specs.List.{range_with_len, cons_option}
 use Rattle.npos_base.specs.declared.figures.Edge.{Edge}
 use Rattle.election_snapshot.specs.Snapshot.{Snapshot, has, nominates, stake_of, threshold}

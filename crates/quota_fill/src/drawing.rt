@@ -1,9 +1,21 @@
 //! One pick: the target that joins, and what it draws.
+ghost use Rattle.std.specs.Prelude.{◌≡◌, ℕ, ◌-◌, ◌<◌, ◌≤◌, ◌∷◌, [], ◌++◌, if◌then◌else◌, length, nat_eq, nat_lt, slice_set, All, IsTrue, IfSome, OnOk};
+ghost use Rattle.std.specs.List.{IsDistinct};
+ghost use Rattle.election_snapshot.specs.Snapshot.{has};
+ghost use Rattle.weight_book.specs.Passing.{nominators};
+ghost use Rattle.quota_fill.specs.Filled.{better, draw};
+ghost use Rattle.quota_fill.specs.Kept.{says, best_by, draws_of, AreBackings};
+
 use election_snapshot::Snapshot;
 use npos_base::{Edge, NoMemory};
 
 /// The lowest of the targets that are not picked with the greatest backing, if one is not picked.
-pub(crate) fn best_outside(backings: &[u64], is_picked: &[bool]) -> Option<u16> {
+pub(crate) fn best_outside(backings: &[u64], is_picked: &[bool]) -> Option<u16>
+    requires same { length is_picked.now ≡ length backings.now }
+    requires few { length backings.now ≤ 2048 }
+    ensures best { result ≡ best_by backings.now is_picked.now (length backings.now) }
+    ensures in_range { IfSome result (λ target. target < length backings.now) }
+{
     let mut best = None;
     for target in 0..backings.len() {
         if !is_picked[target] {
@@ -14,7 +26,12 @@ pub(crate) fn best_outside(backings: &[u64], is_picked: &[bool]) -> Option<u16> 
 }
 
 /// The target, where it has a greater backing than the best before it.
-fn better_of(backings: &[u64], best: Option<u16>, target: u16) -> Option<u16> {
+fn better_of(backings: &[u64], best: Option<u16>, target: u16) -> Option<u16>
+    requires best { IfSome best (λ other. other < length backings.now) }
+    requires target { target < length backings.now }
+    ensures better { result ≡ better (says backings.now) best target }
+    ensures in_range { IfSome result (λ other. other < length backings.now) }
+{
     match best {
         Some(best) if backings[usize::from(best)] >= backings[usize::from(target)] => Some(best),
         _ => Some(target),
@@ -25,13 +42,23 @@ fn better_of(backings: &[u64], best: Option<u16>, target: u16) -> Option<u16> {
 pub(crate) fn draw_from_all(
     snapshot: &Snapshot,
     target: u16,
-    nominators: &[u32],
+    voters: &[u32],
     left: &mut [u64],
     backings: &mut [u64],
     draws: &mut Vec<Edge>,
-) -> Result<(), NoMemory> {
+) -> Result<(), NoMemory>
+    requires voters { voters.now ≡ nominators snapshot.now target }
+    requires left_size { length left.old ≡ length snapshot.now.voters }
+    requires backings_size { length backings.old ≡ length snapshot.now.targets }
+    requires backings { AreBackings snapshot.now left.old backings.old }
+    ensures left { OnOk result ((voter : ℕ) → says left.new voter
+        ≡ says left.old voter - draw snapshot.now (says left.old) target voter) }
+    ensures backings { OnOk result (AreBackings snapshot.now left.new backings.new) }
+    ensures draws { OnOk result (draws.new.items
+        ≡ draws.old.items ++ draws_of snapshot.now (says left.old) target voters.now) }
+{
     let mut due = snapshot.threshold();
-    for voter in nominators {
+    for voter in voters {
         let amount = left[*voter as usize].min(due);
         draw_from(snapshot, *voter, amount, left, backings);
         note_draw(*voter, target, amount, draws)?;
@@ -41,22 +68,40 @@ pub(crate) fn draw_from_all(
 }
 
 /// Takes the amount from what the voter has left, and so from what backs each of its votes.
-fn draw_from(snapshot: &Snapshot, voter: u32, amount: u64, left: &mut [u64], backings: &mut [u64]) {
+fn draw_from(snapshot: &Snapshot, voter: u32, amount: u64, left: &mut [u64], backings: &mut [u64])
+    requires voter { voter < length snapshot.now.voters }
+    requires enough { amount ≤ says left.old voter }
+    requires left_size { length left.old ≡ length snapshot.now.voters }
+    requires backings_size { length backings.old ≡ length snapshot.now.targets }
+    requires backings { AreBackings snapshot.now left.old backings.old }
+    ensures left { left.new ≡ slice_set left.old voter (says left.old voter - amount) }
+    ensures backings { AreBackings snapshot.now left.new backings.new }
+{
+    left[voter as usize] -= amount;
     if amount > 0 {
-        left[voter as usize] -= amount;
         lower_all(snapshot.votes(voter), amount, backings);
     }
 }
 
 /// Takes the amount away at each of the votes.
-fn lower_all(votes: &[u16], amount: u64, backings: &mut [u64]) {
+fn lower_all(votes: &[u16], amount: u64, backings: &mut [u64])
+    requires in_range { All (λ vote. vote < length backings.old) votes.now }
+    requires distinct { IsDistinct nat_eq votes.now }
+    requires enough { (target : ℕ) → IsTrue (has votes.now target) → amount ≤ says backings.old target }
+    ensures { (target : ℕ) → target < length backings.old
+        → says backings.new target ≡ if has votes.now target then says backings.old target - amount
+        else says backings.old target }
+{
     for vote in votes {
         backings[usize::from(*vote)] -= amount;
     }
 }
 
 /// Appends the edge of a draw, where it is more than nothing.
-fn note_draw(voter: u32, target: u16, amount: u64, draws: &mut Vec<Edge>) -> Result<(), NoMemory> {
+fn note_draw(voter: u32, target: u16, amount: u64, draws: &mut Vec<Edge>) -> Result<(), NoMemory>
+    ensures { OnOk result (draws.new.items ≡ draws.old.items ++ (if nat_lt 0 amount
+        then record { voter = voter; target = target; amount = amount } ∷ [] else [])) }
+{
     if amount > 0 {
         draws.push(Edge {
             voter,

@@ -1,7 +1,8 @@
 //! Seats filled one after the other.
-ghost use Rattle.std.specs.Prelude.{◌≡◌, ◌+◌, ◌*◌, IfOk};
-ghost use Rattle.weight_book.specs.Room.{HasRoom};
+ghost use Rattle.std.specs.Prelude.{◌≡◌, ◌<◌, ◌+◌, ◌*◌, [], reverse, IfOk, OnOk};
+ghost use Rattle.weight_book.specs.Room.{HasRoom, KeepsRoom};
 ghost use Rattle.quota_fill.specs.Filled.{filled};
+ghost use Rattle.quota_fill.specs.Kept.{IsFilling, with_next};
 
 use crate::drawing::{best_outside, draw_from_all};
 use crate::race::Race;
@@ -39,7 +40,15 @@ fn fill_seat(
     race: &mut Race,
     weights: &mut Weights,
     draws: &mut Vec<Edge>,
-) -> Result<(), NoMemory> {
+) -> Result<(), NoMemory>
+    requires state { IsFilling snapshot.now (reverse weights.old.plain.committee) race.old
+        weights.old draws.old.items }
+    requires spare { 0 < weights.old.member_spare }
+    ensures { OnOk result (IsFilling snapshot.now
+        (with_next snapshot.now (reverse weights.old.plain.committee)) race.new
+        weights.new draws.new.items) }
+{
+    let _targets = snapshot.target_count();
     let Some(target) = best_outside(&race.backings, &race.is_picked) else {
         return Ok(());
     };
@@ -52,7 +61,8 @@ fn fill_seat(
         &mut race.left,
         &mut race.backings,
         draws,
-    )
+    )?;
+    Ok(())
 }
 
 /// The place of an edge in the order by voter and then by target.
@@ -63,7 +73,12 @@ fn place_of(edge: &Edge) -> u64
 }
 
 /// Appends the edges to the weights.
-fn put_edges(edges: &[Edge], weights: &mut Weights) -> Result<(), NoMemory> {
+fn put_edges(edges: &[Edge], weights: &mut Weights) -> Result<(), NoMemory>
+    requires { weights.old.plain.edges ≡ [] }
+    ensures edges { OnOk result (weights.new.plain.edges ≡ edges.now) }
+    ensures members { OnOk result (weights.new.plain.committee ≡ weights.old.plain.committee) }
+    ensures room { KeepsRoom weights.old weights.new }
+{
     weights.reserve(0, edges.len())?;
     for edge in edges {
         weights.push_edge(*edge);

@@ -1,4 +1,9 @@
 //! What a fill keeps by voter and by target.
+ghost use Rattle.std.specs.Prelude.{◌≡◌, ℕ, ◌+◌, ◌<◌, ◌^◌, ◌∷◌, [], ◌++◌, if◌then◌else◌, length, nat_eq, slice_index_or, All, IfOk, OnOk};
+ghost use Rattle.std.specs.List.{IsDistinct};
+ghost use Rattle.election_snapshot.specs.Snapshot.{has, stake_of};
+ghost use Rattle.quota_fill.specs.Kept.{says, AreBackings, AreNominators, IsAfter};
+
 use election_snapshot::Snapshot;
 use npos_base::{List, NoMemory};
 use std::alloc::Global;
@@ -19,12 +24,14 @@ pub(crate) struct Race {
 
 impl Race {
     /// The state before the first pick.
-    pub(crate) fn new(alloc: Global, snapshot: &Snapshot) -> Result<Race, NoMemory> {
+    pub(crate) fn new(alloc: Global, snapshot: &Snapshot) -> Result<Race, NoMemory>
+        ensures { IfOk result (IsAfter snapshot.now []) }
+    {
         let targets = snapshot.target_count();
         let mut left = vec![in alloc; 0; snapshot.voter_count()]?;
         left.copy_from_slice(snapshot.stakes());
         let mut backings = vec![in alloc; 0; targets]?;
-        fill_backings(snapshot, &mut backings);
+        fill_backings(snapshot, &left, &mut backings);
         let is_picked = vec![in alloc; false; targets]?;
         let mut nominators = empty_lists(alloc, targets)?;
         list_nominators(snapshot, &mut nominators)?;
@@ -37,23 +44,39 @@ impl Race {
     }
 }
 
-/// By target, the stake of its nominators.
-fn fill_backings(snapshot: &Snapshot, backings: &mut [u64]) {
+/// By target, the sum of what its nominators have.
+fn fill_backings(snapshot: &Snapshot, left: &[u64], backings: &mut [u64])
+    requires stakes { (voter : ℕ) → says left.now voter ≡ stake_of snapshot.now voter }
+    requires voters { length left.now ≡ length snapshot.now.voters }
+    requires targets { length backings.old ≡ length snapshot.now.targets }
+    ensures { AreBackings snapshot.now left.now backings.new }
+{
+    backings.fill(0);
     for voter in 0..snapshot.voter_count() {
-        let voter = voter as u32;
-        raise_all(snapshot.votes(voter), snapshot.stake(voter), backings);
+        raise_all(snapshot.votes(voter as u32), left[voter], backings);
     }
 }
 
 /// Adds the stake at each of the votes.
-fn raise_all(votes: &[u16], stake: u64, backings: &mut [u64]) {
+fn raise_all(votes: &[u16], stake: u64, backings: &mut [u64])
+    requires in_range { All (λ vote. vote < length backings.old) votes.now }
+    requires distinct { IsDistinct nat_eq votes.now }
+    requires fits { (target : ℕ) → target < length backings.old
+        → says backings.old target + stake < 2 ^ 64 }
+    ensures { (target : ℕ) → target < length backings.old
+        → says backings.new target ≡ if has votes.now target then says backings.old target + stake
+        else says backings.old target }
+{
     for vote in votes {
         backings[usize::from(*vote)] += stake;
     }
 }
 
 /// As many empty lists.
-fn empty_lists(alloc: Global, count: usize) -> Result<Vec<List<u32>>, NoMemory> {
+fn empty_lists(alloc: Global, count: usize) -> Result<Vec<List<u32>>, NoMemory>
+    ensures count { IfOk result (λ lists. length lists.items ≡ count) }
+    ensures empty { IfOk result (λ lists. (k : ℕ) → slice_index_or lists.items k [] ≡ []) }
+{
     let mut lists = Vec::with_capacity(alloc, count)?;
     for _ in 0..count {
         lists.push(List::new(alloc))?;
@@ -62,20 +85,38 @@ fn empty_lists(alloc: Global, count: usize) -> Result<Vec<List<u32>>, NoMemory> 
 }
 
 /// By target, the voters that nominate it, in rising order.
-fn list_nominators(snapshot: &Snapshot, nominators: &mut [List<u32>]) -> Result<(), NoMemory> {
+fn list_nominators(snapshot: &Snapshot, lists: &mut [List<u32>]) -> Result<(), NoMemory>
+    requires targets { length lists.old ≡ length snapshot.now.targets }
+    requires empty { (target : ℕ) → slice_index_or lists.old target [] ≡ [] }
+    ensures { OnOk result (AreNominators snapshot.now lists.new) }
+{
     for voter in 0..snapshot.voter_count() {
         let voter = voter as u32;
-        note_voter(snapshot.votes(voter), voter, nominators)?;
+        note_voter(snapshot.votes(voter), voter, lists)?;
     }
     Ok(())
 }
 
 /// Appends the voter to the list of each of its votes.
-fn note_voter(votes: &[u16], voter: u32, nominators: &mut [List<u32>]) -> Result<(), NoMemory> {
+fn note_voter(votes: &[u16], voter: u32, lists: &mut [List<u32>]) -> Result<(), NoMemory>
+    requires in_range { All (λ vote. vote < length lists.old) votes.now }
+    requires distinct { IsDistinct nat_eq votes.now }
+    ensures { OnOk result ((target : ℕ) → target < length lists.old → slice_index_or lists.new target []
+        ≡ if has votes.now target then slice_index_or lists.old target [] ++ voter ∷ []
+        else slice_index_or lists.old target []) }
+{
     for vote in votes {
-        nominators[usize::from(*vote)]
-            .push(voter)
-            .map_err(|_| NoMemory)?;
+        note(&mut lists[usize::from(*vote)], voter)?;
     }
     Ok(())
+}
+
+/// Appends the voter.
+fn note(list: &mut List<u32>, voter: u32) -> Result<(), NoMemory>
+    ensures { OnOk result (list.new ≡ list.old ++ voter ∷ []) }
+{
+    match list.push(voter) {
+        Ok(()) => Ok(()),
+        Err(_) => Err(NoMemory),
+    }
 }
