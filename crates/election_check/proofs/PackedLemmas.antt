@@ -13,7 +13,7 @@ use Rattle.election_check.specs.declared.verdict.Verdict.{Verdict}
 use Rattle.election_check.specs.declared.verdict.Verdict.TheVariants.{Yes, NoVoter, NoTarget, VoterTwice, TargetTwice, NotNominated, BadShare, WrongScore}
 use Rattle.election_check.specs.First.{when, first_of, or_yes}
 use Rattle.election_check.specs.Laws.{IsAccepted}
-use Rattle.election_check.specs.Packed.{expanded, first_repeat, unknown_target, repeated_target, unnominated_target, has_bad_share, entry_fault, voters_in, entries_fault, expand_fault, same_score, score_fault, solution_fault, verdict_solution, verdict_decoded, verdict_packed}
+use Rattle.election_check.specs.Packed.{expanded, first_repeat, unknown_target, repeated_target, unnominated_target, has_bad_share, entry_fault, voters_in, entries_fault, expand_fault, same_score, score_fault, solution_fault, verdict_solution, verdict_decoded, verdict_packed, weights_decoded, given}
 use Rattle.election_check.specs.Steps.{size_fault, outweighed}
 use Rattle.election_check.proofs.FaultLemmas.{IsFault, size_is_fault, outweighed_is_fault, yes_is_none}
 use Rattle.election_check.proofs.FirstLemmas.{when_none, first_none}
@@ -111,6 +111,7 @@ accepted snapshot claim bytes accepts = by (decoded bytes) refl accepts
         record {
           solution = solution;
           decoded_is = is;
+          given_are = ap (weights_decoded snapshot) is ∙ ap (λ fault. given fault weights) expands;
           plain_yes = ap or_yes (no_plain_fault snapshot weights record {
             feasible = feasible_packed snapshot (entries_of solution) sound filled;
             none_outweighs = none_outweighs snapshot weights outside;

@@ -12,7 +12,8 @@ use Rattle.npos_runtime.specs.declared.line.Line.{Line}
 use Rattle.npos_runtime.specs.declared.line.Line.TheVariants as lines
 use Rattle.npos_runtime.specs.Genesis.{genesis_fault, genesis_chain, fault_numbers}
 use Rattle.npos_runtime.specs.Step.{step}
-use Rattle.npos_cli.specs.Texts.{newline}
+use Rattle.npos_cli.specs.Texts.{newline, member_line}
+use Rattle.npos_cli.specs.Verdicts.{verdict_line}
 use Rattle.npos_cli.specs.Replay.{Machine}
 
 abbrev pub line_text : Line → List ℕ
@@ -22,6 +23,13 @@ line_text (lines.Snapshot round targets voters total) =
     codes "snapshot " ++ (decimal round ++ (codes " targets " ++ (decimal targets ++ (codes " voters " ++ (decimal voters ++ (codes " total " ++ (decimal total ++ newline)))))))
 line_text (lines.VoidFew round) = codes "void " ++ (decimal round ++ codes " few\n")
 line_text (lines.VoidPoor round) = codes "void " ++ (decimal round ++ codes " poor\n")
+line_text (lines.Forfeit number deposit verdict) =
+    codes "forfeit " ++ (decimal number ++ (codes " " ++ (decimal deposit ++ (codes " " ++ verdict_line verdict))))
+line_text (lines.Returned number deposit) = codes "return " ++ (decimal number ++ (codes " " ++ (decimal deposit ++ newline)))
+line_text (lines.Reward number amount) = codes "reward " ++ (decimal number ++ (codes " " ++ (decimal amount ++ newline)))
+line_text (lines.SeatSigned round number) = codes "seat " ++ (decimal round ++ (codes " signed " ++ (decimal number ++ newline)))
+line_text (lines.SeatFill round) = codes "seat " ++ (decimal round ++ codes " fill\n")
+line_text (lines.Member who support) = member_line who support
 line_text (lines.CallOk index) = codes "call " ++ (decimal index ++ codes " ok\n")
 line_text (lines.CallRefused index code) = codes "call " ++ (decimal index ++ (codes " refused " ++ (decimal code ++ newline)))
 

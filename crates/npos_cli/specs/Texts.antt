@@ -1,5 +1,8 @@
 -- The lines that a replay writes. Numbers are decimal, and every line ends with a newline.
 use Rattle.std.specs.Prelude.{ℕ, List, [], ◌∷◌, ◌++◌, codes, decimal}
+use Rattle.hex.specs.Hex.{encode_lower}
+use Rattle.npos_base.specs.declared.account.AccountId.{AccountId}
+use Rattle.npos_base.specs.Account.{account_bytes}
 use Rattle.scale_wire.specs.declared.fault.Why.{Why}
 use Rattle.scale_wire.specs.declared.fault.Why.TheVariants.{Short, NotShortest, TooWide, BadTag, TooMany, Trailing}
 
@@ -22,6 +25,14 @@ fault_line at why = codes "fault " ++ (decimal at ++ (codes " " ++ (word_of why 
 abbrev pub number_line : ℕ → ℕ → ℕ → List ℕ
 number_line at due found =
     codes "fault " ++ (decimal at ++ (codes " number due " ++ (decimal due ++ (codes " found " ++ (decimal found ++ newline)))))
+
+-- an account in lower-case hexadecimal
+abbrev pub account_text : AccountId → List ℕ
+account_text who = encode_lower (account_bytes who)
+
+-- a member of a committee, and its support
+abbrev pub member_line : AccountId → ℕ → List ℕ
+member_line who support = codes "member " ++ (account_text who ++ (codes " " ++ (decimal support ++ newline)))
 
 -- the genesis has the fault of this number, with this detail
 abbrev pub genesis_line : ℕ × ℕ → List ℕ

@@ -1,13 +1,17 @@
 //! The lines that the program writes, made piece by piece.
 ghost use Rattle.std.specs.Prelude.{◌≡◌, ◌≢◌, ◌++◌, flat_map, OnOk};
-ghost use Rattle.npos_cli.specs.Texts.{fault_line, number_line, genesis_line, word_of};
+ghost use Rattle.npos_cli.specs.Texts.{fault_line, number_line, genesis_line, word_of, account_text, member_line};
+ghost use Rattle.npos_runtime.specs.declared.line.Line.TheVariants as lines;
 ghost use Rattle.npos_runtime.specs.Genesis.{fault_numbers};
 ghost use Rattle.npos_runtime.specs.declared.begin.GenesisFault.TheVariants as faults;
 ghost use Rattle.npos_cli.specs.Pieces.{piece_text};
 ghost use Rattle.npos_cli.specs.Chain.{end_line, line_text};
 
+use crate::numbers::tell_verdict;
+use election_check::Verdict;
+use hex::encode_to_slice;
 use itoa::Buffer;
-use npos_base::NoMemory;
+use npos_base::{AccountId, NoMemory};
 use npos_runtime::{GenesisFault, Line};
 use scale_wire::fault::Why;
 use stake_ledger::Totals;
@@ -17,15 +21,30 @@ use stake_ledger::Totals;
 pub enum Piece<'a> {
     Words(&'a str),
     Number(u64),
+    Account(AccountId),
 }
 
-/// Appends one piece; a number in decimal.
+/// Appends an account in lower-case hexadecimal.
+fn tell_account(text: &mut Vec<u8>, who: AccountId) -> Result<(), NoMemory>
+    ensures { OnOk result (text.new.items ≡ text.old.items ++ account_text who) }
+{
+    let mut digits = [0; 64];
+    match encode_to_slice(who.to_bytes(), &mut digits) {
+        Ok(()) => {}
+        Err(_) => unreachable!(),
+    }
+    text.extend_from_slice(&digits)?;
+    Ok(())
+}
+
+/// Appends one piece; a number in decimal, an account in hexadecimal.
 fn tell_piece(text: &mut Vec<u8>, piece: &Piece<'_>) -> Result<(), NoMemory>
     ensures { OnOk result (text.new.items ≡ text.old.items ++ piece_text piece.now) }
 {
     match piece {
         Piece::Words(words) => text.extend_from_slice(words.as_bytes())?,
         Piece::Number(number) => text.extend_from_slice(Buffer::new().format(*number).as_bytes())?,
+        Piece::Account(who) => tell_account(text, *who)?,
     }
     Ok(())
 }
@@ -108,6 +127,45 @@ pub fn tell_genesis_fault(text: &mut Vec<u8>, fault: GenesisFault) -> Result<(),
     )
 }
 
+/// Appends the line of a submission that does not hold.
+fn tell_forfeit(
+    text: &mut Vec<u8>,
+    number: u64,
+    deposit: u64,
+    verdict: Verdict,
+) -> Result<(), NoMemory>
+    ensures { OnOk result
+        (text.new.items ≡ text.old.items ++ line_text (lines.Forfeit number deposit verdict)) }
+{
+    tell(
+        text,
+        &[
+            Piece::Words("forfeit "),
+            Piece::Number(number),
+            Piece::Words(" "),
+            Piece::Number(deposit),
+            Piece::Words(" "),
+        ],
+    )?;
+    tell_verdict(text, verdict)
+}
+
+/// Appends the line of a member of a committee.
+pub fn tell_member(text: &mut Vec<u8>, who: AccountId, support: u64) -> Result<(), NoMemory>
+    ensures { OnOk result (text.new.items ≡ text.old.items ++ member_line who support) }
+{
+    tell(
+        text,
+        &[
+            Piece::Words("member "),
+            Piece::Account(who),
+            Piece::Words(" "),
+            Piece::Number(support),
+            Piece::Words("\n"),
+        ],
+    )
+}
+
 /// Appends one line of a receipt.
 fn tell_line(text: &mut Vec<u8>, line: &Line) -> Result<(), NoMemory>
     ensures { OnOk result (text.new.items ≡ text.old.items ++ line_text line.now) }
@@ -164,6 +222,50 @@ fn tell_line(text: &mut Vec<u8>, line: &Line) -> Result<(), NoMemory>
                 Piece::Words(" poor\n"),
             ],
         ),
+        Line::Forfeit {
+            number,
+            deposit,
+            verdict,
+        } => tell_forfeit(text, number, deposit, verdict),
+        Line::Returned { number, deposit } => tell(
+            text,
+            &[
+                Piece::Words("return "),
+                Piece::Number(number),
+                Piece::Words(" "),
+                Piece::Number(deposit),
+                Piece::Words("\n"),
+            ],
+        ),
+        Line::Reward { number, amount } => tell(
+            text,
+            &[
+                Piece::Words("reward "),
+                Piece::Number(number),
+                Piece::Words(" "),
+                Piece::Number(amount),
+                Piece::Words("\n"),
+            ],
+        ),
+        Line::SeatSigned { round, number } => tell(
+            text,
+            &[
+                Piece::Words("seat "),
+                Piece::Number(u64::from(round)),
+                Piece::Words(" signed "),
+                Piece::Number(number),
+                Piece::Words("\n"),
+            ],
+        ),
+        Line::SeatFill { round } => tell(
+            text,
+            &[
+                Piece::Words("seat "),
+                Piece::Number(u64::from(round)),
+                Piece::Words(" fill\n"),
+            ],
+        ),
+        Line::Member { who, support } => tell_member(text, who, support),
         Line::CallOk { index } => tell(
             text,
             &[

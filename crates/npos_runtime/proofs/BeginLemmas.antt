@@ -1,5 +1,5 @@
 -- The chain of a genesis without a fault is live.
-use Rattle.std.proofs.Common.{◌≡◌, ℕ, ◌+◌, ◌≤◌, ◌<◌, Bool, true, false, All, List, [], ◌∷◌, ◌++◌, Option, Some, None, refl, sym, subst, arith, nat_lt, if◌then◌else◌}
+use Rattle.std.proofs.Common.{◌≡◌, ℕ, ◌+◌, ◌≤◌, ◌<◌, Bool, true, false, All, List, [], ◌∷◌, ◌++◌, Option, Some, None, refl, sym, subst, arith, nat_lt, nat_le, not, ◌&&◌, ap, ◌∙◌, if◌then◌else◌}
 use Rattle.std.specs.Option.{option_or}
 use Rattle.std.specs.List.Sorted.{IsStrictlySortedBy}
 use Rattle.std.proofs.lemmas.Bool.{ltb-false}
@@ -14,16 +14,20 @@ use Rattle.stake_ledger.specs.Calls.{endowed}
 use Rattle.stake_ledger.proofs.KeepLemmas.{balanced_endowed}
 use Rattle.npos_runtime.specs.declared.begin.GenesisFault.{GenesisFault}
 use Rattle.npos_runtime.specs.declared.begin.GenesisFault.TheVariants.{RepeatedAccount, TooMuch}
-use Rattle.npos_runtime.specs.Genesis.{endowment_sum, endowed_all, endowment_fault, is_endowed, genesis_fault, genesis_chain, params_fault, numbers_fault, threshold_fault, limits_fault}
-use Rattle.npos_runtime.specs.declared.begin.GenesisFault.TheVariants.{BadThreshold}
+use Rattle.npos_runtime.specs.Genesis.{endowment_sum, endowed_all, endowment_fault, is_endowed, genesis_fault, genesis_chain, params_fault, numbers_fault, threshold_fault, limits_fault, is_within}
+use Rattle.npos_runtime.specs.declared.begin.GenesisFault.TheVariants.{BadThreshold, BadQueue, BadSolutionMax}
+use Rattle.npos_base.specs.Account.{same_account}
+use Rattle.stake_ledger.specs.declared.row.Row.{Row}
+use Rattle.stake_ledger.proofs.AccountLemmas.{row_at-changed}
+use Rattle.submission_queue.specs.Ranking.{IsOrdered, empty_queue}
 use Rattle.voter_lists.specs.Bags.{IsRisingFrom}
 use Rattle.std.proofs.lemmas.Bool.Decides.{nat_tests}
 use Rattle.npos_base.specs.Account.{account_cmp}
 use Rattle.npos_runtime.specs.declared.chain.Chain.{Chain}
-use Rattle.npos_runtime.specs.Rules.{thresholds_in}
+use Rattle.npos_runtime.specs.Rules.{thresholds_in, places_of}
 use Rattle.npos_runtime.specs.Calls.{release_now}
 use Rattle.block_wire.specs.declared.genesis.Params.{Params}
-use Rattle.npos_runtime.specs.Live.{IsLive, AreSound}
+use Rattle.npos_runtime.specs.Live.{IsLive, IsReady, AreSound}
 use Rattle.npos_runtime.proofs.EndowLemmas.{sum_more}
 use Rattle.npos_runtime.proofs.LiveLemmas.{chunks_changed}
 
@@ -42,6 +46,11 @@ record IsFresh (ledger : Ledger) : Type 0 where
   pub balanced : IsBalanced ledger
   pub unminted : ledger.minted ≡ 0
   pub locked : (who : AccountId) → (row_at ledger who).chunks ≡ []
+  pub unheld : (who : AccountId) → (row_at ledger who).held ≡ 0
+
+unheld_by : (old new : Row) (b : Bool) → new.held ≡ old.held → old.held ≡ 0 → (if b then new else old).held ≡ 0
+unheld_by old new true same none = same ∙ none
+unheld_by old new false same none = none
 
 fresh : (before more : List Endowment) (ledger : Ledger) → IsFresh ledger → ledger.genesis ≡ endowment_sum before
     → endowment_fault before more ≡ None → IsFresh (endowed_all more ledger)
@@ -55,6 +64,8 @@ fresh before (e ∷ more) ledger is total none =
       balanced = balanced_endowed e.who e.value ledger is.balanced is.unminted (omega (arith, within, sum_more before e, total));
       unminted = is.unminted;
       locked = chunks_changed (λ (chunks : List Chunk). chunks ≡ []) e.who (gained e.value) ledger is.locked (is.locked e.who);
+      unheld = λ who. ap (λ (row : Row). row.held) (row_at-changed e.who (gained e.value) ledger who)
+          ∙ unheld_by (row_at ledger who) (gained e.value (row_at ledger who)) (same_account who e.who) refl (is.unheld who);
     })
     (omega (arith, sum_more before e, total)) n.1
 
@@ -64,6 +75,7 @@ fresh_empty = record {
   balanced = record { distinct = tt; schedules = λ k d few. absurd (omega arith); equation = refl; capped = omega arith };
   unminted = refl;
   locked = λ who. refl;
+  unheld = λ who. refl;
 }
 
 -- the chain of a genesis, in which nobody has a role
@@ -74,12 +86,33 @@ begun_chain params endowments = record {
   roles = [];
   bags = record { thresholds = thresholds_in params; order = [] };
   round = None;
+  queue = empty_queue (places_of params);
+  next = 1;
+  waiting = None;
   due = 1;
 }
 
 nobody_rises : IsStrictlySortedBy account_cmp []
 unfolding IsStrictlySortedBy
 nobody_rises = tt
+
+-- a queue has the places of sound params
+places_within : (params : Params) → params_fault params ≡ None → (1 ≤ params.queue) × (params.queue ≤ 16)
+places_within params sound =
+    let limits = (first_none (threshold_fault 0 0 params.thresholds) (limits_fault params)
+        (first_none (numbers_fault params) (option_or (threshold_fault 0 0 params.thresholds) (limits_fault params)) sound).1).1 in
+    at (nat_le 1 params.queue) (nat_le params.queue 16) (not (is_within 1 2097152 params.solution_max)) refl refl limits where
+      at : (a b c : Bool) → nat_le 1 params.queue ≡ a → nat_le params.queue 16 ≡ b
+          → (if not (a && b) then Some (BadQueue params.queue) else if c then Some (BadSolutionMax params.solution_max) else None) ≡ None
+          → (1 ≤ params.queue) × (params.queue ≤ 16)
+      at true true c f g none = (grind (arith, nat_tests), grind (arith, nat_tests))
+      at true false c f g none = cc
+      at false b c f g none = cc
+
+places_ordered : (params : Option Params) → AreSound params → IsOrdered (empty_queue (places_of params))
+places_ordered None sound = record { some = omega arith; most = omega arith; fits = omega arith; by_rank = tt }
+places_ordered (Some params) sound =
+    let within = places_within params sound in record { some = within.0; most = within.1; fits = omega arith; by_rank = tt }
 
 made_live : (params : Option Params) (endowments : List Endowment) → AreSound params → endowment_fault [] endowments ≡ None
     → IsLive (begun_chain params endowments)
@@ -95,6 +128,9 @@ made_live params endowments sound none =
       listing = record { listed = λ who. refl; once = λ who. omega arith; numbered = λ k d few. absurd (omega arith) };
       roles = record { rising = nobody_rises; ranked = refl; few = omega arith };
       nominations = λ who. record { few = omega arith; distinct = refl };
+      round = tt;
+      queue = places_ordered params sound;
+      deposits = record { held = is.unheld; known = λ k d few. absurd (omega arith) };
     }
 
 pub live_begun : (genesis : Genesis) → genesis_fault genesis ≡ None → IsLive (genesis_chain genesis)
@@ -102,6 +138,10 @@ live_begun (Plain endowments) none = made_live None endowments tt none
 live_begun (Full endowments params) none =
     let both = first_none (endowment_fault [] endowments) (params_fault params) none in
     made_live (Some params) endowments both.1 both.0
+
+-- and no number was given yet
+pub ready_begun : (genesis : Genesis) → genesis_fault genesis ≡ None → IsReady (genesis_chain genesis)
+ready_begun genesis none = record { live = live_begun genesis none; numbered = omega arith }
 
 rising_none : (place before : ℕ) (thresholds : List ℕ) → threshold_fault place before thresholds ≡ None → IsRisingFrom before thresholds
 rising_none place before [] e = tt

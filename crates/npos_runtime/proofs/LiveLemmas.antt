@@ -1,5 +1,5 @@
 -- A call that is not refused keeps what holds of a chain between blocks.
-use Rattle.std.proofs.Common.{◌≡◌, ◌≢◌, ◌⊎◌, inl, inr, ℕ, zero, suc, ◌/◌, ◌+◌, ◌≤◌, Bool, true, false, All, List, [], ◌∷◌, Option, Some, None, option_map, refl, sym, ◌∙◌, ap, subst, arith, nat_lt, length, ◌-◌, ◌<◌, ◌^◌, ◌==◌, ◌&&◌, is_some, true≢false, if◌then◌else◌}
+use Rattle.std.proofs.Common.{◌≡◌, ◌≢◌, ◌⊎◌, inl, inr, ℕ, zero, suc, ◌/◌, ◌+◌, ◌≤◌, Bool, true, false, All, List, [], ◌∷◌, ◌++◌, Option, Some, None, option_map, refl, sym, ◌∙◌, ap, subst, arith, nat_lt, length, ◌-◌, ◌<◌, ◌^◌, ◌==◌, ◌&&◌, is_some, true≢false, if◌then◌else◌}
 use Rattle.std.specs.Option.{unwrap_or}
 use Rattle.std.proofs.lemmas.Bool.{cond_both}
 use Rattle.std.proofs.lemmas.Bool.Decides.{eqb_tells}
@@ -29,17 +29,36 @@ use Rattle.voter_lists.specs.Roles.{RoleList, standing_of, role_in, role_of, wit
 use Rattle.voter_lists.specs.Bags.{Listing, is_listed, removed, moved, rebag_refusal, put_in_front, put_in_front_refusal}
 use Rattle.npos_runtime.specs.Ballots.{active_of}
 use Rattle.npos_runtime.specs.Lists.{has_role, is_nominator_role, is_validator_role, followed, placed, with_stake, is_over, retired}
-use Rattle.npos_runtime.specs.Rounds.{round_phase}
+use Rattle.npos_runtime.specs.Rounds.{round_phase, round_after, begun_round}
+use Rattle.std.specs.Result.{is_err}
+use Rattle.stake_ledger.specs.declared.refusal.LedgerRefusal.TheVariants.{LowFunds}
+use Rattle.stake_ledger.specs.Calls.{deposit_held}
+use Rattle.std.proofs.lemmas.Bool.{ltb-false}
+use Rattle.submission_queue.specs.declared.submission.Submission.{Submission}
+use Rattle.submission_queue.specs.Ranking.{offered, offer_answer}
+use Rattle.election_snapshot.specs.Snapshot.{Snapshot}
+use Rattle.npos_runtime.specs.declared.refusal.Refusal.TheVariants.{NotBetter}
+use Rattle.npos_runtime.specs.declared.round.Round.{Round}
+use Rattle.npos_runtime.specs.declared.round.Round.TheVariants as rounds
+use Rattle.npos_runtime.specs.Committee.{Committee}
+use Rattle.npos_runtime.specs.Deposits.{AreHeld}
+use Rattle.npos_runtime.specs.Signed.{form_refusal, offer_refusal, submission_of, ejected, submitted}
+use Rattle.npos_runtime.specs.Decision.{decided, decision_of, decision_phase}
+use Rattle.npos_runtime.specs.Outcome.{quiet}
+use Rattle.npos_runtime.proofs.DepositLemmas.{held_changed}
+use Rattle.npos_runtime.proofs.OfferLemmas.{taken}
+use Rattle.npos_runtime.proofs.BookLemmas.{AreBooks, books_held, books_moved, all_books_returned, books_settled}
+use Rattle.npos_runtime.proofs.ElectorateLemmas.{sound_round}
 use Rattle.npos_runtime.proofs.ListLemmas.{IsListed, listed_from, listing_from, kept_followed, kept_removed, kept_rebagged, kept_front, kept_placed}
 use Rattle.npos_runtime.proofs.RoleLemmas.{AreKept, apart_from, standing_with, standing_other, standing_without, standing_without_other, kept_without, kept_nominated, kept_validating}
-use Rattle.npos_runtime.specs.Rules.{least_bond_of, era_of}
+use Rattle.npos_runtime.specs.Rules.{least_bond_of, era_of, begun_era, reward_of, is_decision}
 use Rattle.npos_runtime.specs.Calls.{era_now, release_now, least_active, role_refusal, stop_of, done_of}
 use Rattle.npos_runtime.specs.declared.refusal.Refusal.{Refusal}
 use Rattle.block_wire.specs.declared.call.Call.{Call}
-use Rattle.npos_runtime.specs.Step.{call_after, call_outcome, calls_outcome, closed, step, after_blocks}
+use Rattle.npos_runtime.specs.Step.{waiting_after, era_phase, call_after, call_outcome, calls_outcome, closed, step, after_blocks}
 use Rattle.block_wire.specs.declared.block.Block.{Block}
 use Rattle.block_wire.specs.declared.genesis.Params.{Params}
-use Rattle.npos_runtime.specs.Live.{IsLive}
+use Rattle.npos_runtime.specs.Live.{IsLive, IsSoundRound}
 
 -- two accounts are one, or they are not
 pub same_or_not : (a b : AccountId) → (a ≡ b) ⊎ (a ≢ b)
@@ -93,13 +112,8 @@ none_inside f (Some a) e = cc
 transfer_funds : (who to : AccountId) (value : ℕ) (ledger : Ledger) → transfer_refusal ledger who to value ≡ None → value ≤ (row_at ledger who).free
 transfer_funds who to value ledger allowed = grind (arith, common_steps, allowed)
 
--- what a chain keeps of its books
-record AreBooks (release : ℕ) (book : Ledger) : Type 0 where
-  balanced : IsBalanced book
-  releases : (who : AccountId) → All (λ chunk. chunk.release ≤ release) (row_at book who).chunks
-
 -- a chain with other books, roles and bags that keep what it needs
-with_parts : (chain : Chain) (book : Ledger) (roles : RoleList) (bags : Listing) → IsLive chain → AreBooks (release_now chain) book
+with_parts : (chain : Chain) (book : Ledger) (roles : RoleList) (bags : Listing) → IsLive chain → AreBooks (release_now chain) chain.queue.items book
     → IsListed (has_role roles) bags → AreKept roles → IsLive (record chain { book = book; roles = roles; bags = bags })
 with_parts chain book roles bags live books listed kept = record {
   params = live.params;
@@ -110,10 +124,13 @@ with_parts chain book roles bags live books listed kept = record {
   listing = listing_from roles bags listed;
   roles = kept.ranked;
   nominations = kept.nominations;
+  round = live.round;
+  queue = live.queue;
+  deposits = books.deposits;
 }
 
-books_of : (chain : Chain) → IsLive chain → AreBooks (release_now chain) chain.book
-books_of chain live = record { balanced = live.balanced; releases = live.releases }
+books_of : (chain : Chain) → IsLive chain → AreBooks (release_now chain) chain.queue.items chain.book
+books_of chain live = record { balanced = live.balanced; releases = live.releases; deposits = live.deposits }
 
 listed_of : (chain : Chain) → IsLive chain → IsListed (has_role chain.roles) chain.bags
 listed_of chain live = listed_from chain.roles chain.bags live.listing
@@ -123,15 +140,17 @@ kept_of chain live = record { ranked = live.roles; nominations = live.nomination
 
 -- the chain with other books that keep what it needs
 with_book : (chain : Chain) (book : Ledger) → IsLive chain → IsBalanced book
-    → ((who : AccountId) → All (λ chunk. chunk.release ≤ release_now chain) (row_at book who).chunks) → IsLive (record chain { book = book })
-with_book chain book live balanced releases =
-    with_parts chain book chain.roles chain.bags live (record { balanced = balanced; releases = releases }) (listed_of chain live) (kept_of chain live)
+    → ((who : AccountId) → All (λ chunk. chunk.release ≤ release_now chain) (row_at book who).chunks) → AreHeld book chain.queue.items
+    → IsLive (record chain { book = book })
+with_book chain book live balanced releases held =
+    with_parts chain book chain.roles chain.bags live (record { balanced = balanced; releases = releases; deposits = held }) (listed_of chain live) (kept_of chain live)
 
 -- and the place of the account follows
 with_followed : (chain : Chain) (who : AccountId) (book : Ledger) → IsLive chain → IsBalanced book
-    → ((who : AccountId) → All (λ chunk. chunk.release ≤ release_now chain) (row_at book who).chunks) → IsLive (with_stake chain who book)
-with_followed chain who book live balanced releases =
-    with_parts chain book chain.roles (followed chain.bags who (row_at book who).active) live (record { balanced = balanced; releases = releases })
+    → ((who : AccountId) → All (λ chunk. chunk.release ≤ release_now chain) (row_at book who).chunks) → AreHeld book chain.queue.items
+    → IsLive (with_stake chain who book)
+with_followed chain who book live balanced releases held =
+    with_parts chain book chain.roles (followed chain.bags who (row_at book who).active) live (record { balanced = balanced; releases = releases; deposits = held })
     (kept_followed (has_role chain.roles) chain.bags who (listed_of chain live) (row_at book who).active) (kept_of chain live)
 
 -- other roles and bags
@@ -193,6 +212,39 @@ front_listed listing who score lighter lighter_score allowed = at (is_listed lis
   at true e = refl
   at false e = grind (arith, common_steps, allowed, e)
 
+offer_free : (chain : Chain) (item : Submission) → offer_refusal chain item ≡ None
+    → (item.deposit ≤ (row_at chain.book item.who).free) × (is_err (offer_answer chain.queue item) ≡ false)
+offer_free chain item none = at (nat_lt (row_at chain.book item.who).free item.deposit) (is_err (offer_answer chain.queue item)) refl refl none where
+  at : (a b : Bool) → nat_lt (row_at chain.book item.who).free item.deposit ≡ a → is_err (offer_answer chain.queue item) ≡ b
+      → (if a then Some (ByLedger LowFunds) else if b then Some NotBetter else None) ≡ None
+      → (item.deposit ≤ (row_at chain.book item.who).free) × (is_err (offer_answer chain.queue item) ≡ false)
+  at true b little worse none = cc
+  at false true little worse none = cc
+  at false false little worse none = (ltb-false (row_at chain.book item.who).free item.deposit little, worse)
+
+-- a submission is taken in
+submitted_live : (chain : Chain) (item : Submission) → IsLive chain → offer_refusal chain item ≡ None → IsLive (submitted chain item)
+submitted_live chain item live none =
+    let free = offer_free chain item none in
+    let is = taken chain.queue item live.queue free.1 in
+    let held = books_held (release_now chain) chain.book item chain.queue.items free.0 (books_of chain live) in
+    let books = all_books_returned (release_now chain) (ejected chain.queue item) (offered chain.queue item).items (deposit_held item.who item.deposit chain.book)
+        (books_moved (release_now chain) (deposit_held item.who item.deposit chain.book) (item ∷ chain.queue.items)
+        (ejected chain.queue item ++ (offered chain.queue item).items) is.moved held) in
+    record {
+      params = live.params;
+      due_at_least = live.due_at_least;
+      due_at_most = live.due_at_most;
+      balanced = books.balanced;
+      releases = books.releases;
+      listing = live.listing;
+      roles = live.roles;
+      nominations = live.nominations;
+      round = live.round;
+      queue = is.ordered;
+      deposits = books.deposits;
+    }
+
 -- A call that is not refused keeps the chain live.
 pub live_done : (chain : Chain) (who : AccountId) (kind : CallKind) → IsLive chain → stop_of chain who kind ≡ None → IsLive (done_of chain who kind)
 unfolding stop_of done_of
@@ -203,16 +255,20 @@ live_done chain who (kinds.Transfer to value) live free =
     (chunks_changed (All (λ chunk. chunk.release ≤ release_now chain)) to (gained value) (changed who (paid value) chain.book)
     (chunks_changed (All (λ chunk. chunk.release ≤ release_now chain)) who (paid value) chain.book live.releases (live.releases who))
     (chunks_changed (All (λ chunk. chunk.release ≤ release_now chain)) who (paid value) chain.book live.releases (live.releases who) to))
+    (held_changed to (gained value) (changed who (paid value) chain.book) chain.queue.items (λ row. refl)
+    (held_changed who (paid value) chain.book chain.queue.items (λ row. refl) live.deposits))
 live_done chain who (kinds.Bond value) live free =
     let allowed = none_inside ByLedger (bond_refusal (row_at chain.book who) value (least_bond_of chain.params)) free in
     with_book chain (changed who (bonded value) chain.book) live
     (balanced_bonded who value chain.book live.balanced (bond_funds (row_at chain.book who) value (least_bond_of chain.params) allowed))
     (chunks_changed (All (λ chunk. chunk.release ≤ release_now chain)) who (bonded value) chain.book live.releases (live.releases who))
+    (held_changed who (bonded value) chain.book chain.queue.items (λ row. refl) live.deposits)
 live_done chain who (kinds.BondExtra value) live free =
     let allowed = none_inside ByLedger (bond_extra_refusal (row_at chain.book who) value) free in
     with_followed chain who (changed who (bonded value) chain.book) live
     (balanced_bonded who value chain.book live.balanced (bond_extra_funds (row_at chain.book who) value allowed))
     (chunks_changed (All (λ chunk. chunk.release ≤ release_now chain)) who (bonded value) chain.book live.releases (live.releases who))
+    (held_changed who (bonded value) chain.book chain.queue.items (λ row. refl) live.deposits)
 live_done chain who (kinds.Unbond value) live free =
     let amount : ℕ = unbond_amount (row_at chain.book who) value in
     let allowed = none_inside ByLedger (unbond_refusal (row_at chain.book who) value (release_now chain) (least_active chain who)) free in
@@ -221,6 +277,7 @@ live_done chain who (kinds.Unbond value) live free =
     (keeps_unbonded (row_at chain.book who) value (release_now chain) (least_active chain who) (schedule_at who chain.book live.balanced.schedules) (live.releases who) allowed))
     (chunks_changed (All (λ chunk. chunk.release ≤ release_now chain)) who (unbonded amount (release_now chain)) chain.book live.releases
     (with_by (release_now chain) amount (row_at chain.book who).chunks (live.releases who)))
+    (held_changed who (unbonded amount (release_now chain)) chain.book chain.queue.items (λ row. refl) live.deposits)
 live_done chain who (kinds.Rebond value) live free =
     let amount : ℕ = rebond_amount (row_at chain.book who) value in
     with_followed chain who (changed who (rebonded amount) chain.book) live
@@ -228,12 +285,14 @@ live_done chain who (kinds.Rebond value) live free =
     (keeps_rebonded (row_at chain.book who) value (schedule_at who chain.book live.balanced.schedules)))
     (chunks_changed (All (λ chunk. chunk.release ≤ release_now chain)) who (rebonded amount) chain.book live.releases
     (without_by (release_now chain) amount (row_at chain.book who).chunks (live.releases who)))
+    (held_changed who (rebonded amount) chain.book chain.queue.items (λ row. refl) live.deposits)
 live_done chain who kinds.Withdraw live free =
     retired_live (record chain { book = changed who (withdrawn (era_now chain)) chain.book }) who (with_book chain (changed who (withdrawn (era_now chain)) chain.book) live
     (balanced-changed who (withdrawn (era_now chain)) chain.book live.balanced
     (keeps_withdrawn (row_at chain.book who) (era_now chain) (schedule_at who chain.book live.balanced.schedules)))
     (chunks_changed (All (λ chunk. chunk.release ≤ release_now chain)) who (withdrawn (era_now chain)) chain.book live.releases
-    (All-filter (λ chunk. nat_lt (era_now chain) chunk.release) (λ chunk. chunk.release ≤ release_now chain) (row_at chain.book who).chunks (live.releases who))))
+    (All-filter (λ chunk. nat_lt (era_now chain) chunk.release) (λ chunk. chunk.release ≤ release_now chain) (row_at chain.book who).chunks (live.releases who)))
+    (held_changed who (withdrawn (era_now chain)) chain.book chain.queue.items (λ row. refl) live.deposits))
 live_done chain who (kinds.Nominate targets) live free =
     let allowed = none_inside ByList (nominate_refusal chain.roles who targets) (second_none (option_map ByLedger (role_refusal chain who)) (option_map ByList (nominate_refusal chain.roles who targets)) free) in
     placed_live chain who (Nominator targets) (is_nominator_role (role_of chain.roles who)) (active_of chain who) live
@@ -254,7 +313,9 @@ live_done chain who (kinds.PutInFront lighter) live free =
     (front_listed chain.bags who (active_of chain who) lighter (active_of chain lighter)
     (none_inside ByList (put_in_front_refusal chain.bags who (active_of chain who) lighter (active_of chain lighter)) free)))
     (kept_of chain live)
-live_done chain who (kinds.Submit round claim bytes) live free = live
+live_done chain who (kinds.Submit round claim bytes) live free =
+    submitted_live chain (submission_of chain who claim bytes) live
+    (second_none (form_refusal chain round bytes) (offer_refusal chain (submission_of chain who claim bytes)) free)
 live_done chain who (kinds.Points items) live free = live
 live_done chain who (kinds.Payout era validator) live free = live
 live_done chain who (kinds.Offence era validator fraction) live free = live
@@ -323,11 +384,15 @@ live_closed chain live more = record {
   listing = live.listing;
   roles = live.roles;
   nominations = live.nominations;
+  round = live.round;
+  queue = live.queue;
+  deposits = live.deposits;
 }
 
--- the round is no part of it
-pub live_round : (chain : Chain) → IsLive chain → IsLive (round_phase chain).state
-live_round chain live = record {
+-- another round, and another committee that waits
+with_round : (chain : Chain) (round : Option Round) (waiting : Option Committee) → IsLive chain → IsSoundRound round
+    → IsLive (record chain { round = round; waiting = waiting })
+with_round chain round waiting live sound = record {
   params = live.params;
   due_at_least = live.due_at_least;
   due_at_most = live.due_at_most;
@@ -336,16 +401,114 @@ live_round chain live = record {
   listing = live.listing;
   roles = live.roles;
   nominations = live.nominations;
+  round = sound;
+  queue = live.queue;
+  deposits = live.deposits;
 }
+
+pub live_era : (chain : Chain) → IsLive chain → IsLive (era_phase chain).state
+live_era chain live = with_round chain chain.round (waiting_after chain.waiting (begun_era chain.params chain.due)) live live.round
+
+pub live_round : (chain : Chain) → IsLive chain → IsLive (round_phase chain).state
+live_round chain live = with_round chain (round_after chain (begun_round chain.params chain.due)) chain.waiting live (at (begun_round chain.params chain.due)) where
+  at : (begun : Option ℕ) → IsSoundRound (round_after chain begun)
+  at None = live.round
+  at (Some number) = sound_round chain number live
+
+-- a round is decided
+decided_live : (number : ℕ) (snapshot : Snapshot) (commissions : List ℕ) (chain : Chain) → IsLive chain → IsLive (decided number snapshot commissions chain).state
+decided_live number snapshot commissions chain live =
+    let books = books_settled (release_now chain) (reward_of chain.params) snapshot chain.queue.items chain.book (books_of chain live) in
+    record {
+      params = live.params;
+      due_at_least = live.due_at_least;
+      due_at_most = live.due_at_most;
+      balanced = books.balanced;
+      releases = books.releases;
+      listing = live.listing;
+      roles = live.roles;
+      nominations = live.nominations;
+      round = tt;
+      queue = record { some = live.queue.some; most = live.queue.most; fits = omega arith; by_rank = tt };
+      deposits = books.deposits;
+    }
+
+pub decision_of_live : (round : Option Round) (chain : Chain) → IsLive chain → IsLive (decision_of round chain).state
+decision_of_live None chain live = live
+decision_of_live (Some (rounds.Void number)) chain live = live
+decision_of_live (Some (rounds.Open number snapshot commissions)) chain live = decided_live number snapshot commissions chain live
+
+pub live_decision : (chain : Chain) → IsLive chain → IsLive (decision_phase chain).state
+live_decision chain live = at (is_decision chain.params chain.due) where
+  at : (b : Bool) → IsLive (if b then decision_of chain.round chain else quiet chain).state
+  at true = decision_of_live chain.round chain live
+  at false = live
+
+-- the decision changes neither which block is due nor the next number
+same_of : (round : Option Round) (chain : Chain) → ((decision_of round chain).state.due ≡ chain.due) × ((decision_of round chain).state.next ≡ chain.next)
+same_of None chain = (refl, refl)
+same_of (Some (rounds.Void number)) chain = (refl, refl)
+same_of (Some (rounds.Open number snapshot commissions)) chain = (refl, refl)
+
+pub same_decision : (chain : Chain) → ((decision_phase chain).state.due ≡ chain.due) × ((decision_phase chain).state.next ≡ chain.next)
+same_decision chain = at (is_decision chain.params chain.due) where
+  at : (b : Bool) → ((if b then decision_of chain.round chain else quiet chain).state.due ≡ chain.due)
+      × ((if b then decision_of chain.round chain else quiet chain).state.next ≡ chain.next)
+  at true = same_of chain.round chain
+  at false = (refl, refl)
+
+-- the chain as it is when the calls of its block begin
+abbrev pub before_calls : Chain → Chain
+before_calls chain = (decision_phase (round_phase (era_phase chain).state).state).state
+
+pub live_before : (chain : Chain) → IsLive chain → IsLive (before_calls chain)
+live_before chain live = live_decision (round_phase (era_phase chain).state).state (live_round (era_phase chain).state (live_era chain live))
+
+pub due_before : (chain : Chain) → (before_calls chain).due ≡ chain.due
+due_before chain = (same_decision (round_phase (era_phase chain).state).state).0
+
+pub next_before : (chain : Chain) → (before_calls chain).next ≡ chain.next
+next_before chain = (same_decision (round_phase (era_phase chain).state).state).1
 
 -- the step of a block keeps the chain live
 pub live_step : (chain : Chain) (block : Block) → IsLive chain → chain.due < 2 ^ 32 → IsLive (step chain block).state
 live_step chain block live more =
-    live_closed (calls_outcome 0 block.calls (round_phase chain).state).state (live_calls 0 block.calls (round_phase chain).state (live_round chain live))
-    (subst (λ (due : ℕ). due < 2 ^ 32) (sym (due_calls 0 block.calls (round_phase chain).state)) more)
+    live_closed (calls_outcome 0 block.calls (before_calls chain)).state (live_calls 0 block.calls (before_calls chain) (live_before chain live))
+    (omega (arith, due_calls 0 block.calls (before_calls chain), due_before chain, more))
 
 pub due_step : (chain : Chain) (block : Block) → (step chain block).state.due ≡ chain.due + 1
-due_step chain block = ap (λ due. due + 1) (due_calls 0 block.calls (round_phase chain).state)
+due_step chain block = ap (λ due. due + 1) (due_calls 0 block.calls (before_calls chain) ∙ due_before chain)
+
+-- a call takes at most one number
+next_done : (chain : Chain) (who : AccountId) (kind : CallKind) → (done_of chain who kind).next ≤ chain.next + 1
+unfolding done_of
+next_done chain who (kinds.Transfer to value) = omega arith
+next_done chain who (kinds.Bond value) = omega arith
+next_done chain who (kinds.BondExtra value) = omega arith
+next_done chain who (kinds.Unbond value) = omega arith
+next_done chain who (kinds.Rebond value) = omega arith
+next_done chain who kinds.Withdraw = omega arith
+next_done chain who (kinds.Nominate targets) = omega arith
+next_done chain who (kinds.Validate commission) = omega arith
+next_done chain who kinds.Chill = omega arith
+next_done chain who (kinds.Rebag whom) = omega arith
+next_done chain who (kinds.PutInFront lighter) = omega arith
+next_done chain who (kinds.Submit round claim bytes) = omega arith
+next_done chain who (kinds.Points items) = omega arith
+next_done chain who (kinds.Payout era validator) = omega arith
+next_done chain who (kinds.Offence era validator fraction) = omega arith
+
+next_after : (due : Option Refusal) (index : ℕ) (call : Call) (chain : Chain) → (call_after due index call chain).state.next ≤ chain.next + 1
+next_after None index call chain = next_done chain call.who call.kind
+next_after (Some refusal) index call chain = omega arith
+
+pub next_call : (index : ℕ) (call : Call) (chain : Chain) → (call_outcome index call chain).state.next ≤ chain.next + 1
+next_call index call chain = next_after (stop_of chain call.who call.kind) index call chain
+
+pub next_calls : (index : ℕ) (calls : List Call) (chain : Chain) → (calls_outcome index calls chain).state.next ≤ chain.next + length calls
+next_calls index [] chain = omega arith
+next_calls index (call ∷ calls) chain =
+    omega (arith, next_calls (index + 1) calls (call_outcome index call chain).state, next_call index call chain)
 
 -- and so do all blocks that there are numbers for
 pub live_blocks : (chain : Chain) (blocks : List Block) → IsLive chain → chain.due + length blocks ≤ 2 ^ 32 → IsLive (after_blocks chain blocks)

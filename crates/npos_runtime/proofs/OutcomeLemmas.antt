@@ -2,15 +2,15 @@
 use Rattle.std.proofs.Common.{◌≡◌, List, ◌++◌, ◌∙◌, ap, append_assoc}
 use Rattle.npos_runtime.specs.declared.chain.Chain.{Chain}
 use Rattle.npos_runtime.specs.declared.line.Line.{Line}
-use Rattle.npos_runtime.specs.Outcome.{Outcome, Goes, after, told_after}
+use Rattle.npos_runtime.specs.Outcome.{Outcome, Told, Goes, after, told_after}
 
-same_outcome : (a b : Outcome) → a.state ≡ b.state → a.lines ≡ b.lines → a ≡ b
-same_outcome a b state lines = λ i. record { state = state i; lines = lines i }
+same_told : (a b : Told) → a.state ≡ b.state → a.lines ≡ b.lines → a ≡ b
+same_told a b state lines = λ i. record { state = state i; lines = lines i }
 
 -- what was told already stands before what is told next
 pub told_more : (first : Outcome) (next : Chain → Outcome) (new : Chain) (told_old told_new : List Line) → Goes first new told_old told_new
     → told_after told_new (next new) ≡ told_after told_old (after first next)
 told_more first next new told_old told_new goes =
-    same_outcome (told_after told_new (next new)) (told_after told_old (after first next))
+    same_told (told_after told_new (next new)) (told_after told_old (after first next))
     (ap (λ (c : Chain). (next c).state) goes.state)
     ((λ i. goes.lines i ++ (next (goes.state i)).lines) ∙ append_assoc told_old first.lines (next first.state).lines)

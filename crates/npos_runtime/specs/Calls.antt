@@ -1,5 +1,5 @@
 -- The kinds of call, one by one: the first refusal that is due, and what the chain becomes where none is.
-use Rattle.std.specs.Prelude.{ℕ, ◌+◌, List, Option, Some, None, option_map, nat_lt, not, if◌then◌else◌}
+use Rattle.std.specs.Prelude.{ℕ, ◌+◌, List, [], Option, Some, None, option_map, nat_lt, not, if◌then◌else◌}
 use Rattle.std.specs.Option.{option_or}
 use Rattle.npos_base.specs.declared.account.AccountId.{AccountId}
 use Rattle.block_wire.specs.declared.call.CallKind.{CallKind}
@@ -16,6 +16,8 @@ use Rattle.npos_runtime.specs.declared.refusal.Refusal.{Refusal}
 use Rattle.npos_runtime.specs.declared.refusal.Refusal.TheVariants.{Ledger as ByLedger, List as ByList, NotBuilt}
 use Rattle.npos_runtime.specs.Rules.{bonding_eras_of, least_bond_of, era_of}
 use Rattle.npos_runtime.specs.Ballots.{active_of}
+use Rattle.npos_runtime.specs.declared.line.Line.{Line}
+use Rattle.npos_runtime.specs.Signed.{submit_stop, submit_done, submit_told}
 use Rattle.npos_runtime.specs.Lists.{has_role, is_nominator_role, is_validator_role, placed, with_stake, retired}
 
 -- the era of the block that is due
@@ -128,6 +130,7 @@ stop_of chain who (kinds.Validate commission) = validate_stop chain who commissi
 stop_of chain who kinds.Chill = chill_stop chain who
 stop_of chain who (kinds.Rebag whom) = rebag_stop chain whom
 stop_of chain who (kinds.PutInFront lighter) = put_in_front_stop chain who lighter
+stop_of chain who (kinds.Submit round claim bytes) = submit_stop chain who round claim bytes
 stop_of chain who other = Some NotBuilt
 
 -- the table of effects
@@ -143,4 +146,10 @@ done_of chain who (kinds.Validate commission) = validate_done chain who commissi
 done_of chain who kinds.Chill = chill_done chain who
 done_of chain who (kinds.Rebag whom) = rebag_done chain whom
 done_of chain who (kinds.PutInFront lighter) = put_in_front_done chain who lighter
+done_of chain who (kinds.Submit round claim bytes) = submit_done chain who claim bytes
 done_of chain who other = chain
+
+-- the table of what a call tells besides that it was accepted
+unfoldable pub told_of : Chain → AccountId → CallKind → List Line
+told_of chain who (kinds.Submit round claim bytes) = submit_told chain who claim bytes
+told_of chain who other = []

@@ -11,7 +11,8 @@ use Rattle.block_wire.specs.declared.genesis.Genesis.TheVariants.{Plain, Full}
 use Rattle.stake_ledger.specs.Ledger.{Ledger, row_of, empty_ledger, issuance_cap}
 use Rattle.stake_ledger.specs.Calls.{endowed}
 use Rattle.npos_runtime.specs.declared.chain.Chain.{Chain}
-use Rattle.npos_runtime.specs.Rules.{thresholds_in}
+use Rattle.submission_queue.specs.Ranking.{empty_queue}
+use Rattle.npos_runtime.specs.Rules.{thresholds_in, places_of}
 use Rattle.npos_runtime.specs.declared.begin.GenesisFault.{GenesisFault}
 use Rattle.npos_runtime.specs.declared.begin.GenesisFault.TheVariants.{RepeatedAccount, TooMuch, BadSeats, BadPhases, BadBonding, BadMinimum, BadThreshold, BadQueue, BadSolutionMax, NoMemory}
 
@@ -95,6 +96,9 @@ genesis_chain genesis = record {
   roles = [];
   bags = record { thresholds = thresholds_of genesis; order = [] };
   round = None;
+  queue = empty_queue (places_of (params_of genesis));
+  next = 1;
+  waiting = None;
   due = 1;
 }
 

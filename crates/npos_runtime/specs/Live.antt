@@ -1,5 +1,5 @@
--- What holds of a chain between any two blocks, besides what its parts keep.
-use Rattle.std.specs.Prelude.{◌≡◌, ℕ, ◌^◌, ◌≤◌, false, All, List, count_by, length, Option, Some, None}
+-- What holds of a chain, besides what its parts keep.
+use Rattle.std.specs.Prelude.{◌≡◌, ℕ, ◌+◌, ◌-◌, ◌*◌, ◌^◌, ◌≤◌, false, All, List, count_by, length, Option, Some, None}
 use Rattle.npos_base.specs.declared.account.AccountId.{AccountId}
 use Rattle.block_wire.specs.declared.genesis.Params.{Params}
 use Rattle.stake_ledger.specs.Ledger.{row_at, IsBalanced}
@@ -10,6 +10,11 @@ use Rattle.npos_base.specs.Account.{same_account}
 use Rattle.voter_lists.specs.Ranked.{AreRanked}
 use Rattle.voter_lists.specs.Roles.{RoleList, nominated_by, validators_of, has_repeat}
 use Rattle.voter_lists.specs.Bags.{Listing, is_listed, walk}
+use Rattle.election_snapshot.specs.Snapshot.{IsWellFormed}
+use Rattle.submission_queue.specs.Ranking.{IsOrdered}
+use Rattle.npos_runtime.specs.declared.round.Round.{Round}
+use Rattle.npos_runtime.specs.declared.round.Round.TheVariants.{Open}
+use Rattle.npos_runtime.specs.Deposits.{AreHeld}
 use Rattle.npos_runtime.specs.Lists.{has_role}
 
 -- the params are without a fault
@@ -39,7 +44,12 @@ pub record IsNomination (targets : List AccountId) : Type 0 where
   pub few : length targets ≤ 16
   pub distinct : has_repeat targets ≡ false
 
--- a chain that can take its next block
+-- a round that is open has a well-formed snapshot
+abbrev pub IsSoundRound : Option Round → Type 0
+IsSoundRound (Some (Open number snapshot commissions)) = IsWellFormed snapshot
+IsSoundRound other = Unit {0}
+
+-- what holds of a chain at any time
 pub record IsLive (chain : Chain) : Type 0 where
   pub params : AreSound chain.params
   -- block numbers are u32, so the last due number is the one behind them
@@ -52,3 +62,16 @@ pub record IsLive (chain : Chain) : Type 0 where
   -- there are at most 2,048 validators
   pub roles : AreRanked chain.roles (validators_of chain.roles)
   pub nominations : (who : AccountId) → IsNomination (nominated_by chain.roles who)
+  pub round : IsSoundRound chain.round
+  pub queue : IsOrdered chain.queue
+  pub deposits : AreHeld chain.book chain.queue.items
+
+-- A block has fewer than 2^32 calls, and block numbers are u32, so the numbers of submissions fit u64.
+abbrev pub most_calls : ℕ
+most_calls = 2 ^ 32 - 1
+
+-- a chain that can take its next block
+pub record IsReady (chain : Chain) : Type 0 where
+  pub live : IsLive chain
+  -- no block before took more submissions than it may have calls
+  pub numbered : chain.next ≤ 1 + most_calls * (chain.due - 1)

@@ -1,26 +1,48 @@
 -- What a part of a step makes of a chain, and what it tells.
-use Rattle.std.specs.Prelude.{◌≡◌, List, [], ◌++◌, Option, option_map, Result}
+use Rattle.std.specs.Prelude.{◌≡◌, ℕ, List, [], ◌++◌, Option, option_map, Result}
 use Rattle.npos_base.specs.Refusal.{MeetsWhileRoom}
+use Rattle.election_snapshot.specs.Snapshot.{Snapshot}
+use Rattle.weight_book.specs.Weights.{Weights}
 use Rattle.npos_runtime.specs.declared.chain.Chain.{Chain}
 use Rattle.npos_runtime.specs.declared.line.Line.{Line}
 use Rattle.npos_runtime.specs.declared.refusal.Refusal.{Refusal}
 use Rattle.npos_runtime.specs.declared.stop.Stop.{Stop}
 use Rattle.npos_runtime.specs.declared.stop.Stop.TheVariants as stops
 
+-- an election: the number of its round, its snapshot, and the weights of its committee
+pub record Election : Type 0 where
+  pub round : ℕ
+  pub snapshot : Snapshot
+  pub weights : Weights
+
+-- the chain that it leaves, the lines that it tells, and the elections that it seats
 pub record Outcome : Type 0 where
   pub state : Chain
   pub lines : List Line
+  pub seated : List Election
+
+-- lines alone: nothing happens and nobody is seated
+abbrev pub telling : List Line → Chain → Outcome
+telling lines chain = record { state = chain; lines = lines; seated = [] }
 
 -- nothing happens
 abbrev pub quiet : Chain → Outcome
-quiet chain = record { state = chain; lines = [] }
+quiet chain = telling [] chain
 
 -- one thing and then the next
 abbrev pub after : Outcome → (Chain → Outcome) → Outcome
-after first next = record { state = (next first.state).state; lines = first.lines ++ (next first.state).lines }
+after first next = record {
+  state = (next first.state).state;
+  lines = first.lines ++ (next first.state).lines;
+  seated = first.seated ++ (next first.state).seated;
+}
 
--- lines before those of an outcome
-abbrev pub told_after : List Line → Outcome → Outcome
+-- a chain, and all that was told up to it
+pub record Told : Type 0 where
+  pub state : Chain
+  pub lines : List Line
+
+abbrev pub told_after : List Line → Outcome → Told
 told_after lines outcome = record { state = outcome.state; lines = lines ++ outcome.lines }
 
 -- a part of a step has this outcome: the chain is its state, and its lines were appended

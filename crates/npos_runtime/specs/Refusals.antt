@@ -5,7 +5,7 @@ use Rattle.stake_ledger.specs.declared.refusal.LedgerRefusal.TheVariants as book
 use Rattle.voter_lists.specs.declared.refusal.ListRefusal.{ListRefusal}
 use Rattle.voter_lists.specs.declared.refusal.ListRefusal.TheVariants as lists
 use Rattle.npos_runtime.specs.declared.refusal.Refusal.{Refusal}
-use Rattle.npos_runtime.specs.declared.refusal.Refusal.TheVariants.{Ledger, List, NotBuilt}
+use Rattle.npos_runtime.specs.declared.refusal.Refusal.TheVariants.{Ledger, List, NotBetter, WrongPhase, WrongRound, SolutionTooLong, NotBuilt}
 
 -- want of memory is no reason to refuse a call, and has no number
 abbrev pub ledger_code : LedgerRefusal → ℕ
@@ -36,4 +36,8 @@ list_code lists.NoMemory = 0
 abbrev pub code_of : Refusal → ℕ
 code_of (Ledger refusal) = ledger_code refusal
 code_of (List refusal) = list_code refusal
+code_of NotBetter = 20
+code_of WrongPhase = 28
+code_of WrongRound = 29
+code_of SolutionTooLong = 30
 code_of NotBuilt = 99

@@ -8,7 +8,7 @@ use Rattle.npos_runtime.specs.declared.round.Round.TheVariants as rounds
 use Rattle.npos_runtime.specs.declared.line.Line.{Line}
 use Rattle.npos_runtime.specs.declared.line.Line.TheVariants as lines
 use Rattle.npos_runtime.specs.Rules.{era_of, place_of}
-use Rattle.npos_runtime.specs.Outcome.{Outcome}
+use Rattle.npos_runtime.specs.Outcome.{Outcome, telling}
 use Rattle.npos_runtime.specs.Ballots.{snapshot_of, commissions_of}
 
 -- the round whose snapshot is taken in this block, if one is; the round of an era is one more than the era
@@ -44,7 +44,6 @@ round_after chain None = chain.round
 round_after chain (Some number) = Some (round_now chain number)
 
 abbrev pub round_phase : Chain → Outcome
-round_phase chain = record {
-  state = record chain { round = round_after chain (begun_round chain.params chain.due) };
-  lines = option_to_list (option_map (λ number. round_line number (snapshot_of chain)) (begun_round chain.params chain.due));
-}
+round_phase chain =
+    telling (option_to_list (option_map (λ number. round_line number (snapshot_of chain)) (begun_round chain.params chain.due)))
+    (record chain { round = round_after chain (begun_round chain.params chain.due) })

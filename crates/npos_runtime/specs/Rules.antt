@@ -1,5 +1,5 @@
 -- What the params of the genesis say. A plain genesis has none: the column of constants is what holds then.
-use Rattle.std.specs.Prelude.{ℕ, List, [], ◌-◌, ◌/◌, ◌%◌, Option, Some, None, nat_lt, ◌==◌, ◌&&◌, if◌then◌else◌}
+use Rattle.std.specs.Prelude.{ℕ, List, [], ◌-◌, ◌/◌, ◌%◌, Option, Some, None, ◌+◌, Bool, false, nat_lt, nat_le, ◌==◌, ◌&&◌, if◌then◌else◌}
 use Rattle.block_wire.specs.declared.genesis.Params.{Params}
 
 -- the number of eras that stake stays bonded after an unbond
@@ -30,3 +30,34 @@ begun_era (Some params) number =
 abbrev pub thresholds_in : Option Params → List ℕ
 thresholds_in None = []
 thresholds_in (Some params) = params.thresholds
+
+-- what is held for a submission, and what the winner of a round gets
+abbrev pub deposit_of : Option Params → ℕ
+deposit_of None = 0
+deposit_of (Some params) = params.deposit
+
+abbrev pub reward_of : Option Params → ℕ
+reward_of None = 0
+reward_of (Some params) = params.reward
+
+-- the most bytes of a solution
+abbrev pub solution_max_of : Option Params → ℕ
+solution_max_of None = 1
+solution_max_of (Some params) = params.solution_max
+
+-- how many submissions can wait
+abbrev pub places_of : Option Params → ℕ
+places_of None = 1
+places_of (Some params) = params.queue
+
+-- submissions are taken from the block of the snapshot on, for as many blocks as the params say
+abbrev pub is_signed : Option Params → ℕ → Bool
+is_signed None number = false
+is_signed (Some params) number =
+    nat_le params.offset (place_of params number)
+    && nat_lt (place_of params number) (params.offset + params.signed)
+
+-- the block behind them is the one of the decision
+abbrev pub is_decision : Option Params → ℕ → Bool
+is_decision None number = false
+is_decision (Some params) number = place_of params number == params.offset + params.signed

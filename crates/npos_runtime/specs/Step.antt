@@ -1,26 +1,38 @@
--- The step of a block: the line of the block, the era that may begin, the round that may, and then the calls in order.
-use Rattle.std.specs.Prelude.{ℕ, ◌+◌, List, [], ◌∷◌, Option, Some, None, option_map, option_to_list}
+-- The step of a block: the line of the block, the era that may begin, the round that may, the decision that may be due,
+-- and then the calls in order.
+use Rattle.std.specs.Prelude.{ℕ, ◌+◌, List, [], ◌∷◌, ◌++◌, Option, Some, None, option_map, option_to_list}
 use Rattle.block_wire.specs.declared.call.Call.{Call}
 use Rattle.block_wire.specs.declared.block.Block.{Block}
 use Rattle.npos_runtime.specs.declared.chain.Chain.{Chain}
+use Rattle.npos_runtime.specs.declared.line.Line.{Line}
 use Rattle.npos_runtime.specs.declared.line.Line.TheVariants as lines
 use Rattle.npos_runtime.specs.declared.refusal.Refusal.{Refusal}
 use Rattle.npos_runtime.specs.Rules.{begun_era}
 use Rattle.npos_runtime.specs.Refusals.{code_of}
-use Rattle.npos_runtime.specs.Outcome.{Outcome, quiet, after}
+use Rattle.npos_runtime.specs.Outcome.{Election, Outcome, telling, quiet, after}
+use Rattle.npos_runtime.specs.Committee.{Committee}
 use Rattle.npos_runtime.specs.Rounds.{round_phase}
-use Rattle.npos_runtime.specs.Calls.{stop_of, done_of}
+use Rattle.npos_runtime.specs.Decision.{decision_phase}
+use Rattle.npos_runtime.specs.Calls.{stop_of, done_of, told_of}
 
 abbrev pub opened : ℕ → Chain → Outcome
-opened number chain = record { state = chain; lines = lines.Block number ∷ [] }
+opened number chain = telling (lines.Block number ∷ []) chain
+
+-- nobody waits from an era's start on
+abbrev pub waiting_after : Option Committee → Option ℕ → Option Committee
+waiting_after waiting None = waiting
+waiting_after waiting (Some era) = None
 
 abbrev pub era_phase : Chain → Outcome
-era_phase chain = record { state = chain; lines = option_to_list (option_map lines.Era (begun_era chain.params chain.due)) }
+era_phase chain =
+    telling (option_to_list (option_map lines.Era (begun_era chain.params chain.due)))
+    (record chain { waiting = waiting_after chain.waiting (begun_era chain.params chain.due) })
 
 -- one call, at its place in the block
 abbrev pub call_after : Option Refusal → ℕ → Call → Chain → Outcome
-call_after None index call chain = record { state = done_of chain call.who call.kind; lines = lines.CallOk index ∷ [] }
-call_after (Some refusal) index call chain = record { state = chain; lines = lines.CallRefused index (code_of refusal) ∷ [] }
+call_after None index call chain =
+    telling (lines.CallOk index ∷ told_of chain call.who call.kind) (done_of chain call.who call.kind)
+call_after (Some refusal) index call chain = telling (lines.CallRefused index (code_of refusal) ∷ []) chain
 
 abbrev pub call_outcome : ℕ → Call → Chain → Outcome
 call_outcome index call chain = call_after (stop_of chain call.who call.kind) index call chain
@@ -35,9 +47,19 @@ closed chain = quiet (record chain { due = chain.due + 1 })
 
 abbrev pub step : Chain → Block → Outcome
 step chain block =
-    after (after (after (after (opened block.number chain) era_phase) round_phase) (calls_outcome 0 block.calls)) closed
+    after (after (after (after (after (opened block.number chain) era_phase) round_phase) decision_phase)
+    (calls_outcome 0 block.calls)) closed
 
 -- the chain after each block in turn
 abbrev pub after_blocks : Chain → List Block → Chain
 after_blocks chain [] = chain
 after_blocks chain (block ∷ more) = after_blocks (step chain block).state more
+
+-- what the blocks tell, and the elections that they seat
+abbrev pub told_by : Chain → List Block → List Line
+told_by chain [] = []
+told_by chain (block ∷ more) = (step chain block).lines ++ told_by (step chain block).state more
+
+abbrev pub seated_by : Chain → List Block → List Election
+seated_by chain [] = []
+seated_by chain (block ∷ more) = (step chain block).seated ++ seated_by (step chain block).state more

@@ -1,17 +1,18 @@
 //! The kinds of call, one function each.
-ghost use Rattle.std.specs.Prelude.{◌≡◌, Err, None, Some, OnOk, IfErr};
+ghost use Rattle.std.specs.Prelude.{◌≡◌, ◌+◌, ◌<◌, ◌^◌, ◌++◌, Err, None, Some, OnOk, IfErr};
 ghost use Rattle.npos_runtime.specs.declared.refusal.Refusal.TheVariants as refusals;
 ghost use Rattle.npos_runtime.specs.declared.stop.Stop.TheVariants as stops;
 ghost use Rattle.npos_runtime.specs.Outcome.{Meets};
 ghost use Rattle.npos_runtime.specs.Live.{IsLive, IsJoined};
 ghost use Rattle.npos_runtime.specs.Ballots.{active_of};
-ghost use Rattle.npos_runtime.specs.Calls.{release_now, stop_of, done_of, transfer_stop, transfer_done, bond_stop, bond_done, bond_extra_stop, bond_extra_done, unbond_stop, unbond_done, rebond_stop, rebond_done, withdraw_stop, withdraw_done, least_active, role_refusal, nominate_stop, nominate_done, validate_stop, validate_done, chill_stop, chill_done, rebag_stop, rebag_done, put_in_front_stop, put_in_front_done};
+ghost use Rattle.npos_runtime.specs.Calls.{release_now, stop_of, done_of, told_of, transfer_stop, transfer_done, bond_stop, bond_done, bond_extra_stop, bond_extra_done, unbond_stop, unbond_done, rebond_stop, rebond_done, withdraw_stop, withdraw_done, least_active, role_refusal, nominate_stop, nominate_done, validate_stop, validate_done, chill_stop, chill_done, rebag_stop, rebag_done, put_in_front_stop, put_in_front_done};
 ghost use Rattle.voter_lists.specs.Bags.{is_listed};
 ghost use Rattle.npos_runtime.specs.Lists.{has_role, is_role, listed_anew, placed, retired, unlisted, with_stake};
 
 use crate::rules::{bonding_eras_of, era_of, least_bond_of};
+use crate::signed::submit;
 use crate::stop::Stop;
-use crate::{Chain, Refusal};
+use crate::{Chain, Line, Refusal};
 use block_wire::CallKind;
 use npos_base::{AccountId, List, NoMemory};
 use stake_ledger::LedgerRefusal;
@@ -221,11 +222,18 @@ fn not_built() -> Result<(), Stop>
     Err(Stop::Refused(Refusal::NotBuilt))
 }
 
-/// Does what the call asks for, or stops.
-#[tactic(auto, unfolding(crate::specs::Calls::stop_of, crate::specs::Calls::done_of))]
-pub fn act(chain: &mut Chain, who: AccountId, kind: CallKind) -> Result<(), Stop>
-    requires { IsLive chain.old }
-    ensures { Meets (stop_of chain.old who kind) (done_of chain.old who kind) chain.old chain.new result }
+/// Does what the call asks for, or stops. What it tells besides that it was accepted goes to `more`.
+#[tactic(auto, unfolding(crate::specs::Calls::stop_of, crate::specs::Calls::done_of, crate::specs::Calls::told_of))]
+pub fn act(
+    chain: &mut Chain,
+    more: &mut Vec<Line>,
+    who: AccountId,
+    kind: CallKind,
+) -> Result<(), Stop>
+    requires live { IsLive chain.old }
+    requires numbers { chain.old.next + 1 < 2 ^ 64 }
+    ensures meets { Meets (stop_of chain.old who kind) (done_of chain.old who kind) chain.old chain.new result }
+    ensures told { OnOk result (more.new.items ≡ more.old.items ++ told_of chain.old who kind) }
 {
     match kind {
         CallKind::Transfer { to, value } => transfer(chain, who, to, value),
@@ -239,6 +247,11 @@ pub fn act(chain: &mut Chain, who: AccountId, kind: CallKind) -> Result<(), Stop
         CallKind::Chill => chill(chain, who),
         CallKind::Rebag { whom } => rebag(chain, whom),
         CallKind::PutInFront { lighter } => put_in_front(chain, who, lighter),
+        CallKind::Submit {
+            round,
+            claim,
+            bytes,
+        } => submit(chain, more, who, round, claim, bytes),
         _ => not_built(),
     }
 }

@@ -8,10 +8,12 @@ ghost use Rattle.npos_runtime.specs.Live.{AreSound};
 ghost use Rattle.npos_runtime.specs.declared.begin.GenesisFault.TheVariants.{NoMemory as NoMemoryFault};
 
 use crate::Chain;
+use crate::rules::places_of;
 use block_wire::{Endowment, Genesis, Params};
 use npos_base::{List, NoMemory};
 use stake_ledger::{Book, LedgerRefusal};
 use std::alloc::Global;
+use submission_queue::Queue;
 use thiserror::Error;
 use voter_lists::{Bags, Roles};
 
@@ -226,12 +228,16 @@ pub fn begin(alloc: Global, genesis: Genesis) -> Result<Chain, GenesisFault>
         check_params(params)?;
     }
     let bags = empty_bags(alloc, &params)?;
+    let queue = Queue::new(alloc, places_of(&params))?;
     Ok(Chain {
         params,
         book,
         roles: Roles::new(alloc),
         bags,
         round: None,
+        queue,
+        next: 1,
+        waiting: None,
         due: 1,
     })
 }

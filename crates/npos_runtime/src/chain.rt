@@ -1,8 +1,9 @@
 //! The state of a chain.
 
-use crate::Round;
+use crate::{Round, Waiting};
 use block_wire::Params;
 use stake_ledger::Book;
+use submission_queue::Queue;
 use voter_lists::{Bags, Roles};
 
 /// The state of a chain, between two blocks. Contracts see it as the record of what its parts stand for.
@@ -14,8 +15,14 @@ pub struct Chain {
     pub roles: Roles,
     /// The accounts with a role, by coarse active stake.
     pub bags: Bags,
-    /// The last round that began, if any.
+    /// The last round that began, until it is decided. A void one stays until the next begins.
     pub round: Option<Round>,
+    /// The submissions of the round, by rank.
+    pub queue: Queue,
+    /// The number that the next accepted submission takes.
+    pub next: u64,
+    /// The committee that waits for its era, if any.
+    pub waiting: Option<Waiting>,
     /// The number of the next block.
     pub due: u64,
 }

@@ -5,6 +5,8 @@ mod act;
 mod ballot;
 mod begin;
 mod chain;
+mod decision;
+mod deposits;
 mod guesses;
 pub mod laws;
 mod line;
@@ -12,10 +14,12 @@ mod refusal;
 mod round;
 mod rules;
 mod runtime;
+mod signed;
 mod step;
 mod stop;
 #[cfg(test)]
 mod tests;
+mod waiting;
 
 pub use begin::GenesisFault;
 pub use chain::Chain;
@@ -23,3 +27,4 @@ pub use line::Line;
 pub use refusal::Refusal;
 pub use round::Round;
 pub use runtime::{BlockFault, Receipt, Runtime};
+pub use waiting::Waiting;

@@ -1,5 +1,8 @@
 //! The lines of a receipt.
 
+use election_check::Verdict;
+use npos_base::AccountId;
+
 /// One line of a receipt. The program prints it; here it is data.
 #[derive(Clone, Copy, Debug, PartialEq, Eq)]
 pub enum Line {
@@ -25,6 +28,36 @@ pub enum Line {
     /// A round is void, since the stakes sum to less than the seats times the seats.
     VoidPoor {
         round: u32,
+    },
+    /// A submission does not hold, by this verdict: its deposit is burned.
+    Forfeit {
+        number: u64,
+        deposit: u64,
+        verdict: Verdict,
+    },
+    /// The deposit of a submission is free again.
+    Returned {
+        number: u64,
+        deposit: u64,
+    },
+    /// So much was minted to the account of the submission that won.
+    Reward {
+        number: u64,
+        amount: u64,
+    },
+    /// A committee is seated, from the submission with this number.
+    SeatSigned {
+        round: u32,
+        number: u64,
+    },
+    /// A committee is seated, from the fill, since no submission held.
+    SeatFill {
+        round: u32,
+    },
+    /// A member of the committee, with its support.
+    Member {
+        who: AccountId,
+        support: u64,
     },
     /// The call at this place of the block was accepted.
     CallOk {

@@ -12,6 +12,14 @@ pub enum Refusal {
     Ledger(LedgerRefusal),
     /// The roles or the bags refuse, for one of their reasons other than want of memory.
     List(ListRefusal),
+    /// The queue is full, and the claim is not better than the last one in it.
+    NotBetter,
+    /// No round takes submissions in this block.
+    WrongPhase,
+    /// The submission names another round than the current one.
+    WrongRound,
+    /// The solution has more bytes than the genesis allows.
+    SolutionTooLong,
     /// Calls of this kind are not built yet.
     NotBuilt,
 }
@@ -24,6 +32,10 @@ impl Refusal {
         match self {
             Refusal::Ledger(refusal) => ledger_code(refusal),
             Refusal::List(refusal) => list_code(refusal),
+            Refusal::NotBetter => 20,
+            Refusal::WrongPhase => 28,
+            Refusal::WrongRound => 29,
+            Refusal::SolutionTooLong => 30,
             Refusal::NotBuilt => 99,
         }
     }

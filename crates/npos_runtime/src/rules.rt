@@ -4,6 +4,7 @@ ghost use Rattle.npos_runtime.specs.Rules as rules;
 ghost use Rattle.npos_runtime.specs.Ballots.{seats_of};
 ghost use Rattle.npos_runtime.specs.Rounds.{begun_round};
 ghost use Rattle.npos_runtime.specs.Live.{AreSound};
+ghost use Rattle.npos_base.specs.declared.limits.TheConstants.{MOST_QUEUED};
 
 use block_wire::Params;
 
@@ -79,4 +80,62 @@ pub fn begun_round(params: &Option<Params>, number: u64) -> Option<u32>
     } else {
         None
     }
+}
+
+/// What is held for a submission.
+pub fn deposit_of(params: &Option<Params>) -> u64
+    ensures { result ≡ rules.deposit_of params.now }
+{
+    params.as_ref().map_or(0, |params| params.deposit)
+}
+
+/// What the winner of a round gets.
+pub fn reward_of(params: &Option<Params>) -> u64
+    ensures { result ≡ rules.reward_of params.now }
+{
+    params.as_ref().map_or(0, |params| params.reward)
+}
+
+/// The most bytes of a solution.
+pub fn solution_max_of(params: &Option<Params>) -> u32
+    ensures { result ≡ rules.solution_max_of params.now }
+{
+    params.as_ref().map_or(1, |params| params.solution_max)
+}
+
+/// How many submissions can wait.
+pub fn places_of(params: &Option<Params>) -> u32
+    requires { AreSound params.now }
+    ensures value { result ≡ rules.places_of params.now }
+    ensures some { 1 ≤ result }
+    ensures few { result ≤ MOST_QUEUED }
+{
+    params.as_ref().map_or(1, |params| params.queue)
+}
+
+/// Whether submissions are taken in the block of this number.
+pub fn is_signed(params: &Option<Params>, number: u64) -> bool
+    requires sound { AreSound params.now }
+    requires counted { 1 ≤ number }
+    ensures { result ≡ rules.is_signed params.now number }
+{
+    let Some(params) = params else {
+        return false;
+    };
+    let place = (number - 1) % u64::from(params.era_blocks);
+    u64::from(params.offset) <= place
+        && place < u64::from(params.offset) + u64::from(params.signed)
+}
+
+/// Whether a round is decided in the block of this number.
+pub fn is_decision(params: &Option<Params>, number: u64) -> bool
+    requires sound { AreSound params.now }
+    requires counted { 1 ≤ number }
+    ensures { result ≡ rules.is_decision params.now number }
+{
+    let Some(params) = params else {
+        return false;
+    };
+    let place = (number - 1) % u64::from(params.era_blocks);
+    place == u64::from(params.offset) + u64::from(params.signed)
 }

@@ -2,8 +2,10 @@
 ghost use Rattle.std.specs.Prelude.{◌≡◌, ◌≢◌, ◌<◌, ◌≤◌, ◌^◌, true, false, length, None, Err, OnOk, IfOk, IfErr};
 ghost use Rattle.stake_ledger.specs.Ledger.{IsBalanced, totals_of};
 ghost use Rattle.npos_runtime.specs.Genesis.{IsFault, endowments_of, genesis_chain, genesis_fault, thresholds_of};
+ghost use Rattle.std.specs.Option.{option_copied};
 ghost use Rattle.npos_runtime.specs.Life.{AppliesWell, HasFault};
-ghost use Rattle.npos_runtime.specs.Live.{IsLive, IsJoined};
+ghost use Rattle.npos_runtime.specs.Committee.{IsSeated};
+ghost use Rattle.npos_runtime.specs.Live.{IsReady, IsJoined};
 ghost use Rattle.npos_runtime.specs.declared.runtime.BlockFault.TheVariants as faults;
 ghost use Rattle.npos_runtime.specs.declared.runtime.BlockFault.TheVariants.{NoMemory as NoMemoryFault};
 
@@ -11,10 +13,12 @@ use crate::begin::begin;
 use crate::step::take_block;
 use crate::{Chain, GenesisFault, Line};
 use block_wire::{Block, Genesis};
+use election_check::Elected;
 use npos_base::{List, NoMemory};
 use stake_ledger::{Book, Totals};
 use std::alloc::Global;
 use std::marker::Model;
+use submission_queue::Queue;
 use thiserror::Error;
 use voter_lists::{Bags, Roles};
 
@@ -57,18 +61,18 @@ pub struct Runtime {
 impl Model for Runtime {
     ghost use Rattle.std.specs.Prelude.{◌≡◌, false};
     ghost use Rattle.npos_runtime.specs.Life.{Life};
-    ghost use Rattle.npos_runtime.specs.Live.{IsLive};
+    ghost use Rattle.npos_runtime.specs.Live.{IsReady};
 
     ghost Value = { Life };
 
     ghost view = { λ r. record { state = r.chain; spent = r.spent } };
 
-    ghost invariant = { λ r. r.spent ≡ false → IsLive r.chain };
+    ghost invariant = { λ r. r.spent ≡ false → IsReady r.chain };
 }
 
 impl Runtime {
     /// The chain of a genesis, or the first fault that the genesis has.
-    #[tactic(auto, using(crate::proofs::BeginLemmas::live_begun))]
+    #[tactic(auto, using(crate::proofs::BeginLemmas::ready_begun))]
     pub fn start(alloc: Global, genesis: Genesis) -> Result<Runtime, GenesisFault>
         requires few_endowments { length (endowments_of genesis) ≤ 65536 }
         requires few_thresholds { length (thresholds_of genesis) ≤ 200 }
@@ -149,11 +153,29 @@ impl Runtime {
         &self.chain.bags
     }
 
+    /// The submissions that wait to be judged.
+    pub fn queue(&self) -> &Queue
+        ensures { result.now ≡ self.now.state.queue }
+    {
+        &self.chain.queue
+    }
+
+    /// The committee that waits for its era. There is none from an era's start to the next
+    /// decision, nor after a void round.
+    pub fn seated(&self) -> Option<&Elected>
+        ensures { IsSeated self.now.state.waiting (option_copied result) }
+    {
+        match &self.chain.waiting {
+            Some(waiting) => Some(&waiting.elected),
+            None => None,
+        }
+    }
+
     /// The sums over the books. All holdings equal genesis plus minted less burned, also where the runtime is spent.
     pub fn totals(&self) -> Totals
         ensures value { result ≡ totals_of self.now.state.book }
         ensures balanced { IsBalanced self.now.state.book }
-        ensures live { self.now.spent ≡ false → IsLive self.now.state }
+        ensures ready { self.now.spent ≡ false → IsReady self.now.state }
     {
         self.chain.book.totals()
     }

@@ -3,10 +3,11 @@ ghost use Rattle.std.specs.Prelude.{◌≡◌, ◌+◌, ◌<◌, ◌≤◌, ◌^
 ghost use Rattle.npos_runtime.specs.Outcome.{Goes, Outcome};
 ghost use Rattle.npos_runtime.specs.Step.{call_outcome, calls_outcome, era_phase, opened, step};
 ghost use Rattle.npos_runtime.specs.Rounds.{round_phase};
-ghost use Rattle.npos_runtime.specs.Live.{IsLive};
+ghost use Rattle.npos_runtime.specs.Live.{IsLive, IsReady};
 
 use crate::act::act;
 use crate::ballot::take_snapshot;
+use crate::decision::decide_round;
 use crate::rules::{begun_era, begun_round};
 use crate::stop::Stop;
 use crate::{Chain, Line};
@@ -14,13 +15,14 @@ use block_wire::Call;
 use npos_base::NoMemory;
 use std::alloc::Global;
 
-/// An era may begin.
-fn begin_era(chain: &Chain, lines: &mut Vec<Line>) -> Result<(), NoMemory>
-    requires { IsLive chain.now }
-    ensures { OnOk result (Goes (era_phase chain.now) chain.now lines.old.items lines.new.items) }
+/// An era may begin. Then nobody waits any more.
+fn begin_era(chain: &mut Chain, lines: &mut Vec<Line>) -> Result<(), NoMemory>
+    requires { IsLive chain.old }
+    ensures { OnOk result (Goes (era_phase chain.old) chain.new lines.old.items lines.new.items) }
 {
     if let Some(era) = begun_era(&chain.params, chain.due) {
         lines.push(Line::Era { era })?;
+        chain.waiting = None;
     }
     Ok(())
 }
@@ -40,37 +42,51 @@ fn begin_round(alloc: Global, chain: &mut Chain, lines: &mut Vec<Line>) -> Resul
 
 /// One call, at its place in the block.
 fn take_call(
+    alloc: Global,
     chain: &mut Chain,
     lines: &mut Vec<Line>,
     index: u32,
     call: Call,
 ) -> Result<(), NoMemory>
-    requires { IsLive chain.old }
+    requires live { IsLive chain.old }
+    requires numbers { chain.old.next + 1 < 2 ^ 64 }
     ensures { OnOk result (Goes (call_outcome index call chain.old) chain.new lines.old.items lines.new.items) }
 {
     let Call { who, kind } = call;
-    let line = match act(chain, who, kind) {
-        Ok(()) => Line::CallOk { index },
-        Err(Stop::Refused(refusal)) => Line::CallRefused {
-            index,
-            code: refusal.code(),
-        },
-        Err(Stop::NoMemory) => return Err(NoMemory),
-    };
-    lines.push(line)?;
-    Ok(())
+    let mut more = Vec::new(alloc);
+    match act(chain, &mut more, who, kind) {
+        Ok(()) => {
+            lines.push(Line::CallOk { index })?;
+            lines.extend_from_slice(more.as_slice())?;
+            Ok(())
+        }
+        Err(Stop::Refused(refusal)) => {
+            lines.push(Line::CallRefused {
+                index,
+                code: refusal.code(),
+            })?;
+            Ok(())
+        }
+        Err(Stop::NoMemory) => Err(NoMemory),
+    }
 }
 
 /// The calls in order.
-fn take_calls(chain: &mut Chain, lines: &mut Vec<Line>, calls: Vec<Call>) -> Result<(), NoMemory>
+fn take_calls(
+    alloc: Global,
+    chain: &mut Chain,
+    lines: &mut Vec<Line>,
+    calls: Vec<Call>,
+) -> Result<(), NoMemory>
     requires live { IsLive chain.old }
     requires few { length calls.items < 2 ^ 32 }
+    requires numbers { chain.old.next + length calls.items < 2 ^ 64 }
     ensures goes { OnOk result (Goes (calls_outcome 0 calls.items chain.old) chain.new lines.old.items lines.new.items) }
     ensures live_after { OnOk result (IsLive chain.new) }
 {
     let mut index = 0;
     'turns: for call in calls {
-        take_call(chain, lines, index, call)?;
+        take_call(alloc, chain, lines, index, call)?;
         index += 1;
     }
     Ok(())
@@ -84,16 +100,17 @@ pub fn take_block(
     number: u32,
     calls: Vec<Call>,
 ) -> Result<(), NoMemory>
-    requires live { IsLive chain.old }
+    requires ready { IsReady chain.old }
     requires few { length calls.items < 2 ^ 32 }
     requires due { number ≡ chain.old.due }
     ensures goes { OnOk result (Goes (step chain.old (record { number = number; calls = calls.items })) chain.new lines.old.items lines.new.items) }
-    ensures live_after { OnOk result (IsLive chain.new) }
+    ensures ready_after { OnOk result (IsReady chain.new) }
 {
     lines.push(Line::Block { number })?;
     begin_era(chain, lines)?;
     begin_round(alloc, chain, lines)?;
-    take_calls(chain, lines, calls)?;
+    decide_round(alloc, chain, lines)?;
+    take_calls(alloc, chain, lines, calls)?;
     chain.due += 1;
     Ok(())
 }

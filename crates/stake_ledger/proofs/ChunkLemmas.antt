@@ -4,7 +4,7 @@ use Rattle.std.proofs.lemmas.List.Sums.{get_or-le-sum_by}
 use Rattle.std.proofs.lemmas.List.Filters.{sum_by-filter_both}
 use Rattle.std.proofs.lemmas.Grind.{common_steps}
 use Rattle.stake_ledger.specs.declared.chunks.Chunk.{Chunk}
-use Rattle.stake_ledger.specs.Chunks.{chunk_sum, chunk_refusal, with_chunk, without_latest, released, unreleased}
+use Rattle.stake_ledger.specs.Chunks.{chunk_sum, chunk_refusal, with_chunk, without_latest, without_first, released, unreleased}
 use Rattle.stake_ledger.specs.declared.refusal.LedgerRefusal.TheVariants.{NoMoreChunks}
 use Rattle.stake_ledger.specs.Joining.{joins_last}
 
@@ -109,3 +109,16 @@ taken_past left (c ∷ later) x past =
 pub released_sum : (era : ℕ) (chunks : List Chunk) → chunk_sum (released era chunks) + chunk_sum (unreleased era chunks) ≡ chunk_sum chunks
 released_sum era chunks =
     sum_by-filter_both (λ (c : Chunk). nat_le c.release era) (λ (c : Chunk). nat_lt era c.release) (λ c. grind (arith, common_steps)) (λ (c : Chunk). c.value) chunks
+
+-- an amount within the first chunk lessens that one alone
+pub first_within : (left : ℕ) (chunks : List Chunk) (x : Chunk) → 0 < length chunks → x ≡ slice_index_or chunks 0 x → left < x.value
+    → slice_set chunks 0 (record { value = x.value - left; release = x.release }) ≡ without_first left chunks
+first_within left [] x some is below = absurd (omega arith)
+first_within left (c ∷ later) x some is below =
+    let within : nat_lt left c.value ≡ true = grind (arith, common_steps, ap (λ (k : Chunk). k.value) is) in
+    rw (within, is) refl
+
+-- a larger one empties it, and takes the rest from those behind
+pub first_past : (left : ℕ) (x : Chunk) (later : List Chunk) → x.value ≤ left → without_first (left - x.value) later ≡ without_first left (x ∷ later)
+first_past left x later past =
+    let all : nat_lt left x.value ≡ false = grind (arith, common_steps, past) in rw all refl

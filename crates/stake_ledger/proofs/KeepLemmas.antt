@@ -6,10 +6,15 @@ use Rattle.npos_base.specs.declared.account.AccountId.{AccountId}
 use Rattle.stake_ledger.specs.declared.row.Row.{Row}
 use Rattle.stake_ledger.specs.declared.totals.Totals.{Totals}
 use Rattle.stake_ledger.specs.Chunks.{chunk_sum, IsSchedule}
-use Rattle.stake_ledger.specs.Rows.{empty_row, worth, gained, paid, bonded, unbonded, rebonded, withdrawn}
+use Rattle.stake_ledger.specs.Rows.{empty_row, worth, gained, paid, bonded, unbonded, rebonded, withdrawn, deposited, returned}
 use Rattle.stake_ledger.specs.Ledger.{Ledger, row_at, changed, total, totals_of, IsBalanced, issuance_cap}
 use Rattle.stake_ledger.specs.Kept.{IsKept}
-use Rattle.stake_ledger.specs.Calls.{unbond_refusal, unbond_amount, rebond_amount, withdraw_amount, endowed, transferred}
+use Rattle.stake_ledger.specs.Calls.{unbond_refusal, unbond_amount, rebond_amount, withdraw_amount, endowed, transferred, room_of, minted_free}
+use Rattle.stake_ledger.specs.declared.call.RowCall.{RowCall}
+use Rattle.stake_ledger.specs.declared.call.RowCall.TheVariants.{Hold, Return, Burn, Slash}
+use Rattle.stake_ledger.specs.Parts.{parts_of, Covers, replaced}
+use Rattle.stake_ledger.specs.RowCalls.{row_refusal, row_after, burned_by, called}
+use Rattle.stake_ledger.proofs.CallLemmas.{worth_after, schedule_after}
 use Rattle.stake_ledger.proofs.LedgerLemmas.{total-changed, part_within, ordered-changed, schedules-changed, schedule_at, total_worth}
 use Rattle.stake_ledger.proofs.RowLemmas.{unbond_some, unbond_few}
 use Rattle.stake_ledger.proofs.ScheduleLemmas.{schedule_with, schedule_without, schedule_unreleased, sum_with, sum_without}
@@ -255,6 +260,111 @@ kept_transferred from to value ledger totals kept within = record {
       (ap (λ (t : Totals). t.burned) kept.running)
       (ap (λ (t : Totals). t.issuance) kept.running);
 }
+
+-- ---- the calls on a row keep the books
+
+pub covered : (who : AccountId) (ledger : Ledger) (totals : Totals) → IsKept ledger totals → Covers totals (parts_of (row_at ledger who))
+covered who ledger totals kept = record {
+  free = free_within who ledger totals kept;
+  active = active_within who ledger totals kept;
+  unlocking = unlocking_within who ledger totals kept;
+  held = rw kept.running (part_within (λ row. row.held) refl who ledger kept.balanced.distinct);
+}
+
+balanced_called : (who : AccountId) (call : RowCall) (ledger : Ledger) (burned : ℕ) → IsBalanced ledger → row_refusal call (row_at ledger who) ≡ None
+    → burned ≡ burned_by call (row_at ledger who) → IsBalanced (record (changed who (row_after call) ledger) { burned = ledger.burned + burned })
+balanced_called who call ledger burned balanced allowed is = record {
+  distinct = ordered-changed who (row_after call) ledger balanced.distinct;
+  schedules = schedules-changed who (row_after call) ledger balanced.schedules (schedule_after call (row_at ledger who) (schedule_at who ledger balanced.schedules) allowed);
+  equation = omega (arith, total-changed worth refl who (row_after call) ledger balanced.distinct, worth_after call (row_at ledger who) allowed, balanced.equation, is);
+  capped = balanced.capped;
+}
+
+-- what a call burns was issued
+pub burned_within : (who : AccountId) (call : RowCall) (ledger : Ledger) (totals : Totals) → IsKept ledger totals → row_refusal call (row_at ledger who) ≡ None
+    → burned_by call (row_at ledger who) ≤ totals.issuance
+burned_within who call ledger totals kept allowed =
+    omega (
+      arith,
+      part_within worth refl who ledger kept.balanced.distinct,
+      worth_after call (row_at ledger who) allowed,
+      kept.balanced.equation,
+      ap (λ (t : Totals). t.issuance) kept.running,
+    )
+
+-- a sum with the new part in the place of the old one
+sum_replaced : (part : Row → ℕ) → part empty_row ≡ 0 → (who : AccountId) (change : Row → Row) (ledger : Ledger) (sum : ℕ) → IsBalanced ledger → sum ≡ total part ledger
+    → sum - part (row_at ledger who) + part (change (row_at ledger who)) ≡ total part (changed who change ledger)
+sum_replaced part none who change ledger sum balanced is =
+    omega (arith, total-changed part none who change ledger balanced.distinct, part_within part none who ledger balanced.distinct, is)
+
+pub kept_called : (who : AccountId) (call : RowCall) (ledger : Ledger) (totals : Totals) (burned : ℕ) → IsKept ledger totals → row_refusal call (row_at ledger who) ≡ None
+    → burned ≡ burned_by call (row_at ledger who)
+    → IsKept (record (changed who (row_after call) ledger) { burned = ledger.burned + burned })
+    (record (replaced (parts_of (row_at ledger who)) (parts_of (row_after call (row_at ledger who))) totals) { burned = totals.burned + burned; issuance = totals.issuance - burned })
+kept_called who call ledger totals burned kept allowed is =
+    let left = record (replaced (parts_of (row_at ledger who)) (parts_of (row_after call (row_at ledger who))) totals) { burned = totals.burned + burned; issuance = totals.issuance - burned } in
+    let right = record (changed who (row_after call) ledger) { burned = ledger.burned + burned } in
+    record {
+      balanced = balanced_called who call ledger burned kept.balanced allowed is;
+      running = totals_same left (totals_of right)
+          (sum_replaced (λ row. row.free) refl who (row_after call) ledger totals.free kept.balanced (ap (λ (t : Totals). t.free) kept.running))
+          (sum_replaced (λ row. row.active) refl who (row_after call) ledger totals.active kept.balanced (ap (λ (t : Totals). t.active) kept.running))
+          (sum_replaced (λ row. chunk_sum row.chunks) refl who (row_after call) ledger totals.unlocking kept.balanced (ap (λ (t : Totals). t.unlocking) kept.running))
+          (sum_replaced (λ row. row.held) refl who (row_after call) ledger totals.deposits kept.balanced (ap (λ (t : Totals). t.deposits) kept.running))
+          (ap (λ (t : Totals). t.minted) kept.running)
+          (ap (λ (t : Totals). t.burned + burned) kept.running)
+          (omega (arith, ap (λ (t : Totals). t.issuance) kept.running));
+    }
+
+more_none : (ledger : Ledger) → record ledger { burned = ledger.burned + 0 } ≡ ledger
+more_none ledger = let same : ledger.burned + 0 ≡ ledger.burned = omega arith in ap (λ n. record ledger { burned = n }) same
+
+-- a call that burns nothing changes the account's row alone
+pub called_is : (who : AccountId) (call : RowCall) (ledger : Ledger) → record (changed who (row_after call) ledger) { burned = ledger.burned + burned_by call (row_at ledger who) } ≡ called who call ledger
+called_is who (Hold value) ledger = more_none (changed who (deposited value) ledger)
+called_is who (Return value) ledger = more_none (changed who (returned value) ledger)
+called_is who (Burn value) ledger = refl
+called_is who (Slash amount) ledger = refl
+
+-- the row opens where there is none, and nothing else changes
+pub kept_opened : (who : AccountId) (ledger : Ledger) (totals : Totals) → IsKept ledger totals → IsKept (changed who (gained 0) ledger) totals
+kept_opened who ledger totals kept =
+    kept-changed who (gained 0) ledger totals totals kept
+    (record { worth_stays = omega arith; schedule = schedule_at who ledger kept.balanced.schedules })
+    (record {
+      free_moves = omega arith;
+      active_moves = refl;
+      unlocking_moves = refl;
+      deposits_move = refl;
+      minted_stays = refl;
+      burned_stays = refl;
+      issuance_stays = refl;
+    })
+
+pub balanced_minted : (who : AccountId) (value : ℕ) (ledger : Ledger) → IsBalanced ledger → value ≤ room_of ledger → IsBalanced (minted_free who value ledger)
+balanced_minted who value ledger balanced within = record {
+  distinct = ordered-changed who (gained value) ledger balanced.distinct;
+  schedules = schedules-changed who (gained value) ledger balanced.schedules (schedule_at who ledger balanced.schedules);
+  equation = omega (arith, total-changed worth refl who (gained value) ledger balanced.distinct, balanced.equation);
+  capped = omega (arith, within, balanced.capped);
+}
+
+pub kept_minted : (who : AccountId) (value : ℕ) (ledger : Ledger) (totals : Totals) → IsKept ledger totals → value ≤ room_of ledger
+    → IsKept (minted_free who value ledger) (record totals { free = totals.free + value; minted = totals.minted + value; issuance = totals.issuance + value })
+kept_minted who value ledger totals kept within =
+    let ordered = kept.balanced.distinct in
+    record {
+      balanced = balanced_minted who value ledger kept.balanced within;
+      running = totals_same (record totals { free = totals.free + value; minted = totals.minted + value; issuance = totals.issuance + value }) (totals_of (minted_free who value ledger))
+          (omega (arith, total-changed (λ row. row.free) refl who (gained value) ledger ordered, ap (λ (t : Totals). t.free) kept.running))
+          (omega (arith, total-changed (λ row. row.active) refl who (gained value) ledger ordered, ap (λ (t : Totals). t.active) kept.running))
+          (omega (arith, total-changed (λ row. chunk_sum row.chunks) refl who (gained value) ledger ordered, ap (λ (t : Totals). t.unlocking) kept.running))
+          (omega (arith, total-changed (λ row. row.held) refl who (gained value) ledger ordered, ap (λ (t : Totals). t.deposits) kept.running))
+          (ap (λ (t : Totals). t.minted + value) kept.running)
+          (ap (λ (t : Totals). t.burned) kept.running)
+          (omega (arith, kept.balanced.equation, ap (λ (t : Totals). t.issuance) kept.running));
+    }
 
 -- nothing is in order
 pub kept_nothing : IsKept (record { rows = []; genesis = 0; minted = 0; burned = 0 }) (record { free = 0; active = 0; unlocking = 0; deposits = 0; minted = 0; burned = 0; issuance = 0 })

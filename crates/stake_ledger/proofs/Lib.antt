@@ -3,4 +3,6 @@ pub mod PlaceLemmas
 pub mod LedgerLemmas
 pub mod RowLemmas
 pub mod ScheduleLemmas
+pub mod CallLemmas
 pub mod KeepLemmas
+pub mod AccountLemmas

@@ -1,12 +1,12 @@
 -- Chunks stay a schedule: none is 0, at most 32 stand, and their releases rise.
-use Rattle.std.proofs.Common.{◌≡◌, ℕ, ◌+◌, ◌-◌, ◌<◌, ◌≤◌, suc, Bool, true, false, List, [], ◌∷◌, length, refl, sym, ◌∙◌, arith, ◌==◌, All, AllPairs, nat_lt, nat_le, if◌then◌else◌}
+use Rattle.std.proofs.Common.{◌≡◌, ℕ, ◌+◌, ◌-◌, ◌<◌, ◌≤◌, suc, Bool, true, false, List, [], ◌∷◌, length, refl, sym, ◌∙◌, arith, ◌==◌, All, AllPairs, nat_lt, nat_le, min, if◌then◌else◌}
 use Rattle.std.proofs.lemmas.Grind.{common_steps}
 use Rattle.std.proofs.lemmas.List.Elements.{All-cons, All-nil, All-tail, All-filter}
 use Rattle.std.proofs.lemmas.List.Filters.{length-filter_both}
 use Rattle.std.proofs.lemmas.List.Kept.{AllPairs-cons, AllPairs-filter}
 use Rattle.std.proofs.lemmas.List.Sums.{sum_by-cons}
 use Rattle.stake_ledger.specs.declared.chunks.Chunk.{Chunk}
-use Rattle.stake_ledger.specs.Chunks.{chunk_sum, IsSchedule, with_chunk, without_latest, lessened, unreleased}
+use Rattle.stake_ledger.specs.Chunks.{chunk_sum, IsSchedule, with_chunk, without_latest, without_first, lessened, unreleased}
 
 head_of : (P : Chunk → Type 0) (c : Chunk) (cs : List Chunk) → All P (c ∷ cs) → P c
 head_of P c cs all = all 0 c (omega arith)
@@ -185,3 +185,41 @@ schedule_unreleased era cs s = record {
   few = omega (arith, length-filter_both (λ (c : Chunk). nat_lt era c.release) (λ (c : Chunk). nat_le c.release era) (λ c. grind (arith, common_steps)) cs, s.few);
   rising = AllPairs-filter (λ e l. e.release < l.release) (λ c. nat_lt era c.release) cs s.rising;
 }
+
+-- ---- an amount is taken from the first
+
+tail_of : (c : Chunk) (cs : List Chunk) → IsSchedule (c ∷ cs) → IsSchedule cs
+tail_of c cs s = record {
+  whole = All-tail (λ x. 0 < x.value) c cs s.whole;
+  few = omega (arith, s.few);
+  rising = pairs_tail c cs s.rising;
+}
+
+first_lessened : (n : ℕ) (c : Chunk) (cs : List Chunk) → nat_lt n c.value ≡ true → IsSchedule (c ∷ cs) → IsSchedule (record c { value = c.value - n } ∷ cs)
+first_lessened n c cs within s =
+    let some : 0 < c.value - n = grind (arith, common_steps, within) in
+    record {
+      whole = All-cons (λ x. 0 < x.value) (record c { value = c.value - n }) cs some (All-tail (λ x. 0 < x.value) c cs s.whole);
+      few = s.few;
+      rising = AllPairs-cons (λ e l. e.release < l.release) (record c { value = c.value - n }) cs (pairs_head c cs s.rising) (pairs_tail c cs s.rising);
+    }
+
+pub schedule_first : (n : ℕ) (cs : List Chunk) → IsSchedule cs → IsSchedule (without_first n cs)
+schedule_first n [] s = s
+schedule_first n (c ∷ later) s = at (nat_lt n c.value) refl (schedule_first (n - c.value) later (tail_of c later s)) where
+  at : (b : Bool) → nat_lt n c.value ≡ b → IsSchedule (without_first (n - c.value) later)
+      → IsSchedule (if b then record c { value = c.value - n } ∷ later else without_first (n - c.value) later)
+  at true is rest = first_lessened n c later is s
+  at false is rest = rest
+
+pub sum_first : (n : ℕ) (cs : List Chunk) → chunk_sum (without_first n cs) + min n (chunk_sum cs) ≡ chunk_sum cs
+sum_first n [] = omega arith
+sum_first n (c ∷ later) =
+    at (nat_lt n c.value) refl (sum_by-cons (λ (x : Chunk). x.value) c later) (sum_first (n - c.value) later) where
+      at : (b : Bool) → nat_lt n c.value ≡ b → chunk_sum (c ∷ later) ≡ c.value + chunk_sum later
+          → chunk_sum (without_first (n - c.value) later) + min (n - c.value) (chunk_sum later) ≡ chunk_sum later
+          → chunk_sum (if b then record c { value = c.value - n } ∷ later else without_first (n - c.value) later) + min n (chunk_sum (c ∷ later)) ≡ chunk_sum (c ∷ later)
+      at true is sum rest =
+          let within : n < c.value = grind (arith, common_steps, is) in
+          omega (arith, sum, within, sum_by-cons (λ (x : Chunk). x.value) (record c { value = c.value - n }) later)
+      at false is sum rest = let past : c.value ≤ n = grind (arith, common_steps, is) in omega (arith, sum, past, rest)

@@ -6,7 +6,7 @@ use Rattle.stake_ledger.specs.declared.refusal.LedgerRefusal.{LedgerRefusal}
 use Rattle.stake_ledger.specs.declared.refusal.LedgerRefusal.TheVariants.{LowFunds, NotBonded, AlreadyBonded, BelowMinimum, NoChunk, ZeroValue, SameAccount, IssuanceCap}
 use Rattle.stake_ledger.specs.declared.row.Row.{Row}
 use Rattle.stake_ledger.specs.Chunks.{chunk_sum, chunk_refusal, is_empty, released}
-use Rattle.stake_ledger.specs.Rows.{is_bonded, gained, paid}
+use Rattle.stake_ledger.specs.Rows.{is_bonded, gained, paid, deposited, returned, forfeited, slashed_row}
 use Rattle.stake_ledger.specs.Ledger.{Ledger, row_at, changed, issuance_cap}
 
 abbrev pub endow_refusal : Ledger → ℕ → Option LedgerRefusal
@@ -70,3 +70,52 @@ withdraw_amount row era = chunk_sum (released era row.chunks)
 
 abbrev pub withdraw_refusal : Row → Option LedgerRefusal
 withdraw_refusal row = if not (is_bonded row) then Some NotBonded else None
+
+abbrev pub hold_refusal : Row → ℕ → Option LedgerRefusal
+hold_refusal row value = if nat_lt row.free value then Some LowFunds else None
+
+-- a deposit opens the account's row, also a deposit of 0
+abbrev pub deposit_held : AccountId → ℕ → Ledger → Ledger
+deposit_held who value ledger = changed who (deposited value) ledger
+
+-- a deposit of 0 leaves the books as they are when it is returned or burned
+abbrev pub deposit_returned : AccountId → ℕ → Ledger → Ledger
+deposit_returned who value ledger = if value == 0 then ledger else changed who (returned value) ledger
+
+abbrev pub deposit_burned : AccountId → ℕ → Ledger → Ledger
+deposit_burned who value ledger =
+    if value == 0 then ledger
+    else record (changed who (forfeited value) ledger) { burned = ledger.burned + value }
+
+-- what may still be minted
+abbrev pub room_of : Ledger → ℕ
+room_of ledger = issuance_cap - (ledger.genesis + ledger.minted)
+
+abbrev pub mint_refusal : Ledger → ℕ → Option LedgerRefusal
+mint_refusal ledger value = if nat_lt (room_of ledger) value then Some IssuanceCap else None
+
+abbrev pub minted_free : AccountId → ℕ → Ledger → Ledger
+minted_free who value ledger = record (changed who (gained value) ledger) { minted = ledger.minted + value }
+
+-- what a slash takes
+abbrev pub slash_amount : Row → ℕ → ℕ
+slash_amount row amount = min amount (row.active + chunk_sum row.chunks)
+
+-- where nothing is bonded, a slash leaves the books as they are
+abbrev pub slashed : AccountId → ℕ → Ledger → Ledger
+slashed who amount ledger =
+    if not (is_bonded (row_at ledger who)) then ledger
+    else record (changed who (slashed_row amount) ledger) {
+      burned = ledger.burned + slash_amount (row_at ledger who) amount;
+    }
+
+-- why a change of one row of those above would not be made
+abbrev pub deposit_refusal : Row → ℕ → Option LedgerRefusal
+deposit_refusal row value = if value == 0 then Some ZeroValue else hold_refusal row value
+
+abbrev pub held_refusal : Row → ℕ → Option LedgerRefusal
+held_refusal row value =
+    if value == 0 then Some ZeroValue else if nat_lt row.held value then Some LowFunds else None
+
+abbrev pub slash_refusal : Row → Option LedgerRefusal
+slash_refusal row = if not (is_bonded row) then Some NotBonded else None

@@ -43,6 +43,14 @@ without_latest amount [] = []
 without_latest amount (chunk ∷ later) =
     if nat_lt amount (chunk_sum later) then chunk ∷ without_latest amount later else lessened (amount - chunk_sum later) chunk
 
+-- the amount is taken from the first chunk first; emptied chunks go
+abbrev pub without_first : ℕ → List Chunk → List Chunk
+without_first amount [] = []
+without_first amount (chunk ∷ later) =
+    if nat_lt amount chunk.value
+    then record chunk { value = chunk.value - amount } ∷ later
+    else without_first (amount - chunk.value) later
+
 -- the chunks that are free in this era, and those that are not yet
 abbrev pub released : ℕ → List Chunk → List Chunk
 released era chunks = filter (λ chunk. nat_le chunk.release era) chunks

@@ -2,7 +2,9 @@ pub mod Refusals
 pub mod Chunks
 pub mod Joining
 pub mod Rows
+pub mod Parts
 pub mod Places
 pub mod Ledger
 pub mod Kept
 pub mod Calls
+pub mod RowCalls

@@ -1,7 +1,7 @@
 -- What one account has, and what each call makes of it.
 use Rattle.std.specs.Prelude.{ℕ, ◌+◌, ◌-◌, Bool, [], nat_lt}
 use Rattle.stake_ledger.specs.declared.row.Row.{Row}
-use Rattle.stake_ledger.specs.Chunks.{chunk_sum, with_chunk, without_latest, released, unreleased}
+use Rattle.stake_ledger.specs.Chunks.{chunk_sum, with_chunk, without_latest, without_first, released, unreleased}
 
 -- an account that was never heard of has nothing
 abbrev pub empty_row : Row
@@ -34,3 +34,18 @@ rebonded amount row = record row { active = row.active + amount; chunks = withou
 abbrev pub withdrawn : ℕ → Row → Row
 withdrawn era row =
     record row { free = row.free + chunk_sum (released era row.chunks); chunks = unreleased era row.chunks }
+
+-- a deposit moves from free to held, and back, or goes for good
+abbrev pub deposited : ℕ → Row → Row
+deposited value row = record row { free = row.free - value; held = row.held + value }
+
+abbrev pub returned : ℕ → Row → Row
+returned value row = record row { free = row.free + value; held = row.held - value }
+
+abbrev pub forfeited : ℕ → Row → Row
+forfeited value row = record row { held = row.held - value }
+
+-- a slash takes what is active first, then from the chunks in order
+abbrev pub slashed_row : ℕ → Row → Row
+slashed_row amount row =
+    record row { active = row.active - amount; chunks = without_first (amount - row.active) row.chunks }

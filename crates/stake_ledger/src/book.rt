@@ -1,12 +1,14 @@
 //! The books.
-ghost use Rattle.std.specs.Prelude.{◌≡◌, ◌≢◌, ◌-◌, ◌+◌, ◌≤◌, None, Some, OnErr, OnOk, IfErr, IfOk, is_some, All};
+ghost use Rattle.std.specs.Prelude.{◌≡◌, ◌≢◌, ◌-◌, ◌+◌, ◌≤◌, None, Some, OnErr, OnOk, IfErr, IfOk, is_some, All, true};
 ghost use Rattle.npos_base.specs.Refusal.{IsDue};
 ghost use Rattle.stake_ledger.specs.declared.refusal.LedgerRefusal.TheVariants as refusals;
 ghost use Rattle.stake_ledger.specs.Chunks.{IsSchedule};
 ghost use Rattle.stake_ledger.specs.Rows.{is_bonded, bonded, unbonded, rebonded, withdrawn};
 ghost use Rattle.stake_ledger.specs.Ledger.{empty_ledger, row_of, row_at, changed, totals_of, issuance_cap, IsBalanced, OthersStay};
-ghost use Rattle.stake_ledger.specs.Calls.{endow_refusal, endowed, transfer_refusal, transferred, bond_refusal, bond_extra_refusal, unbond_refusal, unbond_amount, rebond_refusal, rebond_amount, withdraw_refusal, withdraw_amount};
+ghost use Rattle.stake_ledger.specs.Calls.{endow_refusal, endowed, transfer_refusal, transferred, bond_refusal, bond_extra_refusal, unbond_refusal, unbond_amount, rebond_refusal, rebond_amount, withdraw_refusal, withdraw_amount, hold_refusal, deposit_held, deposit_returned, deposit_burned, room_of, mint_refusal, minted_free, slash_amount, slashed};
+ghost use Rattle.stake_ledger.specs.RowCalls.{row_refusal, row_amount, called};
 
+use crate::call::RowCall;
 use crate::chunks::Chunk;
 use crate::refusal::LedgerRefusal;
 use crate::rows::Rows;
@@ -192,7 +194,111 @@ impl Book {
         Ok(freed)
     }
 
-    /// Whether the account has a row: it was endowed or was sent a transfer.
+    /// Holds the value as a deposit: it moves from free to held. The account gets a row where it has none, also for a
+    /// deposit of 0. It refuses with `LowFunds`.
+    pub fn hold_deposit(&mut self, who: AccountId, value: u64) -> Result<(), LedgerRefusal>
+        ensures ok { OnOk result ((hold_refusal (row_at self.old who) value ≡ None)
+            × (self.new ≡ deposit_held who value self.old)) }
+        ensures err { OnErr result (self.new ≡ self.old) }
+        ensures refused { IfErr result (IsDue refusals.NoMemory (hold_refusal (row_at self.old who) value)) }
+        ensures others { OthersStay who self.old self.new }
+    {
+        if value == 0 {
+            self.rows.gain(who, 0)?;
+            return Ok(());
+        }
+        self.call(who, RowCall::Hold { value })?;
+        Ok(())
+    }
+
+    /// Moves the value from held to free. It takes no memory.
+    pub fn return_deposit(&mut self, who: AccountId, value: u64)
+        requires { value ≤ (row_at self.old who).held }
+        ensures after { self.new ≡ deposit_returned who value self.old }
+        ensures others { OthersStay who self.old self.new }
+    {
+        if value == 0 {
+            return;
+        }
+        self.call_unrefused(who, RowCall::Return { value });
+    }
+
+    /// Burns the value of what the account has held. It takes no memory.
+    pub fn burn_deposit(&mut self, who: AccountId, value: u64)
+        requires { value ≤ (row_at self.old who).held }
+        ensures after { self.new ≡ deposit_burned who value self.old }
+        ensures others { OthersStay who self.old self.new }
+    {
+        if value == 0 {
+            return;
+        }
+        self.call_unrefused(who, RowCall::Burn { value });
+    }
+
+    /// Makes the value, which is free for an account that is known. It takes no memory, and refuses with `IssuanceCap`
+    /// where the value is above the room.
+    pub fn mint_free(&mut self, who: AccountId, value: u64) -> Result<(), LedgerRefusal>
+        requires known { is_some (row_of self.old who) ≡ true }
+        ensures ok { OnOk result ((mint_refusal self.old value ≡ None)
+            × (self.new ≡ minted_free who value self.old)) }
+        ensures err { OnErr result (self.new ≡ self.old) }
+        ensures refused { IfErr result (λ refusal. mint_refusal self.old value ≡ Some refusal) }
+        ensures others { OthersStay who self.old self.new }
+    {
+        if value > self.room() {
+            return Err(LedgerRefusal::IssuanceCap);
+        }
+        self.rows.give(who, value);
+        self.totals.free += value;
+        self.totals.minted += value;
+        self.totals.issuance += value;
+        Ok(())
+    }
+
+    /// Burns up to the amount of what the account has bonded, active stake first, then the chunks in order, and answers
+    /// how much. Emptied chunks go. It takes no memory.
+    pub fn slash(&mut self, who: AccountId, amount: u64) -> u64
+        ensures amount { result ≡ slash_amount (row_at self.old who) amount }
+        ensures after { self.new ≡ slashed who amount self.old }
+        ensures others { OthersStay who self.old self.new }
+    {
+        if !self.bonded(who) {
+            return 0;
+        }
+        self.call_unrefused(who, RowCall::Slash { amount })
+    }
+
+    /// Does the call on the account's row, and answers the amount that moved.
+    fn call(&mut self, who: AccountId, call: RowCall) -> Result<u64, LedgerRefusal>
+        ensures ok { OnOk result ((row_refusal call (row_at self.old who) ≡ None)
+            × (self.new ≡ called who call self.old)) }
+        ensures amount { IfOk result (λ amount. amount ≡ row_amount call (row_at self.old who)) }
+        ensures err { OnErr result (self.new ≡ self.old) }
+        ensures refused { IfErr result (λ refusal. row_refusal call (row_at self.old who) ≡ Some refusal) }
+        ensures others { OthersStay who self.old self.new }
+    {
+        let done = self.rows.call(who, call)?;
+        let burned = call.burned(done.amount);
+        self.totals.replace(done.before, done.after);
+        self.totals.burned += burned;
+        self.totals.issuance -= burned;
+        Ok(done.amount)
+    }
+
+    /// Does a call that is not refused.
+    fn call_unrefused(&mut self, who: AccountId, call: RowCall) -> u64
+        requires { row_refusal call (row_at self.old who) ≡ None }
+        ensures after { self.new ≡ called who call self.old }
+        ensures amount { result ≡ row_amount call (row_at self.old who) }
+        ensures others { OthersStay who self.old self.new }
+    {
+        match self.call(who, call) {
+            Ok(amount) => amount,
+            Err(_) => unreachable!(),
+        }
+    }
+
+    /// Whether the account has a row: it was endowed, was sent a transfer or had a deposit held.
     pub fn knows(&self, who: AccountId) -> bool
         ensures { result ≡ is_some (row_of self.now who) }
     {
@@ -211,6 +317,13 @@ impl Book {
         ensures { result ≡ (row_at self.now who).active }
     {
         self.rows.get(who).map_or(0, |row| row.active)
+    }
+
+    /// What the account has held as deposits; 0 where it is not known.
+    pub fn held(&self, who: AccountId) -> u64
+        ensures { result ≡ (row_at self.now who).held }
+    {
+        self.rows.get(who).map_or(0, |row| row.held)
     }
 
     /// Whether active and the account's chunks together are above 0.

@@ -2,7 +2,7 @@
 ghost use Rattle.std.specs.Prelude.{◌≡◌, ◌+◌, ◌^◌, ◌<◌, ◌≤◌, ◌↔◌, [], length, IsTrue, OnErr, OnOk, IfErr};
 ghost use Rattle.npos_base.specs.Refusal.{IsDue};
 ghost use Rattle.stake_ledger.specs.declared.refusal.LedgerRefusal.TheVariants as refusals;
-ghost use Rattle.stake_ledger.specs.Chunks.{chunk_sum, chunk_refusal, is_empty, with_chunk, without_latest, released, unreleased};
+ghost use Rattle.stake_ledger.specs.Chunks.{chunk_sum, chunk_refusal, is_empty, with_chunk, without_latest, without_first, released, unreleased};
 ghost use Rattle.stake_ledger.specs.Joining.{joins_last};
 
 use crate::refusal::LedgerRefusal;
@@ -115,6 +115,22 @@ impl Chunks {
             }
             left -= last.value;
             let _ = self.items.pop();
+        }
+    }
+
+    /// Takes the amount from the first chunk first; emptied chunks go.
+    #[tactic(auto, using(crate::proofs::ChunkLemmas::first_within, crate::proofs::ChunkLemmas::first_past))]
+    pub fn take_first(&mut self, amount: u64)
+        ensures { self.new ≡ without_first amount self.old }
+    {
+        let mut left = amount;
+        'chunks: while let Some(&first) = self.items.first() {
+            if left < first.value {
+                self.items[0].value -= left;
+                return;
+            }
+            left -= first.value;
+            let _ = self.items.remove(0);
         }
     }
 

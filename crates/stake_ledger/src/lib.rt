@@ -4,8 +4,10 @@
 #![tactic(auto)]
 
 mod book;
+mod call;
 mod chunks;
 mod hints;
+mod parts;
 mod places;
 mod refusal;
 mod row;

@@ -3,9 +3,14 @@ ghost use Rattle.std.specs.Prelude.{◌≡◌, ◌+◌, ◌^◌, ◌<◌, ◌≤
 ghost use Rattle.stake_ledger.specs.declared.refusal.LedgerRefusal.TheVariants as refusals;
 ghost use Rattle.npos_base.specs.Refusal.{IsDue};
 ghost use Rattle.stake_ledger.specs.Rows.{empty_row, worth, is_bonded, paid, bonded, unbonded, rebonded, withdrawn};
+ghost use Rattle.stake_ledger.specs.RowCalls.{Answers, row_refusal, row_after, done_of};
+ghost use Rattle.stake_ledger.specs.Parts.{parts_of};
+ghost use Rattle.stake_ledger.specs.declared.call.RowCall.TheVariants as calls;
 ghost use Rattle.stake_ledger.specs.Calls.{bond_refusal, bond_extra_refusal, unbond_refusal, unbond_amount, rebond_refusal, rebond_amount, withdraw_refusal, withdraw_amount};
 
+use crate::call::RowCall;
 use crate::chunks::Chunks;
+use crate::parts::{Done, Parts};
 use crate::refusal::LedgerRefusal;
 use std::alloc::Global;
 
@@ -163,5 +168,110 @@ impl Row {
         let freed = self.chunks.release(era);
         self.free += freed;
         Ok(freed)
+    }
+
+    /// What the account has, part by part.
+    pub fn parts(&self) -> Parts
+        requires { worth self.now < 2 ^ 64 }
+        ensures { result ≡ parts_of self.now }
+    {
+        Parts {
+            free: self.free,
+            active: self.active,
+            unlocking: self.chunks.sum(),
+            held: self.held,
+        }
+    }
+
+    /// Moves the value from free to held.
+    fn hold(&mut self, value: u64) -> Result<u64, LedgerRefusal>
+        requires { worth self.old < 2 ^ 64 }
+        ensures { Answers (calls.Hold value) self.old self.new result }
+    {
+        if value == 0 {
+            return Err(LedgerRefusal::ZeroValue);
+        }
+        if self.free < value {
+            return Err(LedgerRefusal::LowFunds);
+        }
+        self.free -= value;
+        self.held += value;
+        Ok(value)
+    }
+
+    /// Moves the value from held to free.
+    fn give_back(&mut self, value: u64) -> Result<u64, LedgerRefusal>
+        requires { worth self.old < 2 ^ 64 }
+        ensures { Answers (calls.Return value) self.old self.new result }
+    {
+        if value == 0 {
+            return Err(LedgerRefusal::ZeroValue);
+        }
+        if self.held < value {
+            return Err(LedgerRefusal::LowFunds);
+        }
+        self.held -= value;
+        self.free += value;
+        Ok(value)
+    }
+
+    /// Takes the value from what is held.
+    fn burn(&mut self, value: u64) -> Result<u64, LedgerRefusal>
+        ensures { Answers (calls.Burn value) self.old self.new result }
+    {
+        if value == 0 {
+            return Err(LedgerRefusal::ZeroValue);
+        }
+        if self.held < value {
+            return Err(LedgerRefusal::LowFunds);
+        }
+        self.held -= value;
+        Ok(value)
+    }
+
+    /// Takes up to the amount: from active first, then from the chunks in order.
+    fn slash(&mut self, amount: u64) -> Result<u64, LedgerRefusal>
+        requires { worth self.old < 2 ^ 64 }
+        ensures { Answers (calls.Slash amount) self.old self.new result }
+    {
+        if !self.is_bonded() {
+            return Err(LedgerRefusal::NotBonded);
+        }
+        let from_active = amount.min(self.active);
+        let left = amount - from_active;
+        let from_chunks = left.min(self.chunks.sum());
+        self.active -= from_active;
+        self.chunks.take_first(left);
+        Ok(from_active + from_chunks)
+    }
+
+    /// Does the call. It answers the amount that moved.
+    pub fn call(&mut self, call: RowCall) -> Result<u64, LedgerRefusal>
+        requires { worth self.old < 2 ^ 64 }
+        ensures { Answers call self.old self.new result }
+    {
+        match call {
+            RowCall::Hold { value } => self.hold(value),
+            RowCall::Return { value } => self.give_back(value),
+            RowCall::Burn { value } => self.burn(value),
+            RowCall::Slash { amount } => self.slash(amount),
+        }
+    }
+
+    /// Does the call, and answers besides what the account had before and has then.
+    pub fn done(&mut self, call: RowCall) -> Result<Done, LedgerRefusal>
+        requires { worth self.old < 2 ^ 64 }
+        ensures ok { OnOk result ((row_refusal call self.old ≡ None) × (self.new ≡ row_after call self.old)) }
+        ensures done { IfOk result (λ done. done ≡ done_of call self.old) }
+        ensures err { OnErr result (self.new ≡ self.old) }
+        ensures refused { IfErr result (λ refusal. row_refusal call self.old ≡ Some refusal) }
+    {
+        let before = self.parts();
+        let amount = self.call(call)?;
+        Ok(Done {
+            amount,
+            before,
+            after: self.parts(),
+        })
     }
 }

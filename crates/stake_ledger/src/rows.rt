@@ -9,8 +9,11 @@ ghost use Rattle.stake_ledger.specs.Refusals.{MayRefuse};
 ghost use Rattle.npos_base.specs.Refusal.{IsDue};
 ghost use Rattle.stake_ledger.specs.Rows.{worth, gained, paid, bonded, unbonded, rebonded, withdrawn};
 ghost use Rattle.stake_ledger.specs.Ledger.{row_in, row_of_entries, with_row};
+ghost use Rattle.stake_ledger.specs.RowCalls.{row_refusal, row_after, done_of};
 ghost use Rattle.stake_ledger.specs.Calls.{bond_refusal, bond_extra_refusal, unbond_refusal, unbond_amount, rebond_refusal, rebond_amount, withdraw_refusal, withdraw_amount};
 
+use crate::call::RowCall;
+use crate::parts::Done;
 use crate::places::Places;
 use crate::refusal::LedgerRefusal;
 use crate::row::Row;
@@ -109,9 +112,9 @@ impl Rows {
         }
     }
 
-    /// Gives back what the account paid.
+    /// Gives the value to an account that has a row.
     #[tactic(auto, using(crate::proofs::PlaceLemmas::row_in_placed, crate::proofs::PlaceLemmas::row_in_unplaced, crate::proofs::PlaceLemmas::row_changed, crate::proofs::PlaceLemmas::placed_changed))]
-    fn give_back(&mut self, who: AccountId, value: u64)
+    pub fn give(&mut self, who: AccountId, value: u64)
         requires fits { (row_in self.old who).free + value < 2 ^ 64 }
         requires there { row_of_entries who self.old ≡ Some (row_in self.old who) }
         ensures { self.new ≡ with_row who (gained value) self.old }
@@ -144,7 +147,7 @@ impl Rows {
         match self.gain(to, value) {
             Ok(()) => Ok(()),
             Err(NoMemory) => {
-                self.give_back(from, value);
+                self.give(from, value);
                 Err(LedgerRefusal::NoMemory)
             }
         }
@@ -232,6 +235,22 @@ impl Rows {
         match self.places.find(who) {
             Some(place) => self.rows[place].withdraw(era),
             None => Row::new(self.alloc).withdraw(era),
+        }
+    }
+
+    /// Does the call at the account's row. An account without a row answers as one that has nothing.
+    #[tactic(auto, using(crate::proofs::PlaceLemmas::row_in_unplaced, crate::proofs::PlaceLemmas::placed_changed))]
+    pub fn call(&mut self, who: AccountId, call: RowCall) -> Result<Done, LedgerRefusal>
+        requires { worth (row_in self.old who) < 2 ^ 64 }
+        ensures accepted { OnOk result (row_refusal call (row_in self.old who) ≡ None) }
+        ensures ok { OnOk result (self.new ≡ with_row who (row_after call) self.old) }
+        ensures done { IfOk result (λ done. done ≡ done_of call (row_in self.old who)) }
+        ensures err { OnErr result (self.new ≡ self.old) }
+        ensures refused { IfErr result (λ refusal. row_refusal call (row_in self.old who) ≡ Some refusal) }
+    {
+        match self.places.find(who) {
+            Some(place) => self.rows[place].done(call),
+            None => Row::new(self.alloc).done(call),
         }
     }
 }

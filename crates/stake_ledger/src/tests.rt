@@ -143,3 +143,82 @@ fn accounts_with_the_same_last_bytes_have_their_own_rows(rt: HostRuntime) -> Res
     assert_eq!(rt; right_rows(rt.alloc())?, 100);
     Ok(())
 }
+
+/// Books where the first account has 60 active, a chunk of 30 and then one of 10.
+fn chunked(alloc: Global) -> Result<Book, LedgerRefusal> {
+    let mut book = bonded_book(alloc)?;
+    unbond(&mut book, 30, 28)?;
+    unbond(&mut book, 10, 29)?;
+    Ok(book)
+}
+
+/// What is active, how many chunks stand, and the sums that a slash of 75 and one of 100 then leave, with what each took.
+fn slashes(alloc: Global) -> Result<[(u64, u64, usize, u64); 2], LedgerRefusal> {
+    let mut book = chunked(alloc)?;
+    let first = book.slash(FIRST, 75);
+    let after = (
+        first,
+        book.active(FIRST),
+        book.chunks(FIRST).len(),
+        book.totals().unlocking,
+    );
+    let second = book.slash(FIRST, 100);
+    Ok([
+        after,
+        (
+            second,
+            book.active(FIRST),
+            book.chunks(FIRST).len(),
+            book.totals().burned,
+        ),
+    ])
+}
+
+#[test]
+fn slashes_take_what_is_active_first(rt: HostRuntime) -> Result<(), Fail> {
+    assert!(rt; slashes(rt.alloc())? == [(75, 0, 2, 25), (25, 0, 0, 100)]);
+    Ok(())
+}
+
+/// What is free and held after a deposit of 60 was held, then 25 of it returned, then 5 of it burned.
+fn deposits(alloc: Global) -> Result<[(u64, u64); 3], LedgerRefusal> {
+    let mut book = Book::new(alloc);
+    endow(&mut book, FIRST, 100)?;
+    book.hold_deposit(FIRST, 60)?;
+    let held = (book.free(FIRST), book.held(FIRST));
+    if held.1 >= 25 {
+        book.return_deposit(FIRST, 25);
+    }
+    let returned = (book.free(FIRST), book.held(FIRST));
+    if returned.1 >= 5 {
+        book.burn_deposit(FIRST, 5);
+    }
+    Ok([held, returned, (book.free(FIRST), book.held(FIRST))])
+}
+
+#[test]
+fn deposits_are_held(rt: HostRuntime) -> Result<(), Fail> {
+    assert!(rt; deposits(rt.alloc())? == [(40, 60), (65, 35), (65, 30)]);
+    Ok(())
+}
+
+/// A deposit of 0 makes an account known, which then is given 7.
+fn minted(alloc: Global) -> Result<(bool, u64, Totals), LedgerRefusal> {
+    let mut book = Book::new(alloc);
+    let before = book.knows(FIRST);
+    book.hold_deposit(FIRST, 0)?;
+    if book.knows(FIRST) {
+        book.mint_free(FIRST, 7)?;
+    }
+    Ok((before, book.free(FIRST), book.totals()))
+}
+
+#[test]
+fn stake_is_minted(rt: HostRuntime) -> Result<(), Fail> {
+    let (before, free, totals) = minted(rt.alloc())?;
+    assert_eq!(rt;
+        (before, free, totals.minted, totals.issuance),
+        (false, 7, 7, 7)
+    );
+    Ok(())
+}

@@ -1,4 +1,8 @@
 //! The sums over all accounts.
+ghost use Rattle.std.specs.Prelude.{◌≡◌, ◌+◌, ◌^◌, ◌<◌};
+ghost use Rattle.stake_ledger.specs.Parts.{Covers, replaced};
+
+use crate::parts::Parts;
 
 /// What all accounts have together, in units of stake. `issuance` is what the endowments gave and what
 /// was minted, less what was burned.
@@ -11,4 +15,19 @@ pub struct Totals {
     pub minted: u64,
     pub burned: u64,
     pub issuance: u64,
+}
+
+impl Totals {
+    /// Puts what an account has now in the place of what it had.
+    pub(crate) fn replace(&mut self, before: Parts, after: Parts)
+        requires covered { Covers self.old before }
+        requires fits { self.old.free + self.old.active + self.old.unlocking + self.old.deposits
+            + after.free + after.active + after.unlocking + after.held < 2 ^ 64 }
+        ensures { self.new ≡ replaced before after self.old }
+    {
+        self.free = self.free - before.free + after.free;
+        self.active = self.active - before.active + after.active;
+        self.unlocking = self.unlocking - before.unlocking + after.unlocking;
+        self.deposits = self.deposits - before.held + after.held;
+    }
 }

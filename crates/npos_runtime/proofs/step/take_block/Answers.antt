@@ -1,18 +1,73 @@
-use Rattle.std.proofs.Common.{arith, ap, sym, subst}
+use Rattle.std.proofs.Common.{◌≡◌, ◌+◌, ◌-◌, ◌*◌, ◌≤◌, ◌<◌, ◌^◌, ℕ, length, arith, ap, sym, subst, ◌∙◌}
 use Rattle.npos_runtime.specs.declared.chain.Chain.{Chain}
-use Rattle.npos_runtime.specs.Live.{IsLive}
-use Rattle.npos_runtime.proofs.LiveLemmas.{live_closed, live_round, due_calls}
+use Rattle.npos_runtime.specs.Step.{era_phase}
+use Rattle.npos_runtime.specs.Rounds.{round_phase}
+use Rattle.npos_runtime.specs.Decision.{decision_phase}
+use Rattle.npos_runtime.specs.Live.{IsLive, IsReady, most_calls}
+use Rattle.npos_runtime.proofs.LiveLemmas.{live_era, live_round, live_before, live_closed, before_calls, due_before, next_before, due_calls, next_calls}
 use Rattle.npos_runtime.proofs.step.take_block.Goals as goal
 
-pub take_calls-requires-clause-live : goal.take_calls-requires-clause-live
-take_calls-requires-clause-live c = subst IsLive (sym c.in_ok-begin_round.ensures.state) (live_round c.args.chain.now c.requires.live)
+-- the chain when its calls begin
+begun : (old era round decided : Chain) → era ≡ (era_phase old).state → round ≡ (round_phase era).state
+    → decided ≡ (decision_phase round).state → decided ≡ before_calls old
+begun old era round decided e r d =
+    d ∙ ap (λ (c : Chain). (decision_phase c).state) (r ∙ ap (λ (c : Chain). (round_phase c).state) e)
 
-pub returns-clause-live_after : goal.returns-clause-live_after
-returns-clause-live_after c = live_closed c.take_calls.new.chain c.in_ok-take_calls.ensures.live_after
-    (omega (
+pub begin_round-requires : goal.begin_round-requires
+begin_round-requires c = subst IsLive (sym c.in_ok-begin_era.ensures.state) (live_era c.args.chain.now c.requires.ready.live)
+
+pub decide_round-requires : goal.decide_round-requires
+decide_round-requires c =
+    subst IsLive (sym c.in_ok-begin_round.ensures.state)
+    (live_round c.begin_era.new.chain (subst IsLive (sym c.in_ok-begin_era.ensures.state) (live_era c.args.chain.now c.requires.ready.live)))
+
+pub take_calls-requires-clause-live : goal.take_calls-requires-clause-live
+take_calls-requires-clause-live c =
+    subst IsLive
+    (sym (begun c.args.chain.now c.begin_era.new.chain c.begin_round.new.chain c.decide_round.new.chain
+    c.in_ok-begin_era.ensures.state c.in_ok-begin_round.ensures.state c.in_ok-decide_round.ensures.state))
+    (live_before c.args.chain.now c.requires.ready.live)
+
+pub take_calls-requires-clause-numbers : goal.take_calls-requires-clause-numbers
+take_calls-requires-clause-numbers c =
+    let same = begun c.args.chain.now c.begin_era.new.chain c.begin_round.new.chain c.decide_round.new.chain
+        c.in_ok-begin_era.ensures.state c.in_ok-begin_round.ensures.state c.in_ok-decide_round.ensures.state in
+    omega (
       arith,
-      ap (λ (chain : Chain). chain.due) c.in_ok-take_calls.ensures.goes.state,
-      due_calls 0 c.args.calls.items c.begin_round.new.chain,
-      ap (λ (chain : Chain). chain.due) c.in_ok-begin_round.ensures.state,
-      c.requires.due,
-    ))
+      ap (λ (chain : Chain). chain.next) same,
+      next_before c.args.chain.now,
+      c.requires.ready.numbered,
+      c.requires.ready.live.due_at_most,
+      c.requires.few,
+    )
+
+pub returns-clause-ready_after : goal.returns-clause-ready_after
+returns-clause-ready_after c =
+    let same = begun c.args.chain.now c.begin_era.new.chain c.begin_round.new.chain c.decide_round.new.chain
+        c.in_ok-begin_era.ensures.state c.in_ok-begin_round.ensures.state c.in_ok-decide_round.ensures.state in
+    let called = c.in_ok-take_calls.ensures.goes.state in
+    record {
+      live = live_closed c.take_calls.new.chain c.in_ok-take_calls.ensures.live_after
+          (omega (
+            arith,
+            ap (λ (chain : Chain). chain.due) called,
+            due_calls 0 c.args.calls.items c.decide_round.new.chain,
+            ap (λ (chain : Chain). chain.due) same,
+            due_before c.args.chain.now,
+            c.requires.due,
+          ));
+      numbered = omega (
+        arith,
+        ap (λ (chain : Chain). chain.next) called,
+        next_calls 0 c.args.calls.items c.decide_round.new.chain,
+        ap (λ (chain : Chain). chain.next) same,
+        next_before c.args.chain.now,
+        ap (λ (chain : Chain). chain.due) called,
+        due_calls 0 c.args.calls.items c.decide_round.new.chain,
+        ap (λ (chain : Chain). chain.due) same,
+        due_before c.args.chain.now,
+        c.requires.ready.numbered,
+        c.requires.ready.live.due_at_least,
+        c.requires.few,
+      );
+    }

@@ -2,7 +2,7 @@ use Rattle.std.proofs.Common.{refl, sym, ◌∙◌, arith, ap, is_some, true≢f
 use Rattle.stake_ledger.specs.declared.row.Row.{Row}
 use Rattle.stake_ledger.specs.Rows.{gained}
 use Rattle.stake_ledger.proofs.PlaceLemmas.{row_found, row_becomes, row_missing}
-use Rattle.stake_ledger.proofs.rows.Rows.give_back.Goals as goal
+use Rattle.stake_ledger.proofs.rows.Rows.give.Goals as goal
 
 pub overflow_add-index_mut : goal.overflow_add-index_mut
 overflow_add-index_mut c = omega (arith, c.requires.fits, ap (λ (row : Row). row.free) (row_found _ _ _ _ _ _ c.self.invariant c.self.view_is (sym c.find.ensures ∙ c.in-Some.is) c.index_mut.ensures.value))

@@ -1,0 +1,23 @@
+use Rattle.std.proofs.Common.{◌≡◌, ◌++◌, ℕ, map, length}
+use Rattle.weight_book.specs.Weights.{no_weights}
+use Rattle.weight_book.specs.Room.{HasRoom}
+use Rattle.npos_runtime.specs.Deposits.{AreHeld, all_burned}
+use Rattle.npos_runtime.specs.Decision.{losers, others, forfeit_line}
+use Rattle.npos_runtime.proofs.decision.find_winner.Given as goal
+
+abbrev pub invariant-items : goal.invariant-items
+invariant-items l = record {
+  snapshot : l.checker ≡ l.fn.checker;
+  empty : l.weights.plain ≡ no_weights;
+  room : HasRoom l.fn.checker l.weights;
+  held : AreHeld l.book l.queue.items;
+  others : others l.fn.checker l.queue.items ≡ others l.fn.checker l.fn.queue.items;
+  book : all_burned (losers l.fn.checker l.queue.items) l.book
+      ≡ all_burned (losers l.fn.checker l.fn.queue.items) l.fn.book;
+  lines : l.lines.items ++ map (forfeit_line l.fn.checker) (losers l.fn.checker l.queue.items)
+      ≡ l.fn.lines.items ++ map (forfeit_line l.fn.checker) (losers l.fn.checker l.fn.queue.items);
+  places : l.queue.places ≡ l.fn.queue.places;
+}
+
+abbrev pub decreases-items : goal.decreases-items
+decreases-items l = length l.queue.items

@@ -1,0 +1,20 @@
+use Rattle.std.proofs.Common.{◌≡◌, true, ◌∷◌, ap, sym, subst, ◌∙◌, refl, is_some}
+use Rattle.stake_ledger.specs.Ledger.{Ledger, row_of}
+use Rattle.npos_runtime.specs.Deposits.{AreHeld, returned}
+use Rattle.npos_runtime.specs.Decision.{reward_in, rewarded}
+use Rattle.npos_runtime.proofs.DepositLemmas.{known_first, known_returned, held_returned, held_minted}
+use Rattle.npos_runtime.proofs.decision.pay_out.Goals as goal
+
+pub reward-requires : goal.reward-requires
+reward-requires c =
+    subst (λ (b : Ledger). is_some (row_of b c.args.winner.now.who) ≡ true) (sym c.in_ok-return_deposit.ensures.book)
+    (known_returned c.args.book.now c.args.winner.now c.args.queue.now.items (record { held = c.requires.held; known = c.requires.known }))
+
+pub return_all-requires : goal.return_all-requires
+return_all-requires c =
+    let back = c.return_deposit.new.book in
+    subst (λ (b : Ledger). AreHeld b c.args.queue.now.items) (sym c.in_ok-reward.ensures.book)
+    (held_minted c.args.winner.now.who (reward_in c.args.amount back) back c.args.queue.now.items
+    (subst (λ (b : Ledger). AreHeld b c.args.queue.now.items) (sym c.in_ok-return_deposit.ensures.book)
+    (held_returned c.args.book.now (c.args.winner.now ∷ c.args.queue.now.items) c.args.winner.now c.args.queue.now.items
+    (record { held = c.requires.held; known = c.requires.known }) refl)))

@@ -1,0 +1,14 @@
+use Rattle.std.proofs.Common.{◌≡◌, ◌++◌, ℕ, length}
+use Rattle.npos_runtime.specs.Deposits.{AreHeld, all_returned, return_lines}
+use Rattle.npos_runtime.proofs.deposits.return_all.Given as goal
+
+abbrev pub invariant-items : goal.invariant-items
+invariant-items l = record {
+  held : AreHeld l.book l.queue.items;
+  book : all_returned l.queue.items l.book ≡ all_returned l.fn.queue.items l.fn.book;
+  lines : l.lines.items ++ return_lines l.queue.items ≡ l.fn.lines.items ++ return_lines l.fn.queue.items;
+  places : l.queue.places ≡ l.fn.queue.places;
+}
+
+abbrev pub decreases-items : goal.decreases-items
+decreases-items l = length l.queue.items

@@ -1,0 +1,47 @@
+//! What becomes of deposits, and what is told of it.
+ghost use Rattle.std.specs.Prelude.{◌≡◌, ◌++◌, ◌≤◌, [], ◌∷◌, OnOk};
+ghost use Rattle.stake_ledger.specs.Ledger.{row_at};
+ghost use Rattle.submission_queue.specs.Ranking.{empty_queue};
+ghost use Rattle.npos_runtime.specs.Deposits.{AreHeld, returned, all_returned, return_line, return_lines};
+
+use crate::Line;
+use npos_base::NoMemory;
+use stake_ledger::Book;
+use submission_queue::{Queue, Submission};
+
+/// The deposit of a submission is free again.
+pub fn return_deposit(
+    book: &mut Book,
+    lines: &mut Vec<Line>,
+    item: &Submission,
+) -> Result<(), NoMemory>
+    requires { item.now.deposit ≤ (row_at book.old item.now.who).held }
+    ensures book { OnOk result (book.new ≡ returned book.old item.now) }
+    ensures line { OnOk result (lines.new.items ≡ lines.old.items ++ return_line item.now ∷ []) }
+{
+    book.return_deposit(item.who, item.deposit);
+    lines.push(Line::Returned {
+        number: item.number,
+        deposit: item.deposit,
+    })?;
+    Ok(())
+}
+
+/// The deposits of all that wait are free again, by rank, and nobody waits then.
+#[tactic(auto, using(crate::proofs::DepositLemmas::front, crate::proofs::DepositLemmas::held_within, crate::proofs::DepositLemmas::held_returned))]
+pub fn return_all(
+    book: &mut Book,
+    lines: &mut Vec<Line>,
+    queue: &mut Queue,
+) -> Result<(), NoMemory>
+    requires { AreHeld book.old queue.old.items }
+    ensures book { OnOk result (book.new ≡ all_returned queue.old.items book.old) }
+    ensures lines { OnOk result
+        (lines.new.items ≡ lines.old.items ++ return_lines queue.old.items) }
+    ensures queue { OnOk result (queue.new ≡ empty_queue queue.old.places) }
+{
+    'items: while let Some(item) = queue.take_best() {
+        return_deposit(book, lines, &item)?;
+    }
+    Ok(())
+}

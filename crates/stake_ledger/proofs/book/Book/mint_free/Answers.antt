@@ -1,0 +1,18 @@
+use Rattle.std.proofs.Common.{arith, ap}
+use Rattle.stake_ledger.specs.Rows.{gained}
+use Rattle.stake_ledger.specs.Calls.{room_of}
+use Rattle.stake_ledger.proofs.KeepLemmas.{totals_within, worth_within, kept_minted}
+use Rattle.stake_ledger.proofs.LedgerLemmas.{others_by}
+use Rattle.stake_ledger.proofs.book.Book.mint_free.Goals as goal
+
+pub give-requires-clause-fits : goal.give-requires-clause-fits
+give-requires-clause-fits c = omega (arith, worth_within c.args.who _ _ c.self.invariant)
+
+pub overflow_add-self : goal.overflow_add-self
+overflow_add-self c = omega (arith, totals_within _ _ c.self.invariant)
+
+pub invariant_of-self : goal.invariant_of-self
+invariant_of-self c = rw c.give.ensures (kept_minted c.args.who c.args.value _ _ c.self.invariant (omega (arith, ap room_of c.self.view_is)))
+
+pub returns-clause-others : goal.returns-clause-others
+returns-clause-others c = rw (← c.self.view_is) (others_by c.args.who (gained c.args.value) _ _ c.give.ensures)

@@ -1,0 +1,24 @@
+use Rattle.std.proofs.Common.{◌≡◌, Some, None, IfErr, IfOk, OnOk, sym, ◌∙◌, subst}
+use Rattle.stake_ledger.specs.RowCalls.{row_refusal, row_after, done_of}
+use Rattle.stake_ledger.proofs.PlaceLemmas.{row_found, row_becomes, then_ok}
+use Rattle.stake_ledger.proofs.rows.Rows.call.Goals as goal
+
+pub done-requires : goal.done-requires
+done-requires c = rw (row_found _ _ _ _ _ _ c.self.invariant c.self.view_is (sym c.find.ensures ∙ c.in-Some.is) c.index_mut.ensures.value) c.requires
+
+pub returns-in-Some-clause-accepted : goal.returns-in-Some-clause-accepted
+returns-in-Some-clause-accepted c =
+    subst (λ row. OnOk c.done.result (row_refusal c.args.call row ≡ None)) (row_found _ _ _ _ _ _ c.self.invariant c.self.view_is (sym c.find.ensures ∙ c.in-Some.is) c.index_mut.ensures.value)
+    (then_ok c.done.result (λ ok. ok.0) c.done.ensures.ok)
+
+pub returns-in-Some-clause-ok : goal.returns-in-Some-clause-ok
+returns-in-Some-clause-ok c =
+    then_ok c.done.result (λ ok. row_becomes _ _ _ _ _ _ _ (row_after c.args.call) c.self.invariant c.self.view_is (sym c.find.ensures ∙ c.in-Some.is) c.index_mut.ensures.value ok.1) c.done.ensures.ok
+
+pub returns-in-Some-clause-done : goal.returns-in-Some-clause-done
+returns-in-Some-clause-done c =
+    subst (λ row. IfOk c.done.result (λ done. done ≡ done_of c.args.call row)) (row_found _ _ _ _ _ _ c.self.invariant c.self.view_is (sym c.find.ensures ∙ c.in-Some.is) c.index_mut.ensures.value) c.done.ensures.done
+
+pub returns-in-Some-clause-refused : goal.returns-in-Some-clause-refused
+returns-in-Some-clause-refused c =
+    subst (λ row. IfErr c.done.result (λ refusal. row_refusal c.args.call row ≡ Some refusal)) (row_found _ _ _ _ _ _ c.self.invariant c.self.view_is (sym c.find.ensures ∙ c.in-Some.is) c.index_mut.ensures.value) c.done.ensures.refused
