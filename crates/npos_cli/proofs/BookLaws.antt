@@ -12,7 +12,7 @@ use Rattle.npos_cli.specs.Replay.{Spot, IsTurn, behind, Passes}
 use Rattle.npos_cli.specs.Chain.{npos_machine, started}
 use Rattle.npos_cli.specs.Books.{BooksBalance}
 
-live_turn : (p : Spot Chain) (block : Block) (rest : List ℕ) → IsTurn npos_machine p block rest → IsLive p.state
+pub live_turn : (p : Spot Chain) (block : Block) (rest : List ℕ) → IsTurn npos_machine p block rest → IsLive p.state
     → IsLive (behind npos_machine p block rest).state
 live_turn p block rest turns live = live_step p.state block live (subst (λ (number : ℕ). number < 2 ^ 32) turns.numbered turns.in_range.0)
 
@@ -21,7 +21,7 @@ live_passes [] p q text passes live = subst (λ (s : Spot Chain). IsLive s.state
 live_passes (block ∷ blocks) p q text passes live =
     live_passes blocks (behind npos_machine p block passes.0) q passes.2 passes.3 (live_turn p block passes.0 passes.1 live)
 
-live_by : (genesis : Genesis) (chain : Chain) (fault : Option GenesisFault) → genesis_fault genesis ≡ fault → started fault genesis ≡ Ok chain → IsLive chain
+pub live_by : (genesis : Genesis) (chain : Chain) (fault : Option GenesisFault) → genesis_fault genesis ≡ fault → started fault genesis ≡ Ok chain → IsLive chain
 live_by genesis chain None sound is =
     let e : genesis_chain genesis ≡ chain = cc in subst IsLive e (live_begun genesis sound)
 live_by genesis chain (Some fault) faulty is = let e : Err (fault_numbers fault) ≡ Ok chain = is in cc

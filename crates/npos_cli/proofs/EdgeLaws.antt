@@ -2,7 +2,7 @@
 use Rattle.std.proofs.Common.{◌≡◌, ◌⊎◌, inl, inr, Bool, true, false, ℕ, List, [], ◌++◌, length, take, Option, Some, None, refl, sym, ◌∙◌, ap, subst, append_assoc, arith}
 use Rattle.std.proofs.lemmas.List.{append-nil, take_all}
 use Rattle.npos_base.specs.Outside.{Told, IsAtEnd, Appends, Flushes}
-use Rattle.npos_cli.specs.Owed.{LeftAfter, IsDrained, TakesMore, Delivers, DeliversFront}
+use Rattle.npos_cli.specs.Owed.{LeftAfter, IsDrained, TakesMore, Delivers, DeliversFront, KeepsFlushed}
 use Rattle.npos_cli.specs.Ahead.{HasSeen}
 
 left_join : (old mid new : Option (List ℕ)) (bytes taken : List ℕ)
@@ -61,3 +61,12 @@ not_flushed old mid (Some now) text appends none =
 pub front_put : (old new : Option Told) (n : ℕ) (text : List ℕ) → Appends old new (take n text) → DeliversFront old new text
 front_put old None n text appends = tt
 front_put old (Some now) n text appends = (appends.0, n, appends.1, appends.2)
+
+pub put_unflushed : (old new : Option Told) (text : List ℕ) → Appends old new text → KeepsFlushed old new
+put_unflushed old None text appends = tt
+put_unflushed old (Some now) text appends = (appends.0, appends.1, appends.3)
+
+pub still_unflushed : (old mid new : Option Told) (text : List ℕ) → Appends old mid text → Appends mid new [] → KeepsFlushed old new
+still_unflushed old mid None text appends none = tt
+still_unflushed old mid (Some now) text appends none =
+    let a = subst (λ (m : Option Told). Appends old m text) none.1 appends in (a.0, a.1, none.3 ∙ a.3)

@@ -10,7 +10,7 @@ use Rattle.npos_cli.proofs.ReplayLaws.{bytes_behind}
 use Rattle.npos_cli.proofs.WholeLaws.{passes_grow, start_grows}
 use Rattle.npos_cli.proofs.GrowLaws.{is_short}
 
-module _ {G B S : Type 0} (m : Machine G B S) (genesis_laws : IsWire m.genesis) (turn_laws : IsWire (turn m)) where
+module _ {G B S E : Type 0} (m : Machine G B S E) (genesis_laws : IsWire m.genesis) (turn_laws : IsWire (turn m)) where
   passed_bytes : (blocks : List B) (p q : Spot S) (text : List ℕ) → Passes m blocks p q text → IsBytes p.rest → IsBytes q.rest
   passed_bytes [] p q text passes bytes = subst (λ (s : Spot S). IsBytes s.rest) (sym passes.0) bytes
   passed_bytes (b ∷ blocks) p q text passes bytes =
@@ -40,5 +40,5 @@ module _ {G B S : Type 0} (m : Machine G B S) (genesis_laws : IsWire m.genesis) 
       (record { blocks = reaches.blocks; passes = passes_grow m genesis_laws turn_laws more reaches.blocks p q text reaches.passes })
       (stop_stands more q line ends
       (passed_bytes reaches.blocks p q text reaches.passes (bytes_behind (m.genesis.spelling start.genesis) p.rest (subst IsBytes start.whole are_bytes)))
-      (λ at bad. uncut (CutBlock p q text at start reaches bad)) (sym (ap (λ (out : Outcome S). out.faulty) o) ∙ faulty) stops)
+      (λ at bad. uncut (CutBlock p q text at start reaches bad)) (sym (ap (λ (out : Outcome S E). out.faulty) o) ∙ faulty) stops)
       o

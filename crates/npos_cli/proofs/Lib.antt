@@ -11,3 +11,4 @@ pub mod RunLaws
 pub mod PromiseLaws
 pub mod WholeLaws
 pub mod FaultLaws
+pub mod SeatLaws

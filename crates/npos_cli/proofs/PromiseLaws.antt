@@ -25,7 +25,10 @@ use Rattle.npos_cli.specs.Words.{HasForm, job_of, usage_line}
 use Rattle.npos_cli.specs.Report.{JobOwes, Owes, replay_status, ReadsInput, IsAnswer, IsJudged}
 use Rattle.npos_cli.specs.Replay.{Outcome, IsReplay}
 use Rattle.npos_runtime.specs.declared.chain.Chain.{Chain}
+use Rattle.npos_runtime.specs.Outcome.{Election}
 use Rattle.npos_cli.specs.Chain.{npos_machine}
+use Rattle.npos_cli.specs.Books.{BooksBalance}
+use Rattle.npos_cli.specs.Headline.{SeatsAreSound, IsPromised}
 use Rattle.npos_cli.specs.Owed.{IsAll, IsDrained, Delivers, DeliversFront, DeliversReplay, DeliversReplayFront, Comes, ComesWith, Answers, IsOwed, BeginsToAnswer}
 use Rattle.npos_cli.proofs.RunLaws.{one_owed}
 
@@ -140,13 +143,13 @@ usage_comes words left old new answer read write answers reads writes unformed =
 -- ## A replay
 
 module _ (words : List (List ℕ)) (asked : job_of words ≡ Some jobs.Replay) where
-  replay_owed : (left : List ℕ) (out : Outcome Chain) → IsReplay npos_machine left out → IsOwed words (Some left) out.text (replay_status out.faulty)
+  replay_owed : (left : List ℕ) (out : Outcome Chain Election) → IsReplay npos_machine left out → IsOwed words (Some left) out.text (replay_status out.faulty)
   replay_owed left out is_replay = λ bytes all.
       subst (λ (job : Option Job). JobOwes job bytes out.text (replay_status out.faulty)) (sym asked)
       (out, subst (λ (b : List ℕ). IsReplay npos_machine b out) (sym all) is_replay, refl, refl)
 
   found : (left : List ℕ) (old new : Option Told) (answer : Status) → Answers words (Some left) old new answer
-      → (out : Outcome Chain) × IsReplay npos_machine left out × (answer ≡ replay_status out.faulty) × Delivers old new out.text
+      → (out : Outcome Chain Election) × IsReplay npos_machine left out × (answer ≡ replay_status out.faulty) × Delivers old new out.text
   found left old new answer a =
       let owes = subst (λ (job : Option Job). JobOwes job a.1.0 a.0 answer) asked a.1.2 in
       (owes.0, subst (λ (b : List ℕ). IsReplay npos_machine b owes.0) a.1.1 owes.1, owes.3, subst (λ (t : List ℕ). Delivers old new t) owes.2 a.2)
@@ -187,3 +190,34 @@ module _ (words : List (List ℕ)) (asked : job_of words ≡ Some jobs.Replay) w
   pub front_of : (left : Option (List ℕ)) (old new : Option Told) → BeginsToAnswer words left old new → IfSome left (DeliversReplayFront npos_machine old new)
   front_of None old new begins = tt
   front_of (Some left) old new begins = λ out is_replay. begins out.text (replay_status out.faulty) (replay_owed left out is_replay)
+
+-- ## The promise
+
+-- a run that was not cut off has an answer
+uncut : (answer : Status) (read write : Type 0) → (answer ≡ statuses.ReadFault → read) → (answer ≡ statuses.WriteFault → write)
+    → (read → ⊥) → (write → ⊥) → answer ≢ statuses.NoMemory → IsAnswer answer
+uncut statuses.Done read write reads writes no_read no_write memory = tt
+uncut statuses.No read write reads writes no_read no_write memory = tt
+uncut statuses.Usage read write reads writes no_read no_write memory = tt
+uncut statuses.BadInput read write reads writes no_read no_write memory = tt
+uncut statuses.ReadFault read write reads writes no_read no_write memory = absurd (no_read (reads refl))
+uncut statuses.WriteFault read write reads writes no_read no_write memory = absurd (no_write (writes refl))
+uncut statuses.NoMemory read write reads writes no_read no_write memory = absurd (memory refl)
+
+pub promised : (words : List (List ℕ)) (left : Option (List ℕ)) (old new : Option Told) (answer : Status) (read write : Type 0)
+    → (IsAnswer answer → Answers words left old new answer) → (answer ≡ statuses.ReadFault → ReadsInput (job_of words) × read)
+    → (answer ≡ statuses.WriteFault → write) → IfSome left BooksBalance → IfSome left SeatsAreSound
+    → job_of words ≡ Some jobs.Replay → (read → ⊥) → (write → ⊥) → answer ≢ statuses.NoMemory
+    → IfSome left (λ bytes. IsPromised bytes old new)
+promised words None old new answer read write answers reads writes books seats asked no_read no_write memory = tt
+promised words (Some left) old new answer read write answers reads writes books seats asked no_read no_write memory =
+    let a = answers (uncut answer read write (λ is. (reads is).1) writes no_read no_write memory) in
+    let owes = subst (λ (job : Option Job). JobOwes job a.1.0 a.0 answer) asked a.1.2 in
+    let is_replay = subst (λ (b : List ℕ). IsReplay npos_machine b owes.0) a.1.1 owes.1 in
+    record {
+      replay = owes.0;
+      is_replay = is_replay;
+      written = subst (λ (t : List ℕ). Delivers old new t) owes.2 a.2;
+      committees = seats owes.0 is_replay;
+      holdings = books;
+    }

@@ -6,7 +6,7 @@ use Rattle.scale_wire.specs.declared.fault.Why.{Why}
 use Rattle.scale_wire.specs.declared.fault.Why.TheVariants.{Trailing}
 use Rattle.scale_wire.specs.Form.{IsWire, IsBytes}
 use Rattle.npos_cli.specs.Texts.{fault_line, number_line, genesis_line}
-use Rattle.npos_cli.specs.Replay.{Machine, Spot, turn, behind, IsTurn, Passes, Reaches, Starts, IsEnd, Stops, Refused, OtherNumber, Followed, Ended, Outcome, IsReplay, BadGenesis, FaultyGenesis, Replayed}
+use Rattle.npos_cli.specs.Replay.{Machine, Spot, turn, behind, IsTurn, Passes, Reaches, Starts, IsEnd, all_seated, Stops, Refused, OtherNumber, Followed, Ended, Outcome, IsReplay, BadGenesis, FaultyGenesis, Replayed}
 
 pub same_spot : {S : Type 0} (p q : Spot S) → p.at ≡ q.at → p.state ≡ q.state → p.rest ≡ q.rest → p ≡ q
 same_spot p q at state rest = λ i. record { at = at i; state = state i; rest = rest i }
@@ -15,7 +15,7 @@ pub bytes_behind : (front back : List ℕ) → IsBytes (front ++ back) → IsByt
 bytes_behind [] back bytes = bytes
 bytes_behind (b ∷ front) back bytes = bytes_behind front back bytes.1
 
-module _ {G B S : Type 0} (m : Machine G B S) (genesis_laws : IsWire m.genesis) (turn_laws : IsWire (turn m)) where
+module _ {G B S E : Type 0} (m : Machine G B S E) (genesis_laws : IsWire m.genesis) (turn_laws : IsWire (turn m)) where
   pub one_turn : (p : Spot S) (b c : B) (r s : List ℕ) → IsTurn m p b r → IsTurn m p c s → (b ≡ c) × (r ≡ s)
   one_turn p b c r s t u =
       let e = turn_laws.one_reading (Some b) (Some c) r s t.in_range u.in_range (sym t.whole ∙ u.whole) in
@@ -39,8 +39,8 @@ module _ {G B S : Type 0} (m : Machine G B S) (genesis_laws : IsWire m.genesis) 
 
   -- blocks lead to one end alone, and write one text on the way
   pub one_way : (bs cs : List B) (p q r : Spot S) (text other : List ℕ)
-      → Passes m bs p q text → IsEnd m q → Passes m cs p r other → IsEnd m r → (q ≡ r) × (text ≡ other)
-  one_way [] [] p q r text other one q_ends two r_ends = (one.0 ∙ sym two.0, one.1 ∙ sym two.1)
+      → Passes m bs p q text → IsEnd m q → Passes m cs p r other → IsEnd m r → (q ≡ r) × (text ≡ other) × (bs ≡ cs)
+  one_way [] [] p q r text other one q_ends two r_ends = (one.0 ∙ sym two.0, one.1 ∙ sym two.1, refl)
   one_way [] (c ∷ cs) p q r text other one q_ends two r_ends =
       absurd (q_ends c two.0 (subst (λ (s : Spot S). IsTurn m s c two.0) (sym one.0) two.1))
   one_way (b ∷ bs) [] p q r text other one q_ends two r_ends =
@@ -51,7 +51,7 @@ module _ {G B S : Type 0} (m : Machine G B S) (genesis_laws : IsWire m.genesis) 
       let rest = one_way bs cs (behind m p b one.0) q r one.2 two.2 one.3 q_ends
       (subst (λ (s : Spot S). Passes m cs s r two.2) (sym there) two.3) r_ends in
       let told : m.lines p.state b ++ one.2 ≡ m.lines p.state c ++ two.2 = λ i. m.lines p.state (same.0 i) ++ rest.1 i in
-      (rest.0, one.4 ∙ (told ∙ sym two.4))
+      (rest.0, one.4 ∙ (told ∙ sym two.4), λ i. same.0 i ∷ rest.2 i)
 
   passes_more : (bs : List B) (p q : Spot S) (text : List ℕ) (b : B) (rest : List ℕ) → Passes m bs p q text → IsTurn m q b rest
       → Passes m (bs ++ b ∷ []) p (behind m q b rest) (text ++ m.lines q.state b)
@@ -150,10 +150,10 @@ module _ {G B S : Type 0} (m : Machine G B S) (genesis_laws : IsWire m.genesis) 
   unreadable bytes g rest at why in_range whole bad =
       genesis_laws.exclusive g rest at why in_range (subst (λ (bs : List ℕ). m.genesis.bad bs at why) whole bad)
 
-  pub one_replay : (bytes : List ℕ) (out other : Outcome S) → IsReplay m bytes out → IsReplay m bytes other → out ≡ other
+  pub one_replay : (bytes : List ℕ) (out other : Outcome S E) → IsReplay m bytes out → IsReplay m bytes other → out ≡ other
   one_replay bytes out other (BadGenesis at why bad o) (BadGenesis at' why' bad' o') =
       let e = genesis_laws.one_fault bytes at at' why why' bad bad' in
-      o ∙ ((λ i. record { text = fault_line (e.0 i) (e.1 i); faulty = true; last = None }) ∙ sym o')
+      o ∙ ((λ i. record { text = fault_line (e.0 i) (e.1 i); faulty = true; seated = []; last = None }) ∙ sym o')
   one_replay bytes out other (BadGenesis at why bad o) (FaultyGenesis g rest fault in_range whole faulty o') =
       absurd (unreadable bytes g rest at why in_range whole bad)
   one_replay bytes out other (BadGenesis at why bad o) (Replayed p q text line faulty start reaches stops o') =
@@ -164,7 +164,7 @@ module _ {G B S : Type 0} (m : Machine G B S) (genesis_laws : IsWire m.genesis) 
       let e = genesis_laws.one_reading g g' rest rest' in_range in_range' (sym whole ∙ whole') in
       let both : Err fault ≡ Err fault' = sym faulty ∙ (ap m.start e.0 ∙ faulty') in
       let same : fault ≡ fault' = cc in
-      o ∙ ((λ i. record { text = genesis_line (same i); faulty = true; last = None }) ∙ sym o')
+      o ∙ ((λ i. record { text = genesis_line (same i); faulty = true; seated = []; last = None }) ∙ sym o')
   one_replay bytes out other (FaultyGenesis g rest fault in_range whole faulty o) (Replayed p q text line faulty' start reaches stops o') =
       absurd (begun_once bytes g rest p fault in_range whole faulty start)
   one_replay bytes out other (Replayed p q text line faulty start reaches stops o) (BadGenesis at why bad o') =
@@ -176,7 +176,12 @@ module _ {G B S : Type 0} (m : Machine G B S) (genesis_laws : IsWire m.genesis) 
       let way = one_way reaches.blocks reaches'.blocks p q q' text text' reaches.passes (stop_ends q line faulty stops)
       (subst (λ (s : Spot S). Passes m reaches'.blocks s q' text') from reaches'.passes) (stop_ends q' line' faulty' stops') in
       let stop = one_stop q line line' faulty faulty' stops (subst (λ (s : Spot S). Stops m s line' faulty') (sym way.0) stops') in
-      o ∙ ((λ i. record { text = way.1 i ++ stop.0 i; faulty = stop.1 i; last = Some ((way.0 i).state) }) ∙ sym o')
+      o ∙ ((λ i. record {
+        text = way.1 i ++ stop.0 i;
+        faulty = stop.1 i;
+        seated = all_seated m (((sym from) i).state) (way.2 i);
+        last = Some ((way.0 i).state);
+      }) ∙ sym o')
 
   -- a way on from a place to an end
   pub record GoesOn (p : Spot S) : Type 0 where
@@ -237,20 +242,20 @@ module _ {G B S : Type 0} (m : Machine G B S) (genesis_laws : IsWire m.genesis) 
       (bytes_behind ((turn m).spelling (Some b)) rest (subst IsBytes here.whole bytes)) (omega (arith, few, shorter p b rest here)))
 
   pub record HasReplay (bytes : List ℕ) : Type 0 where
-    pub outcome : Outcome S
+    pub outcome : Outcome S E
     pub is_replay : IsReplay m bytes outcome
 
   begun : (bytes : List ℕ) (g : G) (rest : List ℕ) → IsBytes bytes → m.genesis.in_range g → bytes ≡ m.genesis.spelling g ++ rest
       → (started : Result S (ℕ × ℕ)) → m.start g ≡ started → HasReplay bytes
   begun bytes g rest are_bytes in_range whole (Err fault) faulty = record {
-    outcome = record { text = genesis_line fault; faulty = true; last = None };
+    outcome = record { text = genesis_line fault; faulty = true; seated = []; last = None };
     is_replay = FaultyGenesis g rest fault in_range whole faulty refl;
   }
   begun bytes g rest are_bytes in_range whole (Ok state) started =
       let p : Spot S = record { at = length (m.genesis.spelling g); state = state; rest = rest } in
       let on = any_way (length rest) p (bytes_behind (m.genesis.spelling g) rest (subst IsBytes whole are_bytes)) (omega arith) in
       record {
-        outcome = record { text = on.text ++ on.line; faulty = on.faulty; last = Some on.stop.state };
+        outcome = record { text = on.text ++ on.line; faulty = on.faulty; seated = all_seated m p.state on.reaches.blocks; last = Some on.stop.state };
         is_replay = Replayed p on.stop on.text on.line on.faulty
             (record { genesis = g; in_range = in_range; state_is = started; whole = whole; at_is = refl }) on.reaches on.stops refl;
       }
@@ -259,7 +264,7 @@ module _ {G B S : Type 0} (m : Machine G B S) (genesis_laws : IsWire m.genesis) 
   any_replay bytes are_bytes = elim (genesis_laws.covers bytes are_bytes) [
     | inl begins ↦ begun bytes begins.value begins.rest are_bytes begins.in_range begins.whole (m.start begins.value) refl
     | inr refused ↦ record {
-      outcome = record { text = fault_line refused.at refused.why; faulty = true; last = None };
+      outcome = record { text = fault_line refused.at refused.why; faulty = true; seated = []; last = None };
       is_replay = BadGenesis refused.at refused.why refused.bad refl;
     }
   ]

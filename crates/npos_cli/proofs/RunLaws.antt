@@ -1,5 +1,5 @@
 -- From what a run owes and what was delivered to the clauses of `run`.
-use Rattle.std.proofs.Common.{◌≡◌, ◌⊎◌, inl, inr, ℕ, ◌+◌, ◌<◌, ◌≤◌, Bool, true, false, List, [], ◌++◌, length, Option, Some, None, Result, Ok, IfSome, if◌then◌else◌, refl, sym, ◌∙◌, ap, subst, arith, length-append}
+use Rattle.std.proofs.Common.{◌≡◌, ◌⊎◌, inl, inr, ℕ, ◌+◌, ◌<◌, ◌≤◌, Bool, true, false, List, [], ◌++◌, length, nat_lt, Option, Some, None, Result, Ok, Err, IfSome, if◌then◌else◌, refl, sym, ◌∙◌, ap, subst, arith, length-append}
 use Rattle.std.proofs.lemmas.List.{take_all, append-nil}
 use Rattle.std.proofs.lemmas.Bool.{lt-ltb, cases_lt}
 use Rattle.npos_base.specs.Outside.{Told}
@@ -12,12 +12,21 @@ use Rattle.npos_cli.specs.Words.{job_of, usage_line}
 use Rattle.npos_cli.specs.Report.{JobOwes, Owes, replay_status, IsAnswer, IsJudged}
 use Rattle.npos_cli.specs.Replay.{Outcome, IsReplay}
 use Rattle.npos_runtime.specs.declared.chain.Chain.{Chain}
+use Rattle.npos_runtime.specs.Outcome.{Election}
 use Rattle.npos_cli.specs.Chain.{npos_machine}
 use Rattle.scale_wire.specs.WholeReading.{read_as}
 use Rattle.block_wire.specs.Bundles.{bundle_form}
 use Rattle.block_wire.specs.BundleLaws.{bundle_laws}
 use Rattle.npos_cli.specs.Verdicts.{long_line, most_bundle}
-use Rattle.npos_cli.specs.Bundles.{Report, faulty, read_report, check_report, IsSound}
+use Rattle.npos_cli.specs.Bundles.{Report, faulty, verdict_status, work_report, election_report, read_report, check_report, IsSound}
+use Rattle.block_wire.specs.declared.bundle.Bundle.{Bundle}
+use Rattle.block_wire.specs.declared.bundle.Work.{Work}
+use Rattle.block_wire.specs.declared.bundle.Work.TheVariants.{Nothing, Packed, Plain}
+use Rattle.scale_wire.specs.declared.fault.WireFault.{WireFault}
+use Rattle.election_snapshot.specs.declared.fault.SnapshotFault.{SnapshotFault}
+use Rattle.election_snapshot.specs.Snapshot.{Snapshot}
+use Rattle.election_check.specs.declared.verdict.Verdict.{Verdict}
+use Rattle.election_check.specs.declared.verdict.Verdict.TheVariants as verdicts
 use Rattle.npos_cli.specs.Owed.{IsAll, LeftAfter, ReadsUpTo, TakesAtMost, IsDrained, Delivers, DeliversFront, FindsReplay, Finds, FindsFor, IsOwed, BeginsToAnswer}
 use Rattle.npos_cli.proofs.ReplayLaws.{one_replay, any_replay}
 use Rattle.npos_cli.proofs.ChainLaws.{genesis_laws, turn_laws}
@@ -26,7 +35,7 @@ use Rattle.npos_cli.proofs.ChainLaws.{genesis_laws, turn_laws}
 pub replay_found : (old new : Option (List ℕ)) (text : List ℕ) (faulty : Bool) (status : Status) → FindsReplay npos_machine old new text faulty
     → status ≡ replay_status faulty → FindsFor (Some jobs.Replay) old text status
 replay_found old new text faulty status finds is =
-    (finds.0, finds.1, (record { text = text; faulty = faulty; last = finds.2.0 }, finds.2.1, refl, is))
+    (finds.0, finds.1, (record { text = text; faulty = faulty; seated = finds.2.0; last = finds.2.1 }, finds.2.2, refl, is))
 
 pub replay_drained : (old new : Option (List ℕ)) (text : List ℕ) (faulty : Bool) (status : Status) → FindsReplay npos_machine old new text faulty
     → status ≡ replay_status faulty → IsJudged status → IsDrained old new
@@ -56,7 +65,7 @@ one_owed words bytes text other status end first second = by (job_of words) firs
   by None first second = (first.0 ∙ sym second.0, first.1 ∙ sym second.1)
   by (Some jobs.Replay) first second =
       let same = one_replay npos_machine genesis_laws turn_laws bytes first.0 second.0 first.1 second.1 in
-      (first.2 ∙ (ap (λ (o : Outcome Chain). o.text) same ∙ sym second.2), first.3 ∙ (ap (λ (o : Outcome Chain). replay_status o.faulty) same ∙ sym second.3))
+      (first.2 ∙ (ap (λ (o : Outcome Chain Election). o.text) same ∙ sym second.2), first.3 ∙ (ap (λ (o : Outcome Chain Election). replay_status o.faulty) same ∙ sym second.3))
   by (Some jobs.Check) first second =
       (ap (λ (r : Report). r.text) (first ∙ sym second), ap (λ (r : Report). r.status) (first ∙ sym second))
 
@@ -81,6 +90,51 @@ any_owed words bytes are = by (job_of words) where
       let r = any_replay npos_machine genesis_laws turn_laws bytes are in
       (r.outcome.text, replay_status r.outcome.faulty, (r.outcome, r.is_replay, refl, refl))
   by (Some jobs.Check) = ((check_report bytes).text, (check_report bytes).status, refl)
+
+-- ## What is owed is an answer
+
+verdict_answers : (verdict : Verdict) → IsAnswer (verdict_status verdict)
+verdict_answers verdicts.Yes = tt
+verdict_answers (verdicts.Undecodable at why) = tt
+verdict_answers (verdicts.NoVoter voter) = tt
+verdict_answers (verdicts.NoTarget target) = tt
+verdict_answers (verdicts.VoterTwice voter) = tt
+verdict_answers (verdicts.TargetTwice target) = tt
+verdict_answers (verdicts.NotNominated voter target) = tt
+verdict_answers (verdicts.BadShare voter) = tt
+verdict_answers (verdicts.WrongSize found) = tt
+verdict_answers (verdicts.WrongScore actual) = tt
+verdict_answers (verdicts.Outweighed target prescore) = tt
+verdict_answers (verdicts.Overspent voter) = tt
+
+work_answers : (size : ℕ) (snapshot : Snapshot) (work : Work) → IsAnswer (work_report size snapshot work).status
+work_answers size snapshot Nothing = tt
+work_answers size snapshot (Packed claim bytes) = verdict_answers _
+work_answers size snapshot (Plain committee edges) = verdict_answers _
+
+election_answers : (size : ℕ) (bundle : Bundle) (elected : Result Snapshot SnapshotFault) → IsAnswer (election_report size bundle elected).status
+election_answers size bundle (Ok snapshot) = work_answers size snapshot bundle.work
+election_answers size bundle (Err fault) = tt
+
+read_answers : (size : ℕ) (read : Result Bundle WireFault) → IsAnswer (read_report size read).status
+read_answers size (Ok bundle) = election_answers size bundle _
+read_answers size (Err fault) = tt
+
+check_answers : (bytes : List ℕ) → IsAnswer (check_report bytes).status
+check_answers bytes = by (nat_lt most_bundle (length bytes)) where
+  by : (over : Bool) → IsAnswer (if over then faulty long_line else read_report (length bytes) (read_as bundle_form bundle_laws bytes)).status
+  by true = tt
+  by false = read_answers (length bytes) _
+
+replay_answers : (faulty : Bool) → IsAnswer (replay_status faulty)
+replay_answers true = tt
+replay_answers false = tt
+
+pub owed_answers : (job : Option Job) (bytes text : List ℕ) (status : Status) → JobOwes job bytes text status → IsAnswer status
+owed_answers None bytes text status owes = subst (λ (s : Status). IsAnswer s) (sym owes.1) tt
+owed_answers (Some jobs.Replay) bytes text status owes = subst (λ (s : Status). IsAnswer s) (sym owes.3) (replay_answers owes.0.faulty)
+owed_answers (Some jobs.Check) bytes text status owes =
+    subst (λ (s : Status). IsAnswer s) (sym (ap (λ (r : Report). r.status) owes)) (check_answers bytes)
 
 -- ## A check
 

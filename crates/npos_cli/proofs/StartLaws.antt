@@ -5,11 +5,12 @@ use Rattle.scale_wire.specs.Reading.{Place}
 use Rattle.block_wire.specs.declared.genesis.Genesis.{Genesis}
 use Rattle.block_wire.specs.Genesis.{genesis_form}
 use Rattle.npos_runtime.specs.declared.chain.Chain.{Chain}
+use Rattle.npos_runtime.specs.Outcome.{Election}
 use Rattle.npos_runtime.specs.declared.begin.GenesisFault.{GenesisFault}
 use Rattle.npos_runtime.specs.declared.begin.GenesisFault.TheVariants.{NoMemory}
 use Rattle.npos_runtime.specs.Genesis.{genesis_fault, genesis_chain, fault_numbers, IsFault as IsGenesisFault}
 use Rattle.npos_cli.specs.Texts.{fault_line, genesis_line}
-use Rattle.npos_cli.specs.Replay.{Outcome, Spot, BadGenesis, FaultyGenesis, Replayed}
+use Rattle.npos_cli.specs.Replay.{Outcome, Spot, all_seated, BadGenesis, FaultyGenesis, Replayed}
 use Rattle.npos_cli.specs.Chain.{npos_machine, started}
 use Rattle.npos_cli.specs.Owed.{LeftAfter, IsDrained, Replays, FindsReplay}
 use Rattle.npos_cli.specs.Ahead.{Ahead, place, MayFollow, HasSeen, BeginsWith}
@@ -23,11 +24,12 @@ use Rattle.npos_cli.proofs.WholeLaws.{passes_grow}
 abbrev first_place : List ℕ → Place
 first_place bytes = record { at = 0; rest = bytes }
 
-abbrev outcome : List ℕ → Bool → Option Chain → Outcome Chain
-outcome text faulty last = record { text = text; faulty = faulty; last = last }
+abbrev outcome : List ℕ → Bool → List Election → Option Chain → Outcome Chain Election
+outcome text faulty seated last = record { text = text; faulty = faulty; seated = seated; last = last }
 
-outcome_with : (text other : List ℕ) (faulty : Bool) (last : Option Chain) → text ≡ other → outcome text faulty last ≡ outcome other faulty last
-outcome_with text other faulty last same = ap (λ (t : List ℕ). outcome t faulty last) same
+outcome_with : (text other : List ℕ) (faulty : Bool) (seated : List Election) (last : Option Chain) → text ≡ other
+    → outcome text faulty seated last ≡ outcome other faulty seated last
+outcome_with text other faulty seated last same = ap (λ (t : List ℕ). outcome t faulty seated last) same
 
 -- what is the replay of all that was seen, whatever may follow, is that of all that was left
 found : (left now : Option (List ℕ)) (seen told : List ℕ) (ended faulty : Bool) → HasSeen left now seen false ended
@@ -54,9 +56,10 @@ refused_replay left now seen empty told held fault has_seen begins none told_is 
     let place : fault.at ≡ is.place = omega (arith, is.at_is) in
     found left now seen told held.ended true has_seen
     (λ more follow. (
+      [],
       None,
       BadGenesis is.place fault.why (bad_grows genesis_form genesis_laws seen more is.place fault.why held.ended begins.0 begins.2 follow is.bad)
-          (outcome_with told (fault_line is.place fault.why) true None
+          (outcome_with told (fault_line is.place fault.why) true [] None
           (told_is ∙ (ap (λ front. front ++ fault_line fault.at fault.why) none ∙ ap (λ at. fault_line at fault.why) place))),
     ))
     (λ e. cc)
@@ -70,10 +73,11 @@ pub faulty_replay : (left now : Option (List ℕ)) (seen empty told : List ℕ) 
 faulty_replay left now seen empty told held genesis fault has_seen is none due not_memory told_is =
     found left now seen told held.ended true has_seen
     (λ more follow. (
+      [],
       None,
       FaultyGenesis genesis (held.bytes ++ more) (fault_numbers fault) is.in_range (read_grows genesis_form (first_place seen) (place held) genesis more is).whole
           (ap (λ (o : Option GenesisFault). started o genesis) (is_due (genesis_fault genesis) fault due not_memory))
-          (outcome_with told (genesis_line (fault_numbers fault)) true None (told_is ∙ ap (λ front. front ++ genesis_line (fault_numbers fault)) none)),
+          (outcome_with told (genesis_line (fault_numbers fault)) true [] None (told_is ∙ ap (λ front. front ++ genesis_line (fault_numbers fault)) none)),
     ))
     (λ e. cc)
 
@@ -87,6 +91,7 @@ started_replay left mid now seen empty told held genesis chain faulty has_seen i
     let all : seen ++ (then ++ more) ≡ (seen ++ then) ++ more = sym (append_assoc seen then more) in
     let from : Spot Chain = grown more (grown then (spot (place held) chain)) in
     let there : held.bytes ++ (then ++ more) ≡ from.rest = sym (append_assoc held.bytes then more) in (
+      all_seated npos_machine from.state runs.3.blocks,
       Some runs.0.state,
       Replayed from (grown more runs.0) runs.1 runs.2 faulty
           (record {
@@ -98,6 +103,6 @@ started_replay left mid now seen empty told held genesis chain faulty has_seen i
           })
           (record { blocks = runs.3.blocks; passes = passes_grow npos_machine genesis_laws turn_laws more runs.3.blocks (grown then (spot (place held) chain)) runs.0 runs.1 runs.3.passes })
           (runs.4 more follow)
-          (outcome_with told (runs.1 ++ runs.2) faulty (Some runs.0.state) (runs.5 ∙ ap (λ front. front ++ (runs.1 ++ runs.2)) none)),
+          (outcome_with told (runs.1 ++ runs.2) faulty (all_seated npos_machine from.state runs.3.blocks) (Some runs.0.state) (runs.5 ∙ ap (λ front. front ++ (runs.1 ++ runs.2)) none)),
     ))
     runs.6

@@ -8,7 +8,7 @@ use Rattle.npos_cli.proofs.ReplayLaws.{bytes_behind, one_turn, one_way, one_star
 front_of_none : (text other : List ℕ) → text ≡ [] → IsFront text other
 front_of_none text other none = (other, ap (λ front. front ++ other) (sym none))
 
-module _ {G B S : Type 0} (m : Machine G B S) (genesis_laws : IsWire m.genesis) (turn_laws : IsWire (turn m)) where
+module _ {G B S E : Type 0} (m : Machine G B S E) (genesis_laws : IsWire m.genesis) (turn_laws : IsWire (turn m)) where
   turn_grows : (more : List ℕ) (p : Spot S) (b : B) (rest : List ℕ) → IsTurn m p b rest → IsTurn m (grown more p) b (rest ++ more)
   turn_grows more p b rest here = record {
     in_range = here.in_range;
@@ -85,7 +85,7 @@ module _ {G B S : Type 0} (m : Machine G B S) (genesis_laws : IsWire m.genesis) 
     | inr refused ↦ ([], NoStart (λ p start. unreadable m genesis_laws turn_laws bytes start.genesis p.rest refused.at refused.why start.in_range start.whole refused.bad) refl)
   ]
 
-  pub replay_begins : (bytes text : List ℕ) (out : Outcome S) → IsWhole m bytes text → IsReplay m bytes out → IsFront text out.text
+  pub replay_begins : (bytes text : List ℕ) (out : Outcome S E) → IsWhole m bytes text → IsReplay m bytes out → IsFront text out.text
   replay_begins bytes text out (NoStart none text_is) replays = front_of_none text out.text text_is
   replay_begins bytes text out (Blocks p q start reaches ends) (BadGenesis at why bad o) =
       absurd (unreadable m genesis_laws turn_laws bytes start.genesis p.rest at why start.in_range start.whole bad)
@@ -93,4 +93,4 @@ module _ {G B S : Type 0} (m : Machine G B S) (genesis_laws : IsWire m.genesis) 
       absurd (begun_once m genesis_laws turn_laws bytes g rest p fault in_range whole faulty start)
   replay_begins bytes text out (Blocks p q start reaches ends) (Replayed p' q' text' line faulty start' reaches' stops o) =
       let same = one_whole bytes text' text (Blocks p' q' start' reaches' (stop_ends m genesis_laws turn_laws q' line faulty stops)) (Blocks p q start reaches ends) in
-      (line, ap (λ (found : Outcome S). found.text) o ∙ ap (λ front. front ++ line) same)
+      (line, ap (λ (found : Outcome S E). found.text) o ∙ ap (λ front. front ++ line) same)

@@ -7,6 +7,7 @@ use Rattle.block_wire.specs.Calls.{block_form}
 use Rattle.stake_ledger.specs.declared.totals.Totals.{Totals}
 use Rattle.stake_ledger.specs.Ledger.{totals_of}
 use Rattle.npos_runtime.specs.declared.chain.Chain.{Chain}
+use Rattle.npos_runtime.specs.Outcome.{Election}
 use Rattle.npos_runtime.specs.declared.begin.GenesisFault.{GenesisFault}
 use Rattle.npos_runtime.specs.declared.line.Line.{Line}
 use Rattle.npos_runtime.specs.declared.line.Line.TheVariants as lines
@@ -45,7 +46,7 @@ abbrev pub started : Option GenesisFault → Genesis → Result Chain (ℕ × �
 started None genesis = Ok (genesis_chain genesis)
 started (Some fault) genesis = Err (fault_numbers fault)
 
-abbrev pub npos_machine : Machine Genesis Block Chain
+abbrev pub npos_machine : Machine Genesis Block Chain Election
 npos_machine = record {
   genesis = genesis_form;
   block = block_form;
@@ -54,5 +55,6 @@ npos_machine = record {
   due = λ chain. chain.due;
   after = λ chain block. (step chain block).state;
   lines = λ chain block. flat_map line_text (step chain block).lines;
+  seats = λ chain block. (step chain block).seated;
   ending = λ chain. end_line (totals_of chain.book);
 }

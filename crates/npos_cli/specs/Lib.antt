@@ -11,6 +11,7 @@ pub mod Owed
 pub mod Ahead
 pub mod Chain
 pub mod Books
+pub mod Headline
 pub mod Turning
 pub mod Answer
 pub mod Due

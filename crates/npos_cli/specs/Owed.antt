@@ -20,6 +20,11 @@ abbrev pub DeliversFront : Option Told → Option Told → List ℕ → Type 0
 DeliversFront old None text = ⊤
 DeliversFront old (Some now) text = (before : Told) × (n : ℕ) × (old ≡ Some before) × (now.written ≡ before.written ++ take n text)
 
+-- no more is flushed than was before; nothing is said of a sink that does not tell its bytes
+abbrev pub KeepsFlushed : Option Told → Option Told → Type 0
+KeepsFlushed old None = ⊤
+KeepsFlushed old (Some now) = (before : Told) × (old ≡ Some before) × (now.flushed ≡ before.flushed)
+
 -- the bytes are all that was left; nothing is said of a source that does not tell its bytes
 abbrev pub IsAll : Option (List ℕ) → List ℕ → Type 0
 IsAll None bytes = ⊤
@@ -31,22 +36,22 @@ IsDrained None now = ⊤
 IsDrained (Some left) now = now ≡ Some []
 
 -- The replay of these bytes was delivered, which ends with a fault line or not.
-abbrev pub DeliversReplay : {G B S : Type 0} → Machine G B S → Bool → Option Told → Option Told → List ℕ → Type 0
-DeliversReplay {G} {B} {S} m faulty old new bytes =
-    (out : Outcome S) × IsReplay m bytes out × (out.faulty ≡ faulty) × Delivers old new out.text
+abbrev pub DeliversReplay : {G B S E : Type 0} → Machine G B S E → Bool → Option Told → Option Told → List ℕ → Type 0
+DeliversReplay {G} {B} {S} {E} m faulty old new bytes =
+    (out : Outcome S E) × IsReplay m bytes out × (out.faulty ≡ faulty) × Delivers old new out.text
 
 -- The status comes, unless memory was refused or a count of faults rose.
 abbrev pub Comes : Status → Status → Type 0 → Type 0
 Comes status answer rose = (answer ≡ status) ⊎ (answer ≡ statuses.NoMemory) ⊎ rose
 
 -- a front of the replay of these bytes was delivered
-abbrev pub DeliversReplayFront : {G B S : Type 0} → Machine G B S → Option Told → Option Told → List ℕ → Type 0
-DeliversReplayFront {G} {B} {S} m old new bytes = (out : Outcome S) → IsReplay m bytes out → DeliversFront old new out.text
+abbrev pub DeliversReplayFront : {G B S E : Type 0} → Machine G B S E → Option Told → Option Told → List ℕ → Type 0
+DeliversReplayFront {G} {B} {S} {E} m old new bytes = (out : Outcome S E) → IsReplay m bytes out → DeliversFront old new out.text
 
 -- the status comes wherever the replay of these bytes ends with a fault line, or wherever it does not
-abbrev pub ComesWith : {G B S : Type 0} → Machine G B S → List ℕ → Bool → Status → Status → Type 0 → Type 0
-ComesWith {G} {B} {S} m bytes faulty status answer rose =
-    (out : Outcome S) → IsReplay m bytes out → out.faulty ≡ faulty → Comes status answer rose
+abbrev pub ComesWith : {G B S E : Type 0} → Machine G B S E → List ℕ → Bool → Status → Status → Type 0 → Type 0
+ComesWith {G} {B} {S} {E} m bytes faulty status answer rose =
+    (out : Outcome S E) → IsReplay m bytes out → out.faulty ≡ faulty → Comes status answer rose
 
 -- A part of a run that may end it over a source: an Ok and want of memory leave the count of faults, and a
 -- failed read has a fault as its cause. No other status ends a run there.
@@ -67,12 +72,12 @@ TakesMore old new before after ended =
     (taken : List ℕ) × (after ≡ before ++ taken) × LeftAfter old new taken × (ended ≡ true → (taken ≡ []) × IsAtEnd old)
 
 -- this text is the replay's, which ends with a fault line or not
-abbrev pub Replays : {G B S : Type 0} → Machine G B S → List ℕ → List ℕ → Bool → Type 0
-Replays {G} {B} {S} m bytes text faulty = (last : Option S) × IsReplay m bytes (record { text = text; faulty = faulty; last = last })
+abbrev pub Replays : {G B S E : Type 0} → Machine G B S E → List ℕ → List ℕ → Bool → Type 0
+Replays {G} {B} {S} {E} m bytes text faulty = (seated : List E) × (last : Option S) × IsReplay m bytes (record { text = text; faulty = faulty; seated = seated; last = last })
 
 -- The text is that of the replay of all that was left; one that ends with its end line leaves nothing. For a source
 -- that does not tell its bytes it is the replay of some bytes.
-abbrev pub FindsReplay : {G B S : Type 0} → Machine G B S → Option (List ℕ) → Option (List ℕ) → List ℕ → Bool → Type 0
+abbrev pub FindsReplay : {G B S E : Type 0} → Machine G B S E → Option (List ℕ) → Option (List ℕ) → List ℕ → Bool → Type 0
 FindsReplay m old now text faulty =
     (bytes : List ℕ) × IsAll old bytes × Replays m bytes text faulty × (faulty ≡ false → IsDrained old now)
 

@@ -24,36 +24,36 @@ abbrev pub grown : {S : Type 0} → List ℕ → Spot S → Spot S
 grown more p = record { at = p.at; state = p.state; rest = p.rest ++ more }
 
 -- a replay ends here, whatever may follow the bytes that are known
-abbrev pub StopsSurely : {G B S : Type 0} → Machine G B S → Bool → Spot S → List ℕ → Bool → Type 0
+abbrev pub StopsSurely : {G B S E : Type 0} → Machine G B S E → Bool → Spot S → List ℕ → Bool → Type 0
 StopsSurely m ended q line faulty = (more : List ℕ) → MayFollow ended more → Stops m (grown more q) line faulty
 
 -- here the bytes end before a block or the None does, or behind the None
-abbrev pub IsCutHere : {G B S : Type 0} → Machine G B S → Spot S → Type 0
+abbrev pub IsCutHere : {G B S E : Type 0} → Machine G B S E → Spot S → Type 0
 IsCutHere m p = ((at : ℕ) × (turn m).bad p.rest at Short) ⊎ (p.rest ≡ (turn m).spelling None)
 
 -- A block was taken, or the input may go on where the bytes are cut, and nothing was taken, or the replay ends here.
 -- That a replay without a fault line has read the input to its end follows from the rest; it is told for its users.
-abbrev pub Turns : {G B S : Type 0} → Machine G B S → Bool → Spot S → Spot S → List ℕ → Turn → Type 0
-Turns {G} {B} {S} m ended p q told Taken = (block : B) × IsTurn m p block q.rest × (q ≡ behind m p block q.rest) × (told ≡ m.lines p.state block)
+abbrev pub Turns : {G B S E : Type 0} → Machine G B S E → Bool → Spot S → Spot S → List ℕ → Turn → Type 0
+Turns {G} {B} {S} {E} m ended p q told Taken = (block : B) × IsTurn m p block q.rest × (q ≡ behind m p block q.rest) × (told ≡ m.lines p.state block)
 Turns m ended p q told (Stopped More) = (ended ≡ false) × IsCutHere m p × (q ≡ p) × (told ≡ [])
 Turns m ended p q told (Stopped (Last faulty)) = StopsSurely m ended p told faulty × (faulty ≡ false → ended ≡ true)
 
 -- one turn of the reader, with what it appended
-abbrev pub TakesTurn : {G B S : Type 0} → Machine G B S → Bool → Spot S → Spot S → List ℕ → List ℕ → Turn → Type 0
+abbrev pub TakesTurn : {G B S E : Type 0} → Machine G B S E → Bool → Spot S → Spot S → List ℕ → List ℕ → Turn → Type 0
 TakesTurn m ended p q old new turn = (told : List ℕ) × (new ≡ old ++ told) × Turns m ended p q told turn
 
 -- blocks lead from one place to another, and what they write was appended
-abbrev pub HasReached : {G B S : Type 0} → Machine G B S → Spot S → Spot S → List ℕ → List ℕ → Type 0
+abbrev pub HasReached : {G B S E : Type 0} → Machine G B S E → Spot S → Spot S → List ℕ → List ℕ → Type 0
 HasReached m p q old new = (text : List ℕ) × Reaches m p q text × (new ≡ old ++ text)
 
 -- blocks lead to an end, and all that they and the end write was appended
-abbrev pub Runs : {G B S : Type 0} → Machine G B S → Bool → Spot S → List ℕ → List ℕ → Bool → Type 0
-Runs {G} {B} {S} m ended p old new faulty =
+abbrev pub Runs : {G B S E : Type 0} → Machine G B S E → Bool → Spot S → List ℕ → List ℕ → Bool → Type 0
+Runs {G} {B} {S} {E} m ended p old new faulty =
     (q : Spot S) × (text : List ℕ) × (line : List ℕ) × Reaches m p q text × StopsSurely m ended q line faulty × (new ≡ old ++ (text ++ line))
     × (faulty ≡ false → ended ≡ true)
 
 -- blocks lead to an end, or to a place where the bytes are cut and the input may go on
-abbrev pub RunsOn : {G B S : Type 0} → Machine G B S → Bool → Spot S → Spot S → List ℕ → List ℕ → Stop → Type 0
+abbrev pub RunsOn : {G B S E : Type 0} → Machine G B S E → Bool → Spot S → Spot S → List ℕ → List ℕ → Stop → Type 0
 RunsOn m ended p q old new More = (ended ≡ false) × IsCutHere m q × HasReached m p q old new
 RunsOn m ended p q old new (Last faulty) = Runs m ended p old new faulty
 
@@ -83,6 +83,6 @@ RefusesHere fault ended old new (Last false) = ⊥
 
 -- What was read of an input, behind the bytes that were there, leads on from a place to an end. The input had ended
 -- before, or not.
-abbrev pub RunsThrough : {G B S : Type 0} → Machine G B S → Option (List ℕ) → Option (List ℕ) → Bool → Spot S → List ℕ → List ℕ → Bool → Type 0
+abbrev pub RunsThrough : {G B S E : Type 0} → Machine G B S E → Option (List ℕ) → Option (List ℕ) → Bool → Spot S → List ℕ → List ℕ → Bool → Type 0
 RunsThrough m left now before p old new faulty =
     (seen : List ℕ) × (ended : Bool) × HasSeen left now seen before ended × Runs m ended (grown seen p) old new faulty

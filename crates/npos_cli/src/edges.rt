@@ -1,16 +1,17 @@
 //! The edge of a run at which its text goes out.
-ghost use Rattle.std.specs.Prelude.{MatchResult};
+ghost use Rattle.std.specs.Prelude.{MatchResult, IfErr};
 ghost use Rattle.npos_base.specs.Outside.{HasCause};
-ghost use Rattle.npos_cli.specs.Owed.{Delivers, DeliversFront};
+ghost use Rattle.npos_cli.specs.Owed.{Delivers, DeliversFront, KeepsFlushed};
 
 use npos_base::{Failed, Sink, put_all};
 
 /// Writes the text and flushes the sink.
-#[tactic(auto, using(crate::proofs::EdgeLaws::delivered, crate::proofs::EdgeLaws::not_flushed, crate::proofs::EdgeLaws::front_put))]
+#[tactic(auto, using(crate::proofs::EdgeLaws::delivered, crate::proofs::EdgeLaws::not_flushed, crate::proofs::EdgeLaws::front_put, crate::proofs::EdgeLaws::put_unflushed, crate::proofs::EdgeLaws::still_unflushed))]
 pub fn deliver<K: Sink>(sink: &mut K, text: &[u8]) -> Result<(), Failed>
     ensures delivered { MatchResult result
         (λ _. Delivers (K.told sink.old) (K.told sink.new) text.now)
         (λ _. DeliversFront (K.told sink.old) (K.told sink.new) text.now) }
+    ensures unflushed { IfErr result (λ _. KeepsFlushed (K.told sink.old) (K.told sink.new)) }
     ensures cause { HasCause (K.faults sink.old) (K.faults sink.new) result }
 {
     if put_all(sink, text).is_err() {

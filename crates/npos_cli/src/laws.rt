@@ -1,6 +1,19 @@
 //! What follows for all words and all bytes. Each law is the clause of a function that does nothing.
+ghost use Rattle.std.specs.Prelude.{ℕ, List};
 ghost use Rattle.npos_cli.specs.Chain.{npos_machine};
+ghost use Rattle.npos_cli.specs.Headline.{SeatsAreSound};
 ghost use Rattle.npos_cli.specs.Laws.{OwesOnce, OwesAlways, IsReplayedOnce, IsAlwaysReplayed, IsWholeOnce, IsAlwaysWhole, BeginsWithWhole, WholeGrows, FaultsStand};
+
+use npos_runtime::laws::every_seated_committee_is_sound;
+
+/// Every committee that a replay seats, from a signed solution or from the fill, has a member for each seat, follows
+/// nominations, spends no voter beyond its stake, and is proportional.
+#[tactic(auto, using(crate::proofs::SeatLaws::seats_sound))]
+pub fn replays_seat_sound_committees()
+    ensures { (bytes : List ℕ) → SeatsAreSound bytes }
+{
+    every_seated_committee_is_sound();
+}
 
 /// All words owe something for all bytes, and nothing else: a text and a status.
 pub fn one_answer()

@@ -1,14 +1,15 @@
 //! The top call.
-ghost use Rattle.std.specs.Prelude.{◌≡◌, ◌<◌, ◌+◌, None, Some, map, IfOk, IfSome, string_bytes};
+ghost use Rattle.std.specs.Prelude.{◌≡◌, ◌⊎◌, ◌<◌, ◌+◌, None, Some, map, IfOk, IfSome, string_bytes};
 ghost use Rattle.npos_base.specs.Outside.{Rose};
 ghost use Rattle.npos_cli.specs.declared.job.Job.TheVariants as jobs;
 ghost use Rattle.npos_cli.specs.Words.{job_of};
 ghost use Rattle.npos_cli.specs.Report.{ReadsInput, IsAnswer, IsJudged, replay_status};
 ghost use Rattle.npos_cli.specs.Books.{BooksBalance};
+ghost use Rattle.npos_cli.specs.Headline.{SeatsAreSound};
 ghost use Rattle.npos_cli.specs.Verdicts.{most_bundle};
 ghost use Rattle.npos_cli.specs.Bundles.{IsSound};
 ghost use Rattle.npos_cli.specs.declared.status.Status.TheVariants as statuses;
-ghost use Rattle.npos_cli.specs.Owed.{Finds, FindsFor, Answers, BeginsToAnswer, IsDrained, TakesAtMost, HaltsWell};
+ghost use Rattle.npos_cli.specs.Owed.{Finds, FindsFor, Answers, BeginsToAnswer, IsDrained, TakesAtMost, HaltsWell, KeepsFlushed};
 ghost use Rattle.npos_cli.specs.Due.{due_text, due_status};
 
 use crate::Status;
@@ -16,6 +17,7 @@ use crate::checking::{Answer, MOST_BUNDLE, check_bytes};
 use crate::edges::deliver;
 use crate::input::read_up_to;
 use crate::job::{Job, job_of};
+use crate::laws::replays_seat_sound_committees;
 use crate::replaying::replay;
 use npos_base::{Failed, Sink, Source};
 use std::alloc::Global;
@@ -124,7 +126,7 @@ fn prepare<S: Source>(alloc: Global, words: &[String], source: &mut S) -> Result
 /// Does all that the program does: finds the job that the words ask for, reads its input from the
 /// source, writes to the sink what is due, flushes it, and says how it ended. `words[0]` is the
 /// program's name and is not looked at.
-#[tactic(auto, using(crate::proofs::BookLaws::books_told, crate::proofs::RunLaws::front_delivered, crate::proofs::RunLaws::front_found))]
+#[tactic(auto, using(crate::proofs::BookLaws::books_told, crate::proofs::SeatLaws::told_sound, crate::proofs::RunLaws::front_delivered, crate::proofs::RunLaws::front_found))]
 pub fn run<S: Source, K: Sink>(
     alloc: Global,
     words: &[String],
@@ -144,16 +146,22 @@ pub fn run<S: Source, K: Sink>(
         → Rose (K.faults sink.old) (K.faults sink.new) }
     ensures write_fault_comes { K.faults sink.old < K.faults sink.new
         → result ≡ Status.WriteFault }
+    ensures unwritten { (result ≡ Status.ReadFault) ⊎ (result ≡ Status.NoMemory)
+        → sink.new ≡ sink.old }
+    ensures unflushed { result ≡ Status.WriteFault
+        → KeepsFlushed (K.told sink.old) (K.told sink.new) }
     ensures unread { (ReadsInput (job_of (map string_bytes words.now)) → ⊥)
         → source.new ≡ source.old }
     ensures drained { IsJudged result → ReadsInput (job_of (map string_bytes words.now))
         → IsDrained (S.left source.old) (S.left source.new) }
     ensures books { IfSome (S.left source.old) BooksBalance }
+    ensures committees { IfSome (S.left source.old) SeatsAreSound }
     ensures few { job_of (map string_bytes words.now) ≡ Some jobs.Check → IsAnswer result
         → TakesAtMost (most_bundle + 1) (S.left source.old) (S.left source.new) }
     ensures accepted { job_of (map string_bytes words.now) ≡ Some jobs.Check → result ≡ Status.Done
         → IfSome (S.left source.old) IsSound }
 {
+    replays_seat_sound_committees(); // a law, which does nothing
     let due = match prepare(alloc, words, source) {
         Ok(due) => due,
         Err(status) => return status,
