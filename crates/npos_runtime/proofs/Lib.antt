@@ -20,3 +20,5 @@ pub mod ElectorateLemmas
 pub mod SeatLemmas
 pub mod VerdictLemmas
 pub mod SubmitLemmas
+pub mod FateLemmas
+pub mod LawLemmas

@@ -195,7 +195,7 @@ validator_has : (o : Option Standing) → is_validator_role (role_in o) ≡ true
 validator_has None e = absurd (true≢false (sym e))
 validator_has (Some standing) e = refl
 
-second_none : (a b : Option Refusal) → option_or a b ≡ None → b ≡ None
+pub second_none : (a b : Option Refusal) → option_or a b ≡ None → b ≡ None
 second_none None b e = e
 second_none (Some r) b e = cc
 
@@ -212,7 +212,7 @@ front_listed listing who score lighter lighter_score allowed = at (is_listed lis
   at true e = refl
   at false e = grind (arith, common_steps, allowed, e)
 
-offer_free : (chain : Chain) (item : Submission) → offer_refusal chain item ≡ None
+pub offer_free : (chain : Chain) (item : Submission) → offer_refusal chain item ≡ None
     → (item.deposit ≤ (row_at chain.book item.who).free) × (is_err (offer_answer chain.queue item) ≡ false)
 offer_free chain item none = at (nat_lt (row_at chain.book item.who).free item.deposit) (is_err (offer_answer chain.queue item)) refl refl none where
   at : (a b : Bool) → nat_lt (row_at chain.book item.who).free item.deposit ≡ a → is_err (offer_answer chain.queue item) ≡ b

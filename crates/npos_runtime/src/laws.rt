@@ -1,17 +1,50 @@
-//! What follows from the step of a block for every list of blocks. The functions do nothing; their contracts are the
-//! laws.
+//! What follows from the step of a block for every list of blocks. The functions do nothing; their
+//! contracts are the laws.
 ghost use Rattle.std.specs.Prelude.{◌≡◌, ◌+◌, ◌≤◌, ◌^◌, false, List, length};
 ghost use Rattle.block_wire.specs.declared.block.Block.{Block as ABlock};
 ghost use Rattle.stake_ledger.specs.Ledger.{IsBalanced};
 ghost use Rattle.npos_runtime.specs.Step.{after_blocks};
+ghost use Rattle.npos_runtime.specs.Laws.{SoundStepLaw, SoundLaw, SeatsLaw, HeldLaw, FateLaw};
 
 use crate::Runtime;
+use election_check::laws::{a_packed_yes_is_a_plain_yes, a_plain_yes_is_passing};
+use quota_fill::laws::every_fill_passes;
+use weight_book::laws::weights_that_pass_are_proportional;
 
-/// After every list of blocks all holdings equal genesis plus minted less burned. There are no more blocks than numbers
-/// of blocks, which are u32.
+/// After every list of blocks all holdings equal genesis plus minted less burned. There are no more
+/// blocks than numbers of blocks, which are u32.
 pub fn books_balance(runtime: &Runtime)
-    ensures { runtime.now.spent ≡ false → (blocks : List ABlock) → runtime.now.state.due + length blocks ≤ 2 ^ 32
+    ensures { runtime.now.spent ≡ false → (blocks : List ABlock)
+        → runtime.now.state.due + length blocks ≤ 2 ^ 32
         → IsBalanced (after_blocks runtime.now.state blocks).book }
 {
     let _ = runtime.totals();
 }
+
+/// Every committee that is seated, from a signed solution or from the fill, has a member for each
+/// seat, follows nominations, spends no voter beyond its stake, and is proportional.
+pub fn every_seated_committee_is_sound()
+    ensures step { SoundStepLaw }
+    ensures blocks { SoundLaw }
+{
+    a_packed_yes_is_a_plain_yes();
+    a_plain_yes_is_passing();
+    every_fill_passes();
+    weights_that_pass_are_proportional();
+}
+
+/// There is no dead end: every round that is not void seats a committee when it is decided.
+pub fn every_open_round_seats_a_committee()
+    ensures { SeatsLaw }
+{}
+
+/// What is held of an account is the deposits of its submissions that wait.
+pub fn deposits_are_held()
+    ensures { HeldLaw }
+{}
+
+/// Each accepted submission has a number of its own, from 1 on without gaps, and its deposit is
+/// settled once: not while it waits, and then it is burned or free again.
+pub fn each_deposit_has_one_fate()
+    ensures { FateLaw }
+{}

@@ -1,0 +1,164 @@
+-- The elections that blocks seat, and what is held after them.
+use Rattle.std.proofs.Common.{◌≡◌, ℕ, zero, suc, ◌+◌, ◌≤◌, ◌^◌, Bool, true, false, ◌==◌, ◌&&◌, not, nat_le, nat_lt, All, List, [], ◌∷◌, ◌++◌, length, Option, Some, None, refl, sym, ◌∙◌, ap, subst, arith, if◌then◌else◌}
+use Rattle.std.specs.Option.{option_or}
+use Rattle.std.proofs.lemmas.Bool.Decides.{nat_tests}
+use Rattle.std.proofs.lemmas.List.{append-nil}
+use Rattle.std.proofs.lemmas.List.Elements.{All-nil, All-cons, All-append}
+use Rattle.block_wire.specs.declared.genesis.Params.{Params}
+use Rattle.block_wire.specs.declared.genesis.Genesis.{Genesis}
+use Rattle.block_wire.specs.declared.call.CallKind.{CallKind}
+use Rattle.block_wire.specs.declared.call.CallKind.TheVariants as kinds
+use Rattle.block_wire.specs.declared.call.Call.{Call}
+use Rattle.block_wire.specs.declared.block.Block.{Block}
+use Rattle.npos_base.specs.declared.account.AccountId.{AccountId}
+use Rattle.election_snapshot.specs.Snapshot.{Snapshot}
+use Rattle.weight_book.specs.Proportional.{AveragingLaw}
+use Rattle.election_check.specs.Laws.{PackedYesIsAccepting, PlainYesIsPassing}
+use Rattle.quota_fill.specs.Laws.{EveryFillPasses}
+use Rattle.npos_runtime.specs.declared.chain.Chain.{Chain}
+use Rattle.npos_runtime.specs.declared.refusal.Refusal.{Refusal}
+use Rattle.npos_runtime.specs.declared.round.Round.{Round}
+use Rattle.npos_runtime.specs.declared.round.Round.TheVariants as rounds
+use Rattle.npos_runtime.specs.Committee.{Committee}
+use Rattle.npos_runtime.specs.Rules.{era_of, is_decision, place_of}
+use Rattle.npos_runtime.specs.Rounds.{begun_round, round_after, round_phase}
+use Rattle.npos_runtime.specs.Genesis.{params_fault, numbers_fault, threshold_fault, limits_fault, phases_fit, is_within, genesis_fault, genesis_chain}
+use Rattle.npos_runtime.specs.Decision.{others, decided_weights, committee_of, decision_of, decision_phase}
+use Rattle.npos_runtime.specs.Outcome.{Election, Outcome, quiet}
+use Rattle.npos_runtime.specs.Calls.{stop_of, done_of}
+use Rattle.npos_runtime.specs.Step.{era_phase, call_after, call_outcome, calls_outcome, step, seated_by}
+use Rattle.npos_runtime.specs.Live.{IsLive, IsSoundRound, AreSound}
+use Rattle.npos_runtime.specs.Laws.{IsSound, SoundStepLaw, SoundLaw, SeatsLaw, HeldLaw}
+use Rattle.npos_runtime.proofs.VerdictLemmas.{decided_passes}
+use Rattle.npos_runtime.proofs.BeginLemmas.{live_begun}
+use Rattle.npos_runtime.proofs.LiveLemmas.{live_era, live_round, live_step, live_blocks, due_step, before_calls}
+
+-- ## Calls seat nobody, and leave who waits
+
+seats_after : (due : Option Refusal) (index : ℕ) (call : Call) (chain : Chain) → (call_after due index call chain).seated ≡ []
+seats_after None index call chain = refl
+seats_after (Some refusal) index call chain = refl
+
+seats_calls : (index : ℕ) (calls : List Call) (chain : Chain) → (calls_outcome index calls chain).seated ≡ []
+seats_calls index [] chain = refl
+seats_calls index (call ∷ calls) chain =
+    ap (λ (es : List Election). es ++ (calls_outcome (index + 1) calls (call_outcome index call chain).state).seated) (seats_after (stop_of chain call.who call.kind) index call chain)
+    ∙ seats_calls (index + 1) calls (call_outcome index call chain).state
+
+waits_done : (chain : Chain) (who : AccountId) (kind : CallKind) → (done_of chain who kind).waiting ≡ chain.waiting
+unfolding done_of
+waits_done chain who (kinds.Transfer to value) = refl
+waits_done chain who (kinds.Bond value) = refl
+waits_done chain who (kinds.BondExtra value) = refl
+waits_done chain who (kinds.Unbond value) = refl
+waits_done chain who (kinds.Rebond value) = refl
+waits_done chain who kinds.Withdraw = refl
+waits_done chain who (kinds.Nominate targets) = refl
+waits_done chain who (kinds.Validate commission) = refl
+waits_done chain who kinds.Chill = refl
+waits_done chain who (kinds.Rebag whom) = refl
+waits_done chain who (kinds.PutInFront lighter) = refl
+waits_done chain who (kinds.Submit round claim bytes) = refl
+waits_done chain who (kinds.Points items) = refl
+waits_done chain who (kinds.Payout era validator) = refl
+waits_done chain who (kinds.Offence era validator fraction) = refl
+
+waits_after : (due : Option Refusal) (index : ℕ) (call : Call) (chain : Chain) → (call_after due index call chain).state.waiting ≡ chain.waiting
+waits_after None index call chain = waits_done chain call.who call.kind
+waits_after (Some refusal) index call chain = refl
+
+waits_calls : (index : ℕ) (calls : List Call) (chain : Chain) → (calls_outcome index calls chain).state.waiting ≡ chain.waiting
+waits_calls index [] chain = refl
+waits_calls index (call ∷ calls) chain =
+    waits_calls (index + 1) calls (call_outcome index call chain).state ∙ waits_after (stop_of chain call.who call.kind) index call chain
+
+-- what the step seats is what its decision seats
+abbrev undecided : Chain → Chain
+undecided chain = (round_phase (era_phase chain).state).state
+
+seats_step : (chain : Chain) (block : Block) → (step chain block).seated ≡ (decision_phase (undecided chain)).seated
+seats_step chain block =
+    append-nil ((decision_phase (undecided chain)).seated ++ (calls_outcome 0 block.calls (before_calls chain)).seated)
+    ∙ (ap (λ (es : List Election). (decision_phase (undecided chain)).seated ++ es) (seats_calls 0 block.calls (before_calls chain))
+    ∙ append-nil (decision_phase (undecided chain)).seated)
+
+-- ## Every committee is sound
+
+module _ (packed : PackedYesIsAccepting) (plain : PlainYesIsPassing) (fill : EveryFillPasses) (averaging : AveragingLaw) where
+  sound_of : (round : Option Round) (chain : Chain) → IsSoundRound round → All IsSound (decision_of round chain).seated
+  sound_of None chain sound = All-nil IsSound
+  sound_of (Some (rounds.Void number)) chain sound = All-nil IsSound
+  sound_of (Some (rounds.Open number snapshot commissions)) chain sound =
+      let passes = decided_passes packed fill plain snapshot chain.queue.items sound in
+      let weights = decided_weights snapshot (others snapshot chain.queue.items) in
+      All-cons IsSound (record { round = number; snapshot = snapshot; weights = weights }) [] (record {
+        well_formed = sound;
+        feasible = passes.feasible;
+        passes = passes;
+        proportional = averaging snapshot weights sound passes;
+      })
+      (All-nil IsSound)
+
+  sound_decision : (chain : Chain) → IsLive chain → All IsSound (decision_phase chain).seated
+  sound_decision chain live = at (is_decision chain.params chain.due) where
+    at : (b : Bool) → All IsSound (if b then decision_of chain.round chain else quiet chain).seated
+    at true = sound_of chain.round chain live.round
+    at false = All-nil IsSound
+
+  pub sound_step : SoundStepLaw
+  sound_step chain block live =
+      subst (All IsSound) (sym (seats_step chain block))
+      (sound_decision (undecided chain) (live_round (era_phase chain).state (live_era chain live)))
+
+  sound_blocks : (chain : Chain) (blocks : List Block) → IsLive chain → chain.due + length blocks ≤ 2 ^ 32 → All IsSound (seated_by chain blocks)
+  sound_blocks chain [] live fit = All-nil IsSound
+  sound_blocks chain (block ∷ more) live fit =
+      All-append IsSound (step chain block).seated (seated_by (step chain block).state more) (sound_step chain block live)
+      (sound_blocks (step chain block).state more (live_step chain block live (omega (arith, fit))) (omega (arith, fit, due_step chain block)))
+
+  pub sound_all : SoundLaw
+  sound_all genesis blocks sound fit = sound_blocks (genesis_chain genesis) blocks (live_begun genesis sound) fit
+
+-- ## A round that is not void seats a committee
+
+first_of_two : {A : Type 0} (a b : Option A) → option_or a b ≡ None → a ≡ None
+first_of_two None b none = refl
+first_of_two (Some x) b none = none
+
+second_passed : {A : Type 0} (a b : Bool) (x y : A) (rest : Option A) → (if a then Some x else if b then Some y else rest) ≡ None → b ≡ false
+second_passed true b x y rest e = absurd (cc)
+second_passed false true x y rest e = absurd (cc)
+second_passed false false x y rest e = refl
+
+signed_some : (params : Params) → params_fault params ≡ None → 1 ≤ params.signed
+signed_some params sound =
+    at (nat_le 1 params.offset) (nat_le 1 params.signed) (nat_lt (params.offset + params.signed) params.era_blocks) refl
+    (second_passed (not (is_within 1 512 params.seats)) (not (phases_fit params)) _ _ _
+    (first_of_two (numbers_fault params) (option_or (threshold_fault 0 0 params.thresholds) (limits_fault params)) sound)) where
+      at : (a b c : Bool) → nat_le 1 params.signed ≡ b → not (a && b && c) ≡ false → 1 ≤ params.signed
+      at true true c e f = grind (arith, nat_tests)
+      at true false c e f = cc
+      at false b c e f = cc
+
+-- no round begins in the block of a decision
+not_begun : (params : Option Params) (number : ℕ) → AreSound params → is_decision params number ≡ true → begun_round params number ≡ None
+not_begun None number sound is = refl
+not_begun (Some params) number sound is = at (place_of params number == params.offset) refl where
+  at : (b : Bool) → (place_of params number == params.offset) ≡ b → (if b then Some (era_of (Some params) number + 1) else None) ≡ None
+  at true e = absurd (let some = signed_some params sound in grind (arith, nat_tests))
+  at false e = refl
+
+pub seats : SeatsLaw
+seats chain block number snapshot commissions live is stands =
+    let last : (undecided chain).round ≡ Some (rounds.Open number snapshot commissions) =
+        ap (round_after (era_phase chain).state) (not_begun chain.params chain.due live.params is) ∙ stands in
+    let decides : decision_phase (undecided chain) ≡ decision_of (Some (rounds.Open number snapshot commissions)) (undecided chain) =
+        (λ i. if is i then decision_of (undecided chain).round (undecided chain) else quiet (undecided chain))
+        ∙ ap (λ round. decision_of round (undecided chain)) last in
+    (
+      waits_calls 0 block.calls (before_calls chain) ∙ ap (λ (o : Outcome). o.state.waiting) decides,
+      seats_step chain block ∙ ap (λ (o : Outcome). o.seated) decides,
+    )
+
+pub held_after : HeldLaw
+held_after genesis blocks who sound fit = (live_blocks (genesis_chain genesis) blocks (live_begun genesis sound) fit).deposits.held who
