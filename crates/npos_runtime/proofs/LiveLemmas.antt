@@ -13,12 +13,12 @@ use Rattle.block_wire.specs.declared.call.CallKind.TheVariants as kinds
 use Rattle.stake_ledger.specs.declared.chunks.Chunk.{Chunk}
 use Rattle.stake_ledger.specs.declared.row.Row.{Row}
 use Rattle.stake_ledger.specs.Chunks.{chunk_sum, with_chunk, without_latest, lessened, is_empty}
-use Rattle.stake_ledger.specs.Rows.{empty_row, bonded, unbonded, rebonded, withdrawn, gained, paid}
+use Rattle.stake_ledger.specs.Rows.{empty_row, activated, unbonded, rebonded, withdrawn, gained, paid}
 use Rattle.stake_ledger.specs.Ledger.{Ledger, row_at, changed, IsBalanced}
-use Rattle.stake_ledger.specs.Calls.{transfer_refusal, transferred, bond_refusal, bond_extra_refusal, unbond_refusal, unbond_amount, rebond_amount}
-use Rattle.stake_ledger.proofs.LedgerLemmas.{row_of-changed, others_stay, schedule_at}
-use Rattle.stake_ledger.proofs.RowLemmas.{bond_funds, bond_extra_funds}
-use Rattle.stake_ledger.proofs.KeepLemmas.{balanced-changed, balanced_bonded, balanced_transferred, keeps_unbonded, keeps_rebonded, keeps_withdrawn}
+use Rattle.stake_ledger.specs.Calls.{transfer_refusal, transferred, bond_refusal, bond_extra_refusal, unbond_refusal, unbond_amount, rebond_refusal, rebond_amount, withdraw_refusal}
+use Rattle.stake_ledger.specs.declared.call.RowCall.TheVariants as row_calls
+use Rattle.stake_ledger.proofs.LedgerLemmas.{row_of-changed, others_stay}
+use Rattle.stake_ledger.proofs.KeepLemmas.{balanced_called, balanced_transferred}
 use Rattle.npos_runtime.specs.declared.chain.Chain.{Chain}
 use Rattle.npos_runtime.specs.declared.refusal.Refusal.TheVariants.{Ledger as ByLedger, List as ByList}
 use Rattle.npos_base.specs.Account.{same_account}
@@ -259,37 +259,34 @@ live_done chain who (kinds.Transfer to value) live free =
     (held_changed who (paid value) chain.book chain.queue.items (λ row. refl) live.deposits))
 live_done chain who (kinds.Bond value) live free =
     let allowed = none_inside ByLedger (bond_refusal (row_at chain.book who) value (least_bond_of chain.params)) free in
-    with_book chain (changed who (bonded value) chain.book) live
-    (balanced_bonded who value chain.book live.balanced (bond_funds (row_at chain.book who) value (least_bond_of chain.params) allowed))
-    (chunks_changed (All (λ chunk. chunk.release ≤ release_now chain)) who (bonded value) chain.book live.releases (live.releases who))
-    (held_changed who (bonded value) chain.book chain.queue.items (λ row. refl) live.deposits)
+    with_book chain (changed who (activated value) chain.book) live
+    (balanced_called who (row_calls.Bond value (least_bond_of chain.params)) chain.book live.balanced tt allowed)
+    (chunks_changed (All (λ chunk. chunk.release ≤ release_now chain)) who (activated value) chain.book live.releases (live.releases who))
+    (held_changed who (activated value) chain.book chain.queue.items (λ row. refl) live.deposits)
 live_done chain who (kinds.BondExtra value) live free =
     let allowed = none_inside ByLedger (bond_extra_refusal (row_at chain.book who) value) free in
-    with_followed chain who (changed who (bonded value) chain.book) live
-    (balanced_bonded who value chain.book live.balanced (bond_extra_funds (row_at chain.book who) value allowed))
-    (chunks_changed (All (λ chunk. chunk.release ≤ release_now chain)) who (bonded value) chain.book live.releases (live.releases who))
-    (held_changed who (bonded value) chain.book chain.queue.items (λ row. refl) live.deposits)
+    with_followed chain who (changed who (activated value) chain.book) live
+    (balanced_called who (row_calls.BondExtra value) chain.book live.balanced tt allowed)
+    (chunks_changed (All (λ chunk. chunk.release ≤ release_now chain)) who (activated value) chain.book live.releases (live.releases who))
+    (held_changed who (activated value) chain.book chain.queue.items (λ row. refl) live.deposits)
 live_done chain who (kinds.Unbond value) live free =
     let amount : ℕ = unbond_amount (row_at chain.book who) value in
     let allowed = none_inside ByLedger (unbond_refusal (row_at chain.book who) value (release_now chain) (least_active chain who)) free in
     with_followed chain who (changed who (unbonded amount (release_now chain)) chain.book) live
-    (balanced-changed who (unbonded amount (release_now chain)) chain.book live.balanced
-    (keeps_unbonded (row_at chain.book who) value (release_now chain) (least_active chain who) (schedule_at who chain.book live.balanced.schedules) (live.releases who) allowed))
+    (balanced_called who (row_calls.Unbond value (release_now chain) (least_active chain who)) chain.book live.balanced (live.releases who) allowed)
     (chunks_changed (All (λ chunk. chunk.release ≤ release_now chain)) who (unbonded amount (release_now chain)) chain.book live.releases
     (with_by (release_now chain) amount (row_at chain.book who).chunks (live.releases who)))
     (held_changed who (unbonded amount (release_now chain)) chain.book chain.queue.items (λ row. refl) live.deposits)
 live_done chain who (kinds.Rebond value) live free =
     let amount : ℕ = rebond_amount (row_at chain.book who) value in
     with_followed chain who (changed who (rebonded amount) chain.book) live
-    (balanced-changed who (rebonded amount) chain.book live.balanced
-    (keeps_rebonded (row_at chain.book who) value (schedule_at who chain.book live.balanced.schedules)))
+    (balanced_called who (row_calls.Rebond value) chain.book live.balanced tt (none_inside ByLedger (rebond_refusal (row_at chain.book who) value) free))
     (chunks_changed (All (λ chunk. chunk.release ≤ release_now chain)) who (rebonded amount) chain.book live.releases
     (without_by (release_now chain) amount (row_at chain.book who).chunks (live.releases who)))
     (held_changed who (rebonded amount) chain.book chain.queue.items (λ row. refl) live.deposits)
 live_done chain who kinds.Withdraw live free =
     retired_live (record chain { book = changed who (withdrawn (era_now chain)) chain.book }) who (with_book chain (changed who (withdrawn (era_now chain)) chain.book) live
-    (balanced-changed who (withdrawn (era_now chain)) chain.book live.balanced
-    (keeps_withdrawn (row_at chain.book who) (era_now chain) (schedule_at who chain.book live.balanced.schedules)))
+    (balanced_called who (row_calls.Withdraw (era_now chain)) chain.book live.balanced tt (none_inside ByLedger (withdraw_refusal (row_at chain.book who)) free))
     (chunks_changed (All (λ chunk. chunk.release ≤ release_now chain)) who (withdrawn (era_now chain)) chain.book live.releases
     (All-filter (λ chunk. nat_lt (era_now chain) chunk.release) (λ chunk. chunk.release ≤ release_now chain) (row_at chain.book who).chunks (live.releases who)))
     (held_changed who (withdrawn (era_now chain)) chain.book chain.queue.items (λ row. refl) live.deposits))

@@ -6,7 +6,7 @@ use Rattle.block_wire.specs.declared.call.CallKind.{CallKind}
 use Rattle.block_wire.specs.declared.call.CallKind.TheVariants as kinds
 use Rattle.stake_ledger.specs.declared.refusal.LedgerRefusal.{LedgerRefusal}
 use Rattle.stake_ledger.specs.declared.refusal.LedgerRefusal.TheVariants.{NotBonded, BelowMinimum}
-use Rattle.stake_ledger.specs.Rows.{is_bonded, bonded, unbonded, rebonded, withdrawn}
+use Rattle.stake_ledger.specs.Rows.{is_bonded, activated, unbonded, rebonded, withdrawn}
 use Rattle.stake_ledger.specs.Ledger.{row_at, changed}
 use Rattle.stake_ledger.specs.Calls.{transfer_refusal, transferred, bond_refusal, bond_extra_refusal, unbond_refusal, unbond_amount, rebond_refusal, rebond_amount, withdraw_refusal}
 use Rattle.voter_lists.specs.Roles.{role_of, nominate_refusal, nominated, validate_refusal, validating, chill_refusal, without_role}
@@ -38,13 +38,13 @@ abbrev pub bond_stop : Chain → AccountId → ℕ → Option Refusal
 bond_stop chain who value = option_map ByLedger (bond_refusal (row_at chain.book who) value (least_bond_of chain.params))
 
 abbrev pub bond_done : Chain → AccountId → ℕ → Chain
-bond_done chain who value = record chain { book = changed who (bonded value) chain.book }
+bond_done chain who value = record chain { book = changed who (activated value) chain.book }
 
 abbrev pub bond_extra_stop : Chain → AccountId → ℕ → Option Refusal
 bond_extra_stop chain who value = option_map ByLedger (bond_extra_refusal (row_at chain.book who) value)
 
 abbrev pub bond_extra_done : Chain → AccountId → ℕ → Chain
-bond_extra_done chain who value = with_stake chain who (changed who (bonded value) chain.book)
+bond_extra_done chain who value = with_stake chain who (changed who (activated value) chain.book)
 
 -- what has to stay active: the least bond, for an account with a role
 abbrev pub least_active : Chain → AccountId → ℕ

@@ -1,7 +1,6 @@
 pub mod ChunkLemmas
 pub mod PlaceLemmas
 pub mod LedgerLemmas
-pub mod RowLemmas
 pub mod ScheduleLemmas
 pub mod CallLemmas
 pub mod KeepLemmas

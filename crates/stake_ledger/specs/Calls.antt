@@ -10,11 +10,13 @@ use Rattle.stake_ledger.specs.Rows.{is_bonded, gained, paid, deposited, returned
 use Rattle.stake_ledger.specs.Ledger.{Ledger, row_at, changed, issuance_cap}
 
 abbrev pub endow_refusal : Ledger → ℕ → Option LedgerRefusal
-endow_refusal ledger value = if nat_lt issuance_cap (ledger.genesis + value) then Some IssuanceCap else None
+endow_refusal ledger value =
+    if nat_lt issuance_cap (ledger.genesis + value) then Some IssuanceCap else None
 
 -- an endowment opens the account's row, and counts as genesis
 abbrev pub endowed : AccountId → ℕ → Ledger → Ledger
-endowed who value ledger = record (changed who (gained value) ledger) { genesis = ledger.genesis + value }
+endowed who value ledger =
+    record (changed who (gained value) ledger) { genesis = ledger.genesis + value }
 
 abbrev pub transfer_refusal : Ledger → AccountId → AccountId → ℕ → Option LedgerRefusal
 transfer_refusal ledger from to value =
@@ -80,7 +82,8 @@ deposit_held who value ledger = changed who (deposited value) ledger
 
 -- a deposit of 0 leaves the books as they are when it is returned or burned
 abbrev pub deposit_returned : AccountId → ℕ → Ledger → Ledger
-deposit_returned who value ledger = if value == 0 then ledger else changed who (returned value) ledger
+deposit_returned who value ledger =
+    if value == 0 then ledger else changed who (returned value) ledger
 
 abbrev pub deposit_burned : AccountId → ℕ → Ledger → Ledger
 deposit_burned who value ledger =
@@ -95,7 +98,8 @@ abbrev pub mint_refusal : Ledger → ℕ → Option LedgerRefusal
 mint_refusal ledger value = if nat_lt (room_of ledger) value then Some IssuanceCap else None
 
 abbrev pub minted_free : AccountId → ℕ → Ledger → Ledger
-minted_free who value ledger = record (changed who (gained value) ledger) { minted = ledger.minted + value }
+minted_free who value ledger =
+    record (changed who (gained value) ledger) { minted = ledger.minted + value }
 
 -- what a slash takes
 abbrev pub slash_amount : Row → ℕ → ℕ
@@ -109,7 +113,7 @@ slashed who amount ledger =
       burned = ledger.burned + slash_amount (row_at ledger who) amount;
     }
 
--- why a change of one row of those above would not be made
+-- why a deposit that is not 0, and a slash of what is bonded, would not be made
 abbrev pub deposit_refusal : Row → ℕ → Option LedgerRefusal
 deposit_refusal row value = if value == 0 then Some ZeroValue else hold_refusal row value
 

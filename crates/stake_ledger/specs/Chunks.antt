@@ -41,7 +41,9 @@ lessened amount chunk =
 abbrev pub without_latest : ℕ → List Chunk → List Chunk
 without_latest amount [] = []
 without_latest amount (chunk ∷ later) =
-    if nat_lt amount (chunk_sum later) then chunk ∷ without_latest amount later else lessened (amount - chunk_sum later) chunk
+    if nat_lt amount (chunk_sum later)
+    then chunk ∷ without_latest amount later
+    else lessened (amount - chunk_sum later) chunk
 
 -- the amount is taken from the first chunk first; emptied chunks go
 abbrev pub without_first : ℕ → List Chunk → List Chunk

@@ -5,4 +5,5 @@ use Rattle.stake_ledger.specs.declared.chunks.Chunk.{Chunk}
 
 -- whether the last chunk has this release
 abbrev pub joins_last : ℕ → List Chunk → Bool
-joins_last release chunks = option_map_or (λ chunk. chunk.release == release) (slice_get chunks (length chunks - 1)) false
+joins_last release chunks =
+    option_map_or (λ chunk. chunk.release == release) (slice_get chunks (length chunks - 1)) false

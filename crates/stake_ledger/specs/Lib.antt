@@ -1,4 +1,3 @@
-pub mod Refusals
 pub mod Chunks
 pub mod Joining
 pub mod Rows

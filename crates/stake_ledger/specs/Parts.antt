@@ -6,7 +6,12 @@ use Rattle.stake_ledger.specs.declared.totals.Totals.{Totals}
 use Rattle.stake_ledger.specs.Chunks.{chunk_sum}
 
 abbrev pub parts_of : Row → Parts
-parts_of row = record { free = row.free; active = row.active; unlocking = chunk_sum row.chunks; held = row.held }
+parts_of row = record {
+  free = row.free;
+  active = row.active;
+  unlocking = chunk_sum row.chunks;
+  held = row.held;
+}
 
 -- the sums are no less than what one account has
 pub record Covers (totals : Totals) (parts : Parts) : Type 0 where

@@ -15,17 +15,22 @@ place_in places who = lookup (is_at (account_cmp who)) places
 -- an account's place is where it stands among the accounts
 pub record Stand (accounts : List AccountId) (places : List (AccountId × ℕ)) : Type 0 where
   pub count : length places ≡ length accounts
-  pub standing : (who : AccountId) (place : ℕ) → place_in places who ≡ Some place → slice_get accounts place ≡ Some who
-  pub placed : (who : AccountId) (place : ℕ) → slice_get accounts place ≡ Some who → place_in places who ≡ Some place
+  pub standing : (who : AccountId) (place : ℕ) → place_in places who ≡ Some place
+      → slice_get accounts place ≡ Some who
+  pub placed : (who : AccountId) (place : ℕ) → slice_get accounts place ≡ Some who
+      → place_in places who ≡ Some place
 
 -- the rows by account, of rows that stand at the accounts' places
 abbrev pub rows_placed : List Row → List (AccountId × ℕ) → List (AccountId × Row)
 rows_placed rows [] = []
-rows_placed rows (entry ∷ entries) = (entry.0, get_or rows entry.1 empty_row) ∷ rows_placed rows entries
+rows_placed rows (entry ∷ entries) =
+    (entry.0, get_or rows entry.1 empty_row) ∷ rows_placed rows entries
 
 -- each account has a place of its own among the rows, and each row an account
 pub record ArePlaced (rows : List Row) (places : List (AccountId × ℕ)) : Type 0 where
   pub count : length places ≡ length rows
   pub ordered : IsStrictlySortedBy account_cmp (keys_of places)
-  pub within : (who : AccountId) (place : ℕ) → place_in places who ≡ Some place → place < length rows
-  pub apart : (who other : AccountId) (place : ℕ) → place_in places who ≡ Some place → place_in places other ≡ Some place → other ≡ who
+  pub within : (who : AccountId) (place : ℕ) → place_in places who ≡ Some place
+      → place < length rows
+  pub apart : (who other : AccountId) (place : ℕ) → place_in places who ≡ Some place
+      → place_in places other ≡ Some place → other ≡ who

@@ -21,19 +21,21 @@ gained value row = record row { free = row.free + value }
 abbrev pub paid : ℕ → Row → Row
 paid value row = record row { free = row.free - value }
 
-abbrev pub bonded : ℕ → Row → Row
-bonded value row = record row { free = row.free - value; active = row.active + value }
+abbrev pub activated : ℕ → Row → Row
+activated value row = record row { free = row.free - value; active = row.active + value }
 
 abbrev pub unbonded : ℕ → ℕ → Row → Row
 unbonded amount release row =
     record row { active = row.active - amount; chunks = with_chunk amount release row.chunks }
 
 abbrev pub rebonded : ℕ → Row → Row
-rebonded amount row = record row { active = row.active + amount; chunks = without_latest amount row.chunks }
+rebonded amount row =
+    record row { active = row.active + amount; chunks = without_latest amount row.chunks }
 
 abbrev pub withdrawn : ℕ → Row → Row
 withdrawn era row =
-    record row { free = row.free + chunk_sum (released era row.chunks); chunks = unreleased era row.chunks }
+    let freed = chunk_sum (released era row.chunks) in
+    record row { free = row.free + freed; chunks = unreleased era row.chunks }
 
 -- a deposit moves from free to held, and back, or goes for good
 abbrev pub deposited : ℕ → Row → Row
@@ -48,4 +50,5 @@ forfeited value row = record row { held = row.held - value }
 -- a slash takes what is active first, then from the chunks in order
 abbrev pub slashed_row : ℕ → Row → Row
 slashed_row amount row =
-    record row { active = row.active - amount; chunks = without_first (amount - row.active) row.chunks }
+    let left = amount - row.active in
+    record row { active = row.active - amount; chunks = without_first left row.chunks }

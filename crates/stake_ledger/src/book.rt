@@ -3,10 +3,10 @@ ghost use Rattle.std.specs.Prelude.{◌≡◌, ◌≢◌, ◌-◌, ◌+◌, ◌�
 ghost use Rattle.npos_base.specs.Refusal.{IsDue};
 ghost use Rattle.stake_ledger.specs.declared.refusal.LedgerRefusal.TheVariants as refusals;
 ghost use Rattle.stake_ledger.specs.Chunks.{IsSchedule};
-ghost use Rattle.stake_ledger.specs.Rows.{is_bonded, bonded, unbonded, rebonded, withdrawn};
+ghost use Rattle.stake_ledger.specs.Rows.{is_bonded, activated, unbonded, rebonded, withdrawn};
 ghost use Rattle.stake_ledger.specs.Ledger.{empty_ledger, row_of, row_at, changed, totals_of, issuance_cap, IsBalanced, OthersStay};
 ghost use Rattle.stake_ledger.specs.Calls.{endow_refusal, endowed, transfer_refusal, transferred, bond_refusal, bond_extra_refusal, unbond_refusal, unbond_amount, rebond_refusal, rebond_amount, withdraw_refusal, withdraw_amount, hold_refusal, deposit_held, deposit_returned, deposit_burned, room_of, mint_refusal, minted_free, slash_amount, slashed};
-ghost use Rattle.stake_ledger.specs.RowCalls.{row_refusal, row_amount, called};
+ghost use Rattle.stake_ledger.specs.RowCalls.{IsTimely, MayAnswer, row_refusal, row_amount, called};
 
 use crate::call::RowCall;
 use crate::chunks::Chunk;
@@ -35,9 +35,21 @@ impl Model for Book {
 
     ghost Value = { Ledger };
 
-    ghost view = { λ b. record { rows = b.rows; genesis = b.genesis; minted = b.totals.minted; burned = b.totals.burned } };
+    ghost view = { λ b. record {
+      rows = b.rows;
+      genesis = b.genesis;
+      minted = b.totals.minted;
+      burned = b.totals.burned;
+    } };
 
-    ghost invariant = { λ b. IsKept (record { rows = b.rows; genesis = b.genesis; minted = b.totals.minted; burned = b.totals.burned }) b.totals };
+    ghost invariant = { λ b. IsKept
+        (record {
+          rows = b.rows;
+          genesis = b.genesis;
+          minted = b.totals.minted;
+          burned =
+              b.totals.burned;
+        }) b.totals };
 }
 
 impl Book {
@@ -60,13 +72,14 @@ impl Book {
         }
     }
 
-    /// Opens the row of an account that is not known yet, with the value free. It counts as genesis.
-    /// It refuses with `IssuanceCap` where genesis would pass 2^63 - 1.
-    #[tactic(auto, using(crate::proofs::LedgerLemmas::others_stay, crate::proofs::KeepLemmas::worth_within, crate::proofs::KeepLemmas::totals_within, crate::proofs::KeepLemmas::free_within, crate::proofs::KeepLemmas::active_within, crate::proofs::KeepLemmas::unlocking_within))]
+    /// Opens the row of an account that is not known yet, with the value free. It counts as
+    /// genesis. It refuses with `IssuanceCap` where genesis would pass 2^63 - 1.
+    #[tactic(auto, using(crate::proofs::KeepLemmas::totals_within))]
     pub fn endow(&mut self, who: AccountId, value: u64) -> Result<(), LedgerRefusal>
         requires unknown { row_of self.old who ≡ None }
         requires unminted { self.old.minted ≡ 0 }
-        ensures ok { OnOk result ((endow_refusal self.old value ≡ None) × (self.new ≡ endowed who value self.old)) }
+        ensures ok { OnOk result ((endow_refusal self.old value ≡ None)
+            × (self.new ≡ endowed who value self.old)) }
         ensures err { OnErr result (self.new ≡ self.old) }
         ensures refused { IfErr result (IsDue refusals.NoMemory (endow_refusal self.old value)) }
         ensures others { OthersStay who self.old self.new }
@@ -81,19 +94,22 @@ impl Book {
         Ok(())
     }
 
-    /// Moves the value from one account's free stake to another's, whose row is opened where it has none.
-    /// It refuses with `ZeroValue`, `SameAccount` or `LowFunds`.
-    #[tactic(auto, using(crate::proofs::LedgerLemmas::others_stay, crate::proofs::KeepLemmas::worth_within, crate::proofs::KeepLemmas::totals_within, crate::proofs::KeepLemmas::free_within, crate::proofs::KeepLemmas::active_within, crate::proofs::KeepLemmas::unlocking_within))]
+    /// Moves the value from one account's free stake to another's, whose row is opened where it has
+    /// none. It refuses with `ZeroValue`, `SameAccount` or `LowFunds`.
+    #[tactic(auto, using(crate::proofs::LedgerLemmas::different))]
     pub fn transfer(
         &mut self,
         from: AccountId,
         to: AccountId,
         value: u64,
     ) -> Result<(), LedgerRefusal>
-        ensures ok { OnOk result ((transfer_refusal self.old from to value ≡ None) × (self.new ≡ transferred from to value self.old)) }
+        ensures ok { OnOk result ((transfer_refusal self.old from to value ≡ None)
+            × (self.new ≡ transferred from to value self.old)) }
         ensures err { OnErr result (self.new ≡ self.old) }
-        ensures refused { IfErr result (IsDue refusals.NoMemory (transfer_refusal self.old from to value)) }
-        ensures others { (other : AccountId) → other ≢ from → other ≢ to → row_of self.new other ≡ row_of self.old other }
+        ensures refused { IfErr result
+            (IsDue refusals.NoMemory (transfer_refusal self.old from to value)) }
+        ensures others { (other : AccountId) → other ≢ from → other ≢ to
+            → row_of self.new other ≡ row_of self.old other }
     {
         if value == 0 {
             return Err(LedgerRefusal::ZeroValue);
@@ -106,40 +122,38 @@ impl Book {
     }
 
     /// Moves the value from free to active, for an account that is not bonded. It takes no memory.
-    /// It refuses with `ZeroValue`, `AlreadyBonded`, `BelowMinimum` (below `minimum`) or `LowFunds`.
-    #[tactic(auto, using(crate::proofs::LedgerLemmas::others_stay, crate::proofs::KeepLemmas::worth_within, crate::proofs::KeepLemmas::totals_within, crate::proofs::KeepLemmas::free_within, crate::proofs::KeepLemmas::active_within, crate::proofs::KeepLemmas::unlocking_within, crate::proofs::RowLemmas::bond_funds))]
+    /// It refuses with `ZeroValue`, `AlreadyBonded`, `BelowMinimum` (below `minimum`) or
+    /// `LowFunds`.
     pub fn bond(&mut self, who: AccountId, value: u64, minimum: u64) -> Result<(), LedgerRefusal>
-        ensures ok { OnOk result ((bond_refusal (row_at self.old who) value minimum ≡ None) × (self.new ≡ changed who (bonded value) self.old)) }
+        ensures ok { OnOk result ((bond_refusal (row_at self.old who) value minimum ≡ None)
+            × (self.new ≡ changed who (activated value) self.old)) }
         ensures err { OnErr result (self.new ≡ self.old) }
-        ensures refused { IfErr result (λ refusal. bond_refusal (row_at self.old who) value minimum ≡ Some refusal) }
+        ensures refused { IfErr result
+            (λ refusal. bond_refusal (row_at self.old who) value minimum ≡ Some refusal) }
         ensures others { OthersStay who self.old self.new }
     {
-        self.rows.bond(who, value, minimum)?;
-        self.totals.free -= value;
-        self.totals.active += value;
+        self.call(who, RowCall::Bond { value, minimum })?;
         Ok(())
     }
 
     /// Moves the value from free to active, for an account that is bonded. It takes no memory.
     /// It refuses with `ZeroValue`, `NotBonded` or `LowFunds`.
-    #[tactic(auto, using(crate::proofs::LedgerLemmas::others_stay, crate::proofs::KeepLemmas::worth_within, crate::proofs::KeepLemmas::totals_within, crate::proofs::KeepLemmas::free_within, crate::proofs::KeepLemmas::active_within, crate::proofs::KeepLemmas::unlocking_within, crate::proofs::RowLemmas::bond_extra_funds))]
     pub fn bond_extra(&mut self, who: AccountId, value: u64) -> Result<(), LedgerRefusal>
-        ensures ok { OnOk result ((bond_extra_refusal (row_at self.old who) value ≡ None) × (self.new ≡ changed who (bonded value) self.old)) }
+        ensures ok { OnOk result ((bond_extra_refusal (row_at self.old who) value ≡ None)
+            × (self.new ≡ changed who (activated value) self.old)) }
         ensures err { OnErr result (self.new ≡ self.old) }
-        ensures refused { IfErr result (λ refusal. bond_extra_refusal (row_at self.old who) value ≡ Some refusal) }
+        ensures refused { IfErr result
+            (λ refusal. bond_extra_refusal (row_at self.old who) value ≡ Some refusal) }
         ensures others { OthersStay who self.old self.new }
     {
-        self.rows.bond_extra(who, value)?;
-        self.totals.free -= value;
-        self.totals.active += value;
+        self.call(who, RowCall::BondExtra { value })?;
         Ok(())
     }
 
-    /// Moves up to the value from active to a chunk that is released in the era `release`, and answers how much.
-    /// It joins the last chunk where that has the same release. It refuses with `ZeroValue`, `NotBonded`,
-    /// `LowFunds` (nothing is active), `BelowMinimum` (less than `least` would stay active) or `NoMoreChunks`
-    /// (32 stand and none has this release).
-    #[tactic(auto, using(crate::proofs::LedgerLemmas::others_stay, crate::proofs::KeepLemmas::worth_within, crate::proofs::KeepLemmas::totals_within, crate::proofs::KeepLemmas::free_within, crate::proofs::KeepLemmas::active_within, crate::proofs::KeepLemmas::unlocking_within))]
+    /// Moves up to the value from active to a chunk that is released in the era `release`, and
+    /// answers how much. It joins the last chunk where that has the same release. It refuses with
+    /// `ZeroValue`, `NotBonded`, `LowFunds` (nothing is active), `BelowMinimum` (less than `least`
+    /// would stay active) or `NoMoreChunks` (32 stand and none has this release).
     pub fn unbond(
         &mut self,
         who: AccountId,
@@ -148,59 +162,66 @@ impl Book {
         least: u64,
     ) -> Result<u64, LedgerRefusal>
         requires { All (λ chunk. chunk.release ≤ release) (row_at self.old who).chunks }
-        ensures ok { OnOk result ((unbond_refusal (row_at self.old who) value release least ≡ None)
-            × (self.new ≡ changed who (unbonded (unbond_amount (row_at self.old who) value) release) self.old)) }
-        ensures amount { IfOk result (λ amount. amount ≡ unbond_amount (row_at self.old who) value) }
+        ensures ok { let row = row_at self.old who in
+            OnOk result ((unbond_refusal row value release least ≡ None)
+            × (self.new ≡ changed who (unbonded (unbond_amount row value) release) self.old)) }
+        ensures amount { IfOk result
+            (λ amount. amount ≡ unbond_amount (row_at self.old who) value) }
         ensures err { OnErr result (self.new ≡ self.old) }
-        ensures refused { IfErr result (IsDue refusals.NoMemory (unbond_refusal (row_at self.old who) value release least)) }
+        ensures refused { IfErr result
+            (IsDue refusals.NoMemory (unbond_refusal (row_at self.old who) value release least)) }
         ensures others { OthersStay who self.old self.new }
     {
-        let amount = self.rows.unbond(who, value, release, least)?;
-        self.totals.active -= amount;
-        self.totals.unlocking += amount;
-        Ok(amount)
+        self.call(
+            who,
+            RowCall::Unbond {
+                value,
+                release,
+                least,
+            },
+        )
     }
 
-    /// Moves up to the value from the chunks, the latest first, back to active, and answers how much. Emptied
-    /// chunks go. It takes no memory, and refuses with `ZeroValue`, `NotBonded` or `NoChunk`.
-    #[tactic(auto, using(crate::proofs::LedgerLemmas::others_stay, crate::proofs::KeepLemmas::worth_within, crate::proofs::KeepLemmas::totals_within, crate::proofs::KeepLemmas::free_within, crate::proofs::KeepLemmas::active_within, crate::proofs::KeepLemmas::unlocking_within))]
+    /// Moves up to the value from the chunks, the latest first, back to active, and answers how
+    /// much. Emptied chunks go. It takes no memory, and refuses with `ZeroValue`, `NotBonded` or
+    /// `NoChunk`.
     pub fn rebond(&mut self, who: AccountId, value: u64) -> Result<u64, LedgerRefusal>
-        ensures ok { OnOk result ((rebond_refusal (row_at self.old who) value ≡ None)
-            × (self.new ≡ changed who (rebonded (rebond_amount (row_at self.old who) value)) self.old)) }
-        ensures amount { IfOk result (λ amount. amount ≡ rebond_amount (row_at self.old who) value) }
+        ensures ok { let row = row_at self.old who in
+            OnOk result ((rebond_refusal row value ≡ None)
+            × (self.new ≡ changed who (rebonded (rebond_amount row value)) self.old)) }
+        ensures amount { IfOk result
+            (λ amount. amount ≡ rebond_amount (row_at self.old who) value) }
         ensures err { OnErr result (self.new ≡ self.old) }
-        ensures refused { IfErr result (λ refusal. rebond_refusal (row_at self.old who) value ≡ Some refusal) }
+        ensures refused { IfErr result
+            (λ refusal. rebond_refusal (row_at self.old who) value ≡ Some refusal) }
         ensures others { OthersStay who self.old self.new }
     {
-        let amount = self.rows.rebond(who, value)?;
-        self.totals.unlocking -= amount;
-        self.totals.active += amount;
-        Ok(amount)
+        self.call(who, RowCall::Rebond { value })
     }
 
-    /// Frees the chunks that are released by this era, and answers how much. It takes no memory, and refuses
-    /// with `NotBonded`.
-    #[tactic(auto, using(crate::proofs::LedgerLemmas::others_stay, crate::proofs::KeepLemmas::worth_within, crate::proofs::KeepLemmas::totals_within, crate::proofs::KeepLemmas::free_within, crate::proofs::KeepLemmas::active_within, crate::proofs::KeepLemmas::unlocking_within, crate::proofs::ChunkLemmas::released_sum))]
+    /// Frees the chunks that are released by this era, and answers how much. It takes no memory,
+    /// and refuses with `NotBonded`.
     pub fn withdraw(&mut self, who: AccountId, era: u32) -> Result<u64, LedgerRefusal>
-        ensures ok { OnOk result ((withdraw_refusal (row_at self.old who) ≡ None) × (self.new ≡ changed who (withdrawn era) self.old)) }
-        ensures amount { IfOk result (λ amount. amount ≡ withdraw_amount (row_at self.old who) era) }
+        ensures ok { OnOk result ((withdraw_refusal (row_at self.old who) ≡ None)
+            × (self.new ≡ changed who (withdrawn era) self.old)) }
+        ensures amount { IfOk result
+            (λ amount. amount ≡ withdraw_amount (row_at self.old who) era) }
         ensures err { OnErr result (self.new ≡ self.old) }
-        ensures refused { IfErr result (λ refusal. withdraw_refusal (row_at self.old who) ≡ Some refusal) }
+        ensures refused { IfErr result
+            (λ refusal. withdraw_refusal (row_at self.old who) ≡ Some refusal) }
         ensures others { OthersStay who self.old self.new }
     {
-        let freed = self.rows.withdraw(who, era)?;
-        self.totals.unlocking -= freed;
-        self.totals.free += freed;
-        Ok(freed)
+        self.call(who, RowCall::Withdraw { era })
     }
 
-    /// Holds the value as a deposit: it moves from free to held. The account gets a row where it has none, also for a
-    /// deposit of 0. It refuses with `LowFunds`.
+    /// Holds the value as a deposit: it moves from free to held. The account gets a row where it
+    /// has none, also for a deposit of 0. It refuses with `LowFunds`.
     pub fn hold_deposit(&mut self, who: AccountId, value: u64) -> Result<(), LedgerRefusal>
         ensures ok { OnOk result ((hold_refusal (row_at self.old who) value ≡ None)
             × (self.new ≡ deposit_held who value self.old)) }
         ensures err { OnErr result (self.new ≡ self.old) }
-        ensures refused { IfErr result (IsDue refusals.NoMemory (hold_refusal (row_at self.old who) value)) }
+        ensures refused { IfErr result
+            (IsDue refusals.NoMemory (hold_refusal (row_at self.old who) value)) }
         ensures others { OthersStay who self.old self.new }
     {
         if value == 0 {
@@ -220,7 +241,9 @@ impl Book {
         if value == 0 {
             return;
         }
-        self.call_unrefused(who, RowCall::Return { value });
+        let Ok(_) = self.call(who, RowCall::Return { value }) else {
+            unreachable!()
+        };
     }
 
     /// Burns the value of what the account has held. It takes no memory.
@@ -232,11 +255,13 @@ impl Book {
         if value == 0 {
             return;
         }
-        self.call_unrefused(who, RowCall::Burn { value });
+        let Ok(_) = self.call(who, RowCall::Burn { value }) else {
+            unreachable!()
+        };
     }
 
-    /// Makes the value, which is free for an account that is known. It takes no memory, and refuses with `IssuanceCap`
-    /// where the value is above the room.
+    /// Makes the value, which is free for an account that is known. It takes no memory, and refuses
+    /// with `IssuanceCap` where the value is above the room.
     pub fn mint_free(&mut self, who: AccountId, value: u64) -> Result<(), LedgerRefusal>
         requires known { is_some (row_of self.old who) ≡ true }
         ensures ok { OnOk result ((mint_refusal self.old value ≡ None)
@@ -255,8 +280,8 @@ impl Book {
         Ok(())
     }
 
-    /// Burns up to the amount of what the account has bonded, active stake first, then the chunks in order, and answers
-    /// how much. Emptied chunks go. It takes no memory.
+    /// Burns up to the amount of what the account has bonded, active stake first, then the chunks
+    /// in order, and answers how much. Emptied chunks go. It takes no memory.
     pub fn slash(&mut self, who: AccountId, amount: u64) -> u64
         ensures amount { result ≡ slash_amount (row_at self.old who) amount }
         ensures after { self.new ≡ slashed who amount self.old }
@@ -265,16 +290,22 @@ impl Book {
         if !self.bonded(who) {
             return 0;
         }
-        self.call_unrefused(who, RowCall::Slash { amount })
+        match self.call(who, RowCall::Slash { amount }) {
+            Ok(burned) => burned,
+            Err(_) => unreachable!(),
+        }
     }
 
-    /// Does the call on the account's row, and answers the amount that moved.
+    /// Does the call on the account's row, and answers the amount that it moves.
+    #[inline(always)]
     fn call(&mut self, who: AccountId, call: RowCall) -> Result<u64, LedgerRefusal>
+        requires { IsTimely call (row_at self.old who) }
         ensures ok { OnOk result ((row_refusal call (row_at self.old who) ≡ None)
             × (self.new ≡ called who call self.old)) }
         ensures amount { IfOk result (λ amount. amount ≡ row_amount call (row_at self.old who)) }
         ensures err { OnErr result (self.new ≡ self.old) }
-        ensures refused { IfErr result (λ refusal. row_refusal call (row_at self.old who) ≡ Some refusal) }
+        ensures refused { IfErr result
+            (MayAnswer call (row_refusal call (row_at self.old who))) }
         ensures others { OthersStay who self.old self.new }
     {
         let done = self.rows.call(who, call)?;
@@ -283,19 +314,6 @@ impl Book {
         self.totals.burned += burned;
         self.totals.issuance -= burned;
         Ok(done.amount)
-    }
-
-    /// Does a call that is not refused.
-    fn call_unrefused(&mut self, who: AccountId, call: RowCall) -> u64
-        requires { row_refusal call (row_at self.old who) ≡ None }
-        ensures after { self.new ≡ called who call self.old }
-        ensures amount { result ≡ row_amount call (row_at self.old who) }
-        ensures others { OthersStay who self.old self.new }
-    {
-        match self.call(who, call) {
-            Ok(amount) => amount,
-            Err(_) => unreachable!(),
-        }
     }
 
     /// Whether the account has a row: it was endowed, was sent a transfer or had a deposit held.
@@ -349,7 +367,8 @@ impl Book {
         }
     }
 
-    /// The sums over all accounts, in constant time. What the accounts hold and what was burned is what was issued.
+    /// The sums over all accounts, in constant time. What the accounts hold and what was burned is
+    /// what was issued.
     pub fn totals(&self) -> Totals
         ensures totals { result ≡ totals_of self.now }
         ensures balanced { IsBalanced self.now }

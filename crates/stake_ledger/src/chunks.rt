@@ -76,14 +76,17 @@ impl Chunks {
         }
     }
 
-    /// Joins the amount to the last chunk where that has the same release, else puts a new chunk last.
+    /// Joins the amount to the last chunk where that has the same release, else puts a new chunk
+    /// last.
     #[tactic(auto, using(crate::proofs::ChunkLemmas::joined, crate::proofs::ChunkLemmas::put_last, crate::proofs::ChunkLemmas::nonempty, crate::proofs::ChunkLemmas::room_to_join, crate::proofs::ChunkLemmas::room_to_put, crate::proofs::ChunkLemmas::no_room))]
     pub fn add(&mut self, amount: u64, release: u32) -> Result<(), LedgerRefusal>
         requires sum { chunk_sum self.old + amount < 2 ^ 64 }
         requires few { length self.old ≤ 32 }
-        ensures ok { OnOk result ((chunk_refusal amount release self.old ≡ None) × (self.new ≡ with_chunk amount release self.old)) }
+        ensures ok { OnOk result ((chunk_refusal amount release self.old ≡ None)
+            × (self.new ≡ with_chunk amount release self.old)) }
         ensures err { OnErr result (self.new ≡ self.old) }
-        ensures refused { IfErr result (IsDue refusals.NoMemory (chunk_refusal amount release self.old)) }
+        ensures refused { IfErr result
+            (IsDue refusals.NoMemory (chunk_refusal amount release self.old)) }
     {
         if self.joins_last(release) {
             let last = self.items.len() - 1;

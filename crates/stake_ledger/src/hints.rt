@@ -1,5 +1,5 @@
-//! Guesses of where accounts stand. They save most searches for an account, and nothing rests on them: whoever takes
-//! a guess looks who stands there.
+//! Guesses of where accounts stand. They save most searches for an account, and nothing rests on
+//! them: whoever takes a guess looks who stands there.
 
 use npos_base::{AccountId, NoMemory};
 use std::alloc::Global;
@@ -7,8 +7,8 @@ use std::alloc::Global;
 /// The fewest slots.
 const LEAST_SLOTS: usize = 256;
 
-/// A place in each slot, by the last bytes of the account that was noted there last. The number of slots is a power
-/// of two, or 0.
+/// A place in each slot, by the last bytes of the account that was noted there last. The number of
+/// slots is a power of two, or 0.
 #[derive(Drop)]
 pub(crate) struct Hints {
     slots: Vec<u32>,

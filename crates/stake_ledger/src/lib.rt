@@ -1,6 +1,6 @@
-//! The books of stake: what each account has free, bonded, on its way out and held as deposits, after
-//! Substrate's staking pallet. Every unit is accounted for: what the accounts hold and what was burned
-//! is always what was issued.
+//! The books of stake: what each account has free, bonded, on its way out and held as deposits,
+//! after Substrate's staking pallet. Every unit is accounted for: what the accounts hold and what
+//! was burned is always what was issued.
 #![tactic(auto)]
 
 mod book;

@@ -10,8 +10,9 @@ use std::alloc::Global;
 use std::collections::BTreeMap;
 use std::marker::Model;
 
-/// The places of accounts. An ordered map has them, so that a search takes the logarithm of their number whatever
-/// the accounts are; a guess saves most searches. Contracts see the accounts with their places, by rising account.
+/// The places of accounts. An ordered map has them, so that a search takes the logarithm of their
+/// number whatever the accounts are; a guess saves most searches. Contracts see the accounts with
+/// their places, by rising account.
 #[derive(Drop)]
 pub struct Places {
     alloc: Global,
@@ -58,7 +59,8 @@ impl Places {
     /// Gives the next place to an account that has none.
     pub fn put(&mut self, who: AccountId) -> Result<(), NoMemory>
         requires { place_in self.old who ≡ None }
-        ensures ok { OnOk result (self.new ≡ insert_entry account_cmp self.old who (length self.old)) }
+        ensures ok { OnOk result (self.new
+            ≡ insert_entry account_cmp self.old who (length self.old)) }
         ensures err { OnErr result (self.new ≡ self.old) }
     {
         let place = self.accounts.len();
@@ -85,8 +87,8 @@ fn guessed(accounts: &[AccountId], hints: &Hints, who: AccountId) -> Option<usiz
     }
 }
 
-/// Notes all places in more slots, where the accounts crowd them. The slots stay as they are where there is no memory
-/// for more: then more guesses are wrong.
+/// Notes all places in more slots, where the accounts crowd them. The slots stay as they are where
+/// there is no memory for more: then more guesses are wrong.
 fn widen(alloc: Global, hints: &mut Hints, accounts: &[AccountId]) {
     if !hints.is_crowded(accounts.len()) {
         return;

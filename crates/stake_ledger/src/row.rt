@@ -1,12 +1,10 @@
 //! What one account has.
-ghost use Rattle.std.specs.Prelude.{◌≡◌, ◌+◌, ◌^◌, ◌<◌, ◌≤◌, IsTrue, OnErr, OnOk, IfErr, IfOk, None, Some, length};
-ghost use Rattle.stake_ledger.specs.declared.refusal.LedgerRefusal.TheVariants as refusals;
-ghost use Rattle.npos_base.specs.Refusal.{IsDue};
-ghost use Rattle.stake_ledger.specs.Rows.{empty_row, worth, is_bonded, paid, bonded, unbonded, rebonded, withdrawn};
-ghost use Rattle.stake_ledger.specs.RowCalls.{Answers, row_refusal, row_after, done_of};
-ghost use Rattle.stake_ledger.specs.Parts.{parts_of};
+ghost use Rattle.std.specs.Prelude.{◌≡◌, ◌+◌, ◌^◌, ◌<◌, ◌≤◌, OnErr, OnOk, IfErr, IfOk, None, Some, length};
 ghost use Rattle.stake_ledger.specs.declared.call.RowCall.TheVariants as calls;
-ghost use Rattle.stake_ledger.specs.Calls.{bond_refusal, bond_extra_refusal, unbond_refusal, unbond_amount, rebond_refusal, rebond_amount, withdraw_refusal, withdraw_amount};
+ghost use Rattle.stake_ledger.specs.Calls.{hold_refusal};
+ghost use Rattle.stake_ledger.specs.Parts.{parts_of};
+ghost use Rattle.stake_ledger.specs.Rows.{empty_row, worth, is_bonded, paid};
+ghost use Rattle.stake_ledger.specs.RowCalls.{Answers, MayAnswer, row_refusal, row_after, done_of};
 
 use crate::call::RowCall;
 use crate::chunks::Chunks;
@@ -14,7 +12,8 @@ use crate::parts::{Done, Parts};
 use crate::refusal::LedgerRefusal;
 use std::alloc::Global;
 
-/// What one account has, in units of stake: free, bonded and active, bonded and on its way out, and held as deposits.
+/// What one account has, in units of stake: free, bonded and active, bonded and on its way out, and
+/// held as deposits.
 #[derive(Drop)]
 pub struct Row {
     pub free: u64,
@@ -48,7 +47,7 @@ impl Row {
     pub fn pay(&mut self, value: u64) -> Result<(), LedgerRefusal>
         ensures ok { OnOk result ((value ≤ self.old.free) × (self.new ≡ paid value self.old)) }
         ensures err { OnErr result (self.new ≡ self.old) }
-        ensures refused { IfErr result (λ refusal. (self.old.free < value) × (refusal ≡ refusals.LowFunds)) }
+        ensures refused { IfErr result (λ refusal. hold_refusal self.old value ≡ Some refusal) }
     {
         if self.free < value {
             return Err(LedgerRefusal::LowFunds);
@@ -57,12 +56,10 @@ impl Row {
         Ok(())
     }
 
-    /// Moves the value from free to active.
-    pub fn bond(&mut self, value: u64, minimum: u64) -> Result<(), LedgerRefusal>
+    /// Makes the value active, where nothing is bonded.
+    fn bond(&mut self, value: u64, minimum: u64) -> Result<u64, LedgerRefusal>
         requires { worth self.old < 2 ^ 64 }
-        ensures ok { OnOk result ((bond_refusal self.old value minimum ≡ None) × (self.new ≡ bonded value self.old)) }
-        ensures err { OnErr result (self.new ≡ self.old) }
-        ensures refused { IfErr result (λ refusal. bond_refusal self.old value minimum ≡ Some refusal) }
+        ensures { Answers (calls.Bond value minimum) self.old self.new result }
     {
         if value == 0 {
             return Err(LedgerRefusal::ZeroValue);
@@ -78,15 +75,13 @@ impl Row {
         }
         self.free -= value;
         self.active += value;
-        Ok(())
+        Ok(value)
     }
 
-    /// Moves the value from free to active, where the account is bonded already.
-    pub fn bond_extra(&mut self, value: u64) -> Result<(), LedgerRefusal>
+    /// Makes the value active, where something is bonded already.
+    fn bond_extra(&mut self, value: u64) -> Result<u64, LedgerRefusal>
         requires { worth self.old < 2 ^ 64 }
-        ensures ok { OnOk result ((bond_extra_refusal self.old value ≡ None) × (self.new ≡ bonded value self.old)) }
-        ensures err { OnErr result (self.new ≡ self.old) }
-        ensures refused { IfErr result (λ refusal. bond_extra_refusal self.old value ≡ Some refusal) }
+        ensures { Answers (calls.BondExtra value) self.old self.new result }
     {
         if value == 0 {
             return Err(LedgerRefusal::ZeroValue);
@@ -99,18 +94,14 @@ impl Row {
         }
         self.free -= value;
         self.active += value;
-        Ok(())
+        Ok(value)
     }
 
-    /// Moves up to `value` from active to a chunk with this release.
-    pub fn unbond(&mut self, value: u64, release: u32, least: u64) -> Result<u64, LedgerRefusal>
+    /// Moves up to the value from active to a chunk with this release.
+    fn unbond(&mut self, value: u64, release: u32, least: u64) -> Result<u64, LedgerRefusal>
         requires fits { worth self.old < 2 ^ 64 }
         requires few { length self.old.chunks ≤ 32 }
-        ensures ok { OnOk result ((unbond_refusal self.old value release least ≡ None)
-            × (self.new ≡ unbonded (unbond_amount self.old value) release self.old)) }
-        ensures amount { IfOk result (λ amount. amount ≡ unbond_amount self.old value) }
-        ensures err { OnErr result (self.new ≡ self.old) }
-        ensures refused { IfErr result (IsDue refusals.NoMemory (unbond_refusal self.old value release least)) }
+        ensures { Answers (calls.Unbond value release least) self.old self.new result }
     {
         if value == 0 {
             return Err(LedgerRefusal::ZeroValue);
@@ -130,13 +121,10 @@ impl Row {
         Ok(amount)
     }
 
-    /// Moves up to `value` from the chunks, the latest first, back to active.
-    pub fn rebond(&mut self, value: u64) -> Result<u64, LedgerRefusal>
+    /// Moves up to the value from the chunks, the latest first, back to active.
+    fn rebond(&mut self, value: u64) -> Result<u64, LedgerRefusal>
         requires { worth self.old < 2 ^ 64 }
-        ensures ok { OnOk result ((rebond_refusal self.old value ≡ None) × (self.new ≡ rebonded (rebond_amount self.old value) self.old)) }
-        ensures amount { IfOk result (λ amount. amount ≡ rebond_amount self.old value) }
-        ensures err { OnErr result (self.new ≡ self.old) }
-        ensures refused { IfErr result (λ refusal. rebond_refusal self.old value ≡ Some refusal) }
+        ensures { Answers (calls.Rebond value) self.old self.new result }
     {
         if value == 0 {
             return Err(LedgerRefusal::ZeroValue);
@@ -155,12 +143,9 @@ impl Row {
 
     /// Frees the chunks that are released by this era.
     #[tactic(auto, using(crate::proofs::ChunkLemmas::released_sum))]
-    pub fn withdraw(&mut self, era: u32) -> Result<u64, LedgerRefusal>
+    fn withdraw(&mut self, era: u32) -> Result<u64, LedgerRefusal>
         requires { worth self.old < 2 ^ 64 }
-        ensures ok { OnOk result ((withdraw_refusal self.old ≡ None) × (self.new ≡ withdrawn era self.old)) }
-        ensures amount { IfOk result (λ amount. amount ≡ withdraw_amount self.old era) }
-        ensures err { OnErr result (self.new ≡ self.old) }
-        ensures refused { IfErr result (λ refusal. withdraw_refusal self.old ≡ Some refusal) }
+        ensures { Answers (calls.Withdraw era) self.old self.new result }
     {
         if !self.is_bonded() {
             return Err(LedgerRefusal::NotBonded);
@@ -168,19 +153,6 @@ impl Row {
         let freed = self.chunks.release(era);
         self.free += freed;
         Ok(freed)
-    }
-
-    /// What the account has, part by part.
-    pub fn parts(&self) -> Parts
-        requires { worth self.now < 2 ^ 64 }
-        ensures { result ≡ parts_of self.now }
-    {
-        Parts {
-            free: self.free,
-            active: self.active,
-            unlocking: self.chunks.sum(),
-            held: self.held,
-        }
     }
 
     /// Moves the value from free to held.
@@ -245,12 +217,37 @@ impl Row {
         Ok(from_active + from_chunks)
     }
 
-    /// Does the call. It answers the amount that moved.
+    /// What the account has, part by part.
+    pub fn parts(&self) -> Parts
+        requires { worth self.now < 2 ^ 64 }
+        ensures { result ≡ parts_of self.now }
+    {
+        Parts {
+            free: self.free,
+            active: self.active,
+            unlocking: self.chunks.sum(),
+            held: self.held,
+        }
+    }
+
+    /// Does the call, and answers the amount that it moves. It is inlined, as are its callers:
+    /// there the call is known, and the other arms go.
+    #[inline(always)]
     pub fn call(&mut self, call: RowCall) -> Result<u64, LedgerRefusal>
-        requires { worth self.old < 2 ^ 64 }
+        requires fits { worth self.old < 2 ^ 64 }
+        requires few { length self.old.chunks ≤ 32 }
         ensures { Answers call self.old self.new result }
     {
         match call {
+            RowCall::Bond { value, minimum } => self.bond(value, minimum),
+            RowCall::BondExtra { value } => self.bond_extra(value),
+            RowCall::Unbond {
+                value,
+                release,
+                least,
+            } => self.unbond(value, release, least),
+            RowCall::Rebond { value } => self.rebond(value),
+            RowCall::Withdraw { era } => self.withdraw(era),
             RowCall::Hold { value } => self.hold(value),
             RowCall::Return { value } => self.give_back(value),
             RowCall::Burn { value } => self.burn(value),
@@ -259,12 +256,15 @@ impl Row {
     }
 
     /// Does the call, and answers besides what the account had before and has then.
+    #[inline(always)]
     pub fn done(&mut self, call: RowCall) -> Result<Done, LedgerRefusal>
-        requires { worth self.old < 2 ^ 64 }
-        ensures ok { OnOk result ((row_refusal call self.old ≡ None) × (self.new ≡ row_after call self.old)) }
+        requires fits { worth self.old < 2 ^ 64 }
+        requires few { length self.old.chunks ≤ 32 }
+        ensures ok { OnOk result ((row_refusal call self.old ≡ None)
+            × (self.new ≡ row_after call self.old)) }
         ensures done { IfOk result (λ done. done ≡ done_of call self.old) }
         ensures err { OnErr result (self.new ≡ self.old) }
-        ensures refused { IfErr result (λ refusal. row_refusal call self.old ≡ Some refusal) }
+        ensures refused { IfErr result (MayAnswer call (row_refusal call self.old)) }
     {
         let before = self.parts();
         let amount = self.call(call)?;

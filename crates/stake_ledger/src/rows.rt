@@ -5,12 +5,11 @@ ghost use Rattle.std.specs.List.Sorted.{IsStrictlySortedBy};
 ghost use Rattle.std.specs.Map.{keys_of};
 ghost use Rattle.npos_base.specs.Account.{account_cmp};
 ghost use Rattle.stake_ledger.specs.declared.refusal.LedgerRefusal.TheVariants as refusals;
-ghost use Rattle.stake_ledger.specs.Refusals.{MayRefuse};
 ghost use Rattle.npos_base.specs.Refusal.{IsDue};
-ghost use Rattle.stake_ledger.specs.Rows.{worth, gained, paid, bonded, unbonded, rebonded, withdrawn};
+ghost use Rattle.stake_ledger.specs.Calls.{hold_refusal};
+ghost use Rattle.stake_ledger.specs.Rows.{worth, gained, paid};
 ghost use Rattle.stake_ledger.specs.Ledger.{row_in, row_of_entries, with_row};
-ghost use Rattle.stake_ledger.specs.RowCalls.{row_refusal, row_after, done_of};
-ghost use Rattle.stake_ledger.specs.Calls.{bond_refusal, bond_extra_refusal, unbond_refusal, unbond_amount, rebond_refusal, rebond_amount, withdraw_refusal, withdraw_amount};
+ghost use Rattle.stake_ledger.specs.RowCalls.{MayAnswer, row_refusal, row_after, done_of};
 
 use crate::call::RowCall;
 use crate::parts::Done;
@@ -21,7 +20,8 @@ use npos_base::{AccountId, NoMemory};
 use std::alloc::Global;
 use std::marker::Model;
 
-/// The rows by account, each at the account's place. Contracts see the accounts with their rows, by rising account.
+/// The rows by account, each at the account's place. Contracts see the accounts with their rows, by
+/// rising account.
 #[derive(Drop)]
 pub struct Rows {
     alloc: Global,
@@ -81,7 +81,7 @@ impl Rows {
     }
 
     /// Gives the account the value; its row is made where it has none.
-    #[tactic(auto, using(crate::proofs::PlaceLemmas::row_in_placed, crate::proofs::PlaceLemmas::row_in_unplaced, crate::proofs::PlaceLemmas::row_changed, crate::proofs::PlaceLemmas::placed_changed))]
+    #[tactic(auto, using(crate::proofs::PlaceLemmas::row_in_unplaced, crate::proofs::PlaceLemmas::placed_changed))]
     pub fn gain(&mut self, who: AccountId, value: u64) -> Result<(), NoMemory>
         requires { (row_in self.old who).free + value < 2 ^ 64 }
         ensures ok { OnOk result (self.new ≡ with_row who (gained value) self.old) }
@@ -96,15 +96,17 @@ impl Rows {
         }
     }
 
-    /// `Row::pay` at the account's row. An account without a row has nothing, and the value is above 0.
-    #[tactic(auto, using(crate::proofs::PlaceLemmas::row_in_placed, crate::proofs::PlaceLemmas::row_in_unplaced, crate::proofs::PlaceLemmas::row_changed, crate::proofs::PlaceLemmas::placed_changed))]
+    /// `Row::pay` at the account's row. An account without a row has nothing, and the value is
+    /// above 0.
+    #[tactic(auto, using(crate::proofs::PlaceLemmas::row_in_unplaced, crate::proofs::PlaceLemmas::placed_changed))]
     fn pay(&mut self, who: AccountId, value: u64) -> Result<(), LedgerRefusal>
         requires { 0 < value }
         ensures accepted { OnOk result (value ≤ (row_in self.old who).free) }
         ensures ok { OnOk result (self.new ≡ with_row who (paid value) self.old) }
         ensures there { OnOk result (row_of_entries who self.old ≡ Some (row_in self.old who)) }
         ensures err { OnErr result (self.new ≡ self.old) }
-        ensures refused { IfErr result (λ refusal. ((row_in self.old who).free < value) × (refusal ≡ refusals.LowFunds)) }
+        ensures refused { IfErr result (λ refusal. hold_refusal (row_in self.old who) value
+            ≡ Some refusal) }
     {
         match self.places.find(who) {
             Some(place) => self.rows[place].pay(value),
@@ -113,7 +115,7 @@ impl Rows {
     }
 
     /// Gives the value to an account that has a row.
-    #[tactic(auto, using(crate::proofs::PlaceLemmas::row_in_placed, crate::proofs::PlaceLemmas::row_in_unplaced, crate::proofs::PlaceLemmas::row_changed, crate::proofs::PlaceLemmas::placed_changed))]
+    #[tactic(auto, using(crate::proofs::PlaceLemmas::row_in_unplaced, crate::proofs::PlaceLemmas::placed_changed))]
     pub fn give(&mut self, who: AccountId, value: u64)
         requires fits { (row_in self.old who).free + value < 2 ^ 64 }
         requires there { row_of_entries who self.old ≡ Some (row_in self.old who) }
@@ -125,8 +127,9 @@ impl Rows {
         }
     }
 
-    /// Moves the value from what one account has free to another, whose row is made where it has none. The rows are as they
-    /// were where the payer has too little, or where there is no memory for a new row.
+    /// Moves the value from what one account has free to another, whose row is made where it has
+    /// none. The rows are as they were where the payer has too little, or where there is no memory
+    /// for a new row.
     #[tactic(auto, using(crate::proofs::LedgerLemmas::given_back, crate::proofs::LedgerLemmas::row_in_other, crate::proofs::LedgerLemmas::row_in_put))]
     pub fn transfer(
         &mut self,
@@ -139,9 +142,11 @@ impl Rows {
         requires ordered { IsStrictlySortedBy account_cmp (keys_of self.old) }
         requires fits { (row_in self.old from).free + (row_in self.old to).free < 2 ^ 64 }
         ensures accepted { OnOk result (value ≤ (row_in self.old from).free) }
-        ensures ok { OnOk result (self.new ≡ with_row to (gained value) (with_row from (paid value) self.old)) }
+        ensures ok { OnOk result (self.new
+            ≡ with_row to (gained value) (with_row from (paid value) self.old)) }
         ensures err { OnErr result (self.new ≡ self.old) }
-        ensures refused { IfErr result (MayRefuse ((row_in self.old from).free < value)) }
+        ensures refused { IfErr result
+            (IsDue refusals.NoMemory (hold_refusal (row_in self.old from) value)) }
     {
         self.pay(from, value)?;
         match self.gain(to, value) {
@@ -153,100 +158,18 @@ impl Rows {
         }
     }
 
-    /// `Row::bond` at the account's row. An account without a row answers as one that has nothing.
-    #[tactic(auto, using(crate::proofs::PlaceLemmas::row_in_placed, crate::proofs::PlaceLemmas::row_in_unplaced, crate::proofs::PlaceLemmas::row_changed, crate::proofs::PlaceLemmas::placed_changed))]
-    pub fn bond(&mut self, who: AccountId, value: u64, minimum: u64) -> Result<(), LedgerRefusal>
-        requires { worth (row_in self.old who) < 2 ^ 64 }
-        ensures accepted { OnOk result (bond_refusal (row_in self.old who) value minimum ≡ None) }
-        ensures ok { OnOk result (self.new ≡ with_row who (bonded value) self.old) }
-        ensures err { OnErr result (self.new ≡ self.old) }
-        ensures refused { IfErr result (λ refusal. bond_refusal (row_in self.old who) value minimum ≡ Some refusal) }
-    {
-        match self.places.find(who) {
-            Some(place) => self.rows[place].bond(value, minimum),
-            None => Row::new(self.alloc).bond(value, minimum),
-        }
-    }
-
-    /// `Row::bond_extra` at the account's row. An account without a row answers as one that has nothing.
-    #[tactic(auto, using(crate::proofs::PlaceLemmas::row_in_placed, crate::proofs::PlaceLemmas::row_in_unplaced, crate::proofs::PlaceLemmas::row_changed, crate::proofs::PlaceLemmas::placed_changed))]
-    pub fn bond_extra(&mut self, who: AccountId, value: u64) -> Result<(), LedgerRefusal>
-        requires { worth (row_in self.old who) < 2 ^ 64 }
-        ensures accepted { OnOk result (bond_extra_refusal (row_in self.old who) value ≡ None) }
-        ensures ok { OnOk result (self.new ≡ with_row who (bonded value) self.old) }
-        ensures err { OnErr result (self.new ≡ self.old) }
-        ensures refused { IfErr result (λ refusal. bond_extra_refusal (row_in self.old who) value ≡ Some refusal) }
-    {
-        match self.places.find(who) {
-            Some(place) => self.rows[place].bond_extra(value),
-            None => Row::new(self.alloc).bond_extra(value),
-        }
-    }
-
-    /// `Row::unbond` at the account's row. An account without a row answers as one that has nothing.
-    #[tactic(auto, using(crate::proofs::PlaceLemmas::row_in_placed, crate::proofs::PlaceLemmas::row_in_unplaced, crate::proofs::PlaceLemmas::row_changed, crate::proofs::PlaceLemmas::placed_changed))]
-    pub fn unbond(
-        &mut self,
-        who: AccountId,
-        value: u64,
-        release: u32,
-        least: u64,
-    ) -> Result<u64, LedgerRefusal>
+    /// Does the call at the account's row. An account without a row answers as one that has
+    /// nothing.
+    #[tactic(auto, using(crate::proofs::PlaceLemmas::row_in_unplaced, crate::proofs::PlaceLemmas::placed_changed))]
+    #[inline(always)]
+    pub fn call(&mut self, who: AccountId, call: RowCall) -> Result<Done, LedgerRefusal>
         requires fits { worth (row_in self.old who) < 2 ^ 64 }
         requires few { length (row_in self.old who).chunks ≤ 32 }
-        ensures accepted { OnOk result (unbond_refusal (row_in self.old who) value release least ≡ None) }
-        ensures ok { OnOk result (self.new ≡ with_row who (unbonded (unbond_amount (row_in self.old who) value) release) self.old) }
-        ensures amount { IfOk result (λ amount. amount ≡ unbond_amount (row_in self.old who) value) }
-        ensures err { OnErr result (self.new ≡ self.old) }
-        ensures refused { IfErr result (IsDue refusals.NoMemory (unbond_refusal (row_in self.old who) value release least)) }
-    {
-        match self.places.find(who) {
-            Some(place) => self.rows[place].unbond(value, release, least),
-            None => Row::new(self.alloc).unbond(value, release, least),
-        }
-    }
-
-    /// `Row::rebond` at the account's row. An account without a row answers as one that has nothing.
-    #[tactic(auto, using(crate::proofs::PlaceLemmas::row_in_placed, crate::proofs::PlaceLemmas::row_in_unplaced, crate::proofs::PlaceLemmas::row_changed, crate::proofs::PlaceLemmas::placed_changed))]
-    pub fn rebond(&mut self, who: AccountId, value: u64) -> Result<u64, LedgerRefusal>
-        requires { worth (row_in self.old who) < 2 ^ 64 }
-        ensures accepted { OnOk result (rebond_refusal (row_in self.old who) value ≡ None) }
-        ensures ok { OnOk result (self.new ≡ with_row who (rebonded (rebond_amount (row_in self.old who) value)) self.old) }
-        ensures amount { IfOk result (λ amount. amount ≡ rebond_amount (row_in self.old who) value) }
-        ensures err { OnErr result (self.new ≡ self.old) }
-        ensures refused { IfErr result (λ refusal. rebond_refusal (row_in self.old who) value ≡ Some refusal) }
-    {
-        match self.places.find(who) {
-            Some(place) => self.rows[place].rebond(value),
-            None => Row::new(self.alloc).rebond(value),
-        }
-    }
-
-    /// `Row::withdraw` at the account's row. An account without a row answers as one that has nothing.
-    #[tactic(auto, using(crate::proofs::PlaceLemmas::row_in_placed, crate::proofs::PlaceLemmas::row_in_unplaced, crate::proofs::PlaceLemmas::row_changed, crate::proofs::PlaceLemmas::placed_changed))]
-    pub fn withdraw(&mut self, who: AccountId, era: u32) -> Result<u64, LedgerRefusal>
-        requires { worth (row_in self.old who) < 2 ^ 64 }
-        ensures accepted { OnOk result (withdraw_refusal (row_in self.old who) ≡ None) }
-        ensures ok { OnOk result (self.new ≡ with_row who (withdrawn era) self.old) }
-        ensures amount { IfOk result (λ amount. amount ≡ withdraw_amount (row_in self.old who) era) }
-        ensures err { OnErr result (self.new ≡ self.old) }
-        ensures refused { IfErr result (λ refusal. withdraw_refusal (row_in self.old who) ≡ Some refusal) }
-    {
-        match self.places.find(who) {
-            Some(place) => self.rows[place].withdraw(era),
-            None => Row::new(self.alloc).withdraw(era),
-        }
-    }
-
-    /// Does the call at the account's row. An account without a row answers as one that has nothing.
-    #[tactic(auto, using(crate::proofs::PlaceLemmas::row_in_unplaced, crate::proofs::PlaceLemmas::placed_changed))]
-    pub fn call(&mut self, who: AccountId, call: RowCall) -> Result<Done, LedgerRefusal>
-        requires { worth (row_in self.old who) < 2 ^ 64 }
         ensures accepted { OnOk result (row_refusal call (row_in self.old who) ≡ None) }
         ensures ok { OnOk result (self.new ≡ with_row who (row_after call) self.old) }
         ensures done { IfOk result (λ done. done ≡ done_of call (row_in self.old who)) }
         ensures err { OnErr result (self.new ≡ self.old) }
-        ensures refused { IfErr result (λ refusal. row_refusal call (row_in self.old who) ≡ Some refusal) }
+        ensures refused { IfErr result (MayAnswer call (row_refusal call (row_in self.old who))) }
     {
         match self.places.find(who) {
             Some(place) => self.rows[place].done(call),

@@ -91,7 +91,7 @@ fn calls_are_refused(rt: HostRuntime) -> Result<(), Fail> {
 }
 
 /// What a transfer of 40 leaves, and what the readers say of both accounts.
-fn transferred(alloc: Global) -> Result<(u64, u64, bool, u64, bool, u64), LedgerRefusal> {
+fn transfer_readings(alloc: Global) -> Result<(u64, u64, bool, u64, bool, u64), LedgerRefusal> {
     let mut book = bonded_book(alloc)?;
     endow(&mut book, SECOND, 50)?;
     book.transfer(SECOND, FIRST, 40)?;
@@ -109,7 +109,7 @@ fn transferred(alloc: Global) -> Result<(u64, u64, bool, u64, bool, u64), Ledger
 #[test]
 fn stake_moves(rt: HostRuntime) -> Result<(), Fail> {
     assert_eq!(rt;
-        transferred(rt.alloc())?,
+        transfer_readings(rt.alloc())?,
         (25, 10, false, 115, true, 9_223_372_036_854_775_657)
     );
     Ok(())
@@ -152,7 +152,8 @@ fn chunked(alloc: Global) -> Result<Book, LedgerRefusal> {
     Ok(book)
 }
 
-/// What is active, how many chunks stand, and the sums that a slash of 75 and one of 100 then leave, with what each took.
+/// What is active, how many chunks stand, and the sums that a slash of 75 and one of 100 then
+/// leave, with what each took.
 fn slashes(alloc: Global) -> Result<[(u64, u64, usize, u64); 2], LedgerRefusal> {
     let mut book = chunked(alloc)?;
     let first = book.slash(FIRST, 75);
@@ -180,7 +181,8 @@ fn slashes_take_what_is_active_first(rt: HostRuntime) -> Result<(), Fail> {
     Ok(())
 }
 
-/// What is free and held after a deposit of 60 was held, then 25 of it returned, then 5 of it burned.
+/// What is free and held after a deposit of 60 was held, then 25 of it returned, then 5 of it
+/// burned.
 fn deposits(alloc: Global) -> Result<[(u64, u64); 3], LedgerRefusal> {
     let mut book = Book::new(alloc);
     endow(&mut book, FIRST, 100)?;
@@ -203,7 +205,7 @@ fn deposits_are_held(rt: HostRuntime) -> Result<(), Fail> {
 }
 
 /// A deposit of 0 makes an account known, which then is given 7.
-fn minted(alloc: Global) -> Result<(bool, u64, Totals), LedgerRefusal> {
+fn mint_readings(alloc: Global) -> Result<(bool, u64, Totals), LedgerRefusal> {
     let mut book = Book::new(alloc);
     let before = book.knows(FIRST);
     book.hold_deposit(FIRST, 0)?;
@@ -215,7 +217,7 @@ fn minted(alloc: Global) -> Result<(bool, u64, Totals), LedgerRefusal> {
 
 #[test]
 fn stake_is_minted(rt: HostRuntime) -> Result<(), Fail> {
-    let (before, free, totals) = minted(rt.alloc())?;
+    let (before, free, totals) = mint_readings(rt.alloc())?;
     assert_eq!(rt;
         (before, free, totals.minted, totals.issuance),
         (false, 7, 7, 7)

@@ -4,8 +4,8 @@ ghost use Rattle.stake_ledger.specs.Parts.{Covers, replaced};
 
 use crate::parts::Parts;
 
-/// What all accounts have together, in units of stake. `issuance` is what the endowments gave and what
-/// was minted, less what was burned.
+/// What all accounts have together, in units of stake. `issuance` is what the endowments gave and
+/// what was minted, less what was burned.
 #[derive(Clone, Copy, Debug, PartialEq, Eq)]
 pub struct Totals {
     pub free: u64,

@@ -1,12 +1,12 @@
 use Rattle.std.proofs.Common.{◌≤◌, arith, ◌∙◌, refl}
 use Rattle.stake_ledger.specs.Rows.{gained, paid}
 use Rattle.stake_ledger.specs.Ledger.{row_in, with_row}
-use Rattle.stake_ledger.proofs.KeepLemmas.{kept_transferred, free_within, totals_within}
+use Rattle.stake_ledger.proofs.KeepLemmas.{kept_transferred, worth_within}
 use Rattle.stake_ledger.proofs.LedgerLemmas.{others_by}
 use Rattle.stake_ledger.proofs.book.Book.transfer.Goals as goal
 
 pub transfer-requires-clause-fits : goal.transfer-requires-clause-fits
-transfer-requires-clause-fits c = omega (arith, free_within c.args.from _ _ c.self.invariant, free_within c.args.to _ _ c.self.invariant, totals_within _ _ c.self.invariant)
+transfer-requires-clause-fits c = omega (arith, worth_within c.args.from _ _ c.self.invariant, worth_within c.args.to _ _ c.self.invariant)
 
 pub invariant_of-self-2 : goal.invariant_of-self-2
 invariant_of-self-2 c =

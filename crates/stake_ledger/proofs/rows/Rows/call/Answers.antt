@@ -1,10 +1,13 @@
-use Rattle.std.proofs.Common.{◌≡◌, Some, None, IfErr, IfOk, OnOk, sym, ◌∙◌, subst}
-use Rattle.stake_ledger.specs.RowCalls.{row_refusal, row_after, done_of}
+use Rattle.std.proofs.Common.{◌≡◌, None, IfErr, IfOk, OnOk, sym, ◌∙◌, subst}
+use Rattle.stake_ledger.specs.RowCalls.{MayAnswer, row_refusal, row_after, done_of}
 use Rattle.stake_ledger.proofs.PlaceLemmas.{row_found, row_becomes, then_ok}
 use Rattle.stake_ledger.proofs.rows.Rows.call.Goals as goal
 
-pub done-requires : goal.done-requires
-done-requires c = rw (row_found _ _ _ _ _ _ c.self.invariant c.self.view_is (sym c.find.ensures ∙ c.in-Some.is) c.index_mut.ensures.value) c.requires
+pub done-requires-clause-few : goal.done-requires-clause-few
+done-requires-clause-few c = rw (row_found _ _ _ _ _ _ c.self.invariant c.self.view_is (sym c.find.ensures ∙ c.in-Some.is) c.index_mut.ensures.value) c.requires.few
+
+pub done-requires-clause-fits : goal.done-requires-clause-fits
+done-requires-clause-fits c = rw (row_found _ _ _ _ _ _ c.self.invariant c.self.view_is (sym c.find.ensures ∙ c.in-Some.is) c.index_mut.ensures.value) c.requires.fits
 
 pub returns-in-Some-clause-accepted : goal.returns-in-Some-clause-accepted
 returns-in-Some-clause-accepted c =
@@ -21,4 +24,4 @@ returns-in-Some-clause-done c =
 
 pub returns-in-Some-clause-refused : goal.returns-in-Some-clause-refused
 returns-in-Some-clause-refused c =
-    subst (λ row. IfErr c.done.result (λ refusal. row_refusal c.args.call row ≡ Some refusal)) (row_found _ _ _ _ _ _ c.self.invariant c.self.view_is (sym c.find.ensures ∙ c.in-Some.is) c.index_mut.ensures.value) c.done.ensures.refused
+    subst (λ row. IfErr c.done.result (MayAnswer c.args.call (row_refusal c.args.call row))) (row_found _ _ _ _ _ _ c.self.invariant c.self.view_is (sym c.find.ensures ∙ c.in-Some.is) c.index_mut.ensures.value) c.done.ensures.refused

@@ -1,5 +1,5 @@
-use Rattle.std.proofs.Common.{◌≡◌, ◌<◌, ◌≤◌, Some, IfErr, OnOk, ap, sym, ◌∙◌, subst}
-use Rattle.stake_ledger.specs.declared.refusal.LedgerRefusal.TheVariants as refusals
+use Rattle.std.proofs.Common.{◌≡◌, ◌≤◌, Some, IfErr, OnOk, ap, sym, ◌∙◌, subst}
+use Rattle.stake_ledger.specs.Calls.{hold_refusal}
 use Rattle.stake_ledger.specs.Rows.{paid}
 use Rattle.stake_ledger.proofs.PlaceLemmas.{row_found, row_found_there, row_becomes, then_ok}
 use Rattle.stake_ledger.proofs.rows.Rows.pay.Goals as goal
@@ -15,4 +15,4 @@ returns-in-Some-clause-there c = then_ok c.pay.result (λ _. row_found_there _ _
 
 pub returns-in-Some-clause-refused : goal.returns-in-Some-clause-refused
 returns-in-Some-clause-refused c =
-    subst (λ row. IfErr c.pay.result (λ refusal. (row.free < c.args.value) × (refusal ≡ refusals.LowFunds))) (row_found _ _ _ _ _ _ c.self.invariant c.self.view_is (sym c.find.ensures ∙ c.in-Some.is) c.index_mut.ensures.value) c.pay.ensures.refused
+    subst (λ row. IfErr c.pay.result (λ refusal. hold_refusal row c.args.value ≡ Some refusal)) (row_found _ _ _ _ _ _ c.self.invariant c.self.view_is (sym c.find.ensures ∙ c.in-Some.is) c.index_mut.ensures.value) c.pay.ensures.refused
