@@ -13,7 +13,7 @@ use Rattle.stake_ledger.specs.Rows.{worth}
 use Rattle.stake_ledger.specs.Ledger.{Ledger, row_at, row_of, changed, total, IsBalanced}
 use Rattle.stake_ledger.specs.Calls.{deposit_held, deposit_returned, deposit_burned, minted_free, room_of}
 use Rattle.stake_ledger.proofs.LedgerLemmas.{schedule_at, total-changed, ordered-changed, schedules-changed}
-use Rattle.stake_ledger.proofs.KeepLemmas.{balanced-changed, balanced_minted}
+use Rattle.stake_ledger.proofs.KeepLemmas.{balanced_minted}
 use Rattle.stake_ledger.proofs.AccountLemmas.{row_at-changed, row_at-returned, row_at-burned, row_at-minted}
 use Rattle.submission_queue.specs.declared.submission.Submission.{Submission}
 use Rattle.election_snapshot.specs.Snapshot.{Snapshot}
@@ -36,9 +36,12 @@ chunks_stay release old taken new false is same by = subst (All (λ (chunk : Chu
 -- a change that leaves the worth and the chunks of a row
 balanced_moved : (who : AccountId) (change : Row → Row) (book : Ledger) → IsBalanced book → worth (change (row_at book who)) ≡ worth (row_at book who)
     → (change (row_at book who)).chunks ≡ (row_at book who).chunks → IsBalanced (changed who change book)
-balanced_moved who change book balanced stays same =
-    balanced-changed who change book balanced
-    (record { worth_stays = stays; schedule = subst Rattle.stake_ledger.specs.Chunks.IsSchedule (sym same) (schedule_at who book balanced.schedules) })
+balanced_moved who change book balanced stays same = record {
+  distinct = ordered-changed who change book balanced.distinct;
+  schedules = schedules-changed who change book balanced.schedules (subst Rattle.stake_ledger.specs.Chunks.IsSchedule (sym same) (schedule_at who book balanced.schedules));
+  equation = omega (arith, total-changed worth refl who change book balanced.distinct, stays, balanced.equation);
+  capped = balanced.capped;
+}
 
 balanced_returned : (who : AccountId) (value : ℕ) (book : Ledger) → IsBalanced book → value ≤ (row_at book who).held → IsBalanced (deposit_returned who value book)
 balanced_returned who value book balanced within = at (value == 0) where
