@@ -1,6 +1,13 @@
-//! What follows for all words and all bytes. Each law is the clause of a function that does nothing.
+//! What follows for all words and all bytes. Each law is the clause of a function that does nothing, or no more than
+//! the call that it speaks of.
+ghost use Rattle.std.specs.Prelude.{◌≡◌};
+ghost use Rattle.quota_fill.specs.Filled.{filled};
+ghost use Rattle.election_check.specs.Seats.{IsReordered};
 ghost use Rattle.npos_cli.specs.Chain.{npos_machine};
 ghost use Rattle.npos_cli.specs.Laws.{OwesOnce, OwesAlways, IsReplayedOnce, IsAlwaysReplayed, IsWholeOnce, IsAlwaysWhole, BeginsWithWhole, WholeGrows, FaultsStand};
+
+use election_check::{Checker, Elected};
+use weight_book::Weights;
 
 /// All words owe something for all bytes, and nothing else: a text and a status.
 pub fn one_answer()
@@ -34,3 +41,16 @@ pub fn whole_text_grows()
 pub fn faults_stand()
     ensures { FaultsStand npos_machine }
 {}
+
+/// Sealing the fill of the checker's election always succeeds: no election has a dead end.
+pub fn a_fill_is_sealed(checker: Checker, weights: Weights) -> Elected
+    requires { weights.plain ≡ filled checker }
+    ensures snapshot { result.snapshot ≡ checker }
+    ensures weights { IsReordered weights result.weights }
+{
+    let _seats = checker.snapshot().seats();
+    match checker.seal(weights) {
+        Ok(elected) => elected,
+        Err(_) => unreachable!(),
+    }
+}
