@@ -3,11 +3,13 @@ pub mod EdgeLaws
 pub mod GrowLaws
 pub mod ChainLaws
 pub mod ElectionLaws
+pub mod MineLaws
 pub mod SoundLaws
 pub mod TurnLaws
 pub mod StartLaws
 pub mod BookLaws
 pub mod RunLaws
+pub mod StatusLaws
 pub mod PromiseLaws
 pub mod WholeLaws
 pub mod FaultLaws

@@ -20,7 +20,13 @@ use Rattle.election_check.specs.Plain.{verdict_plain}
 use Rattle.election_check.specs.Packed.{verdict_packed}
 use Rattle.npos_cli.specs.Elections.{snapshot_of}
 use Rattle.npos_cli.specs.Verdicts.{long_line, most_bundle}
-use Rattle.npos_cli.specs.Bundles.{Report, faulty, verdict_status, work_report, election_report, read_report, check_report}
+use Rattle.quota_fill.specs.Filled.{filled}
+use Rattle.npos_cli.specs.declared.reading.Election.{Election}
+use Rattle.npos_cli.specs.declared.job.Task.{Task}
+use Rattle.npos_cli.specs.declared.job.Task.TheVariants as tasks
+use Rattle.npos_cli.specs.declared.job.Miner.TheVariants as miners
+use Rattle.npos_cli.specs.Bundles.{Report, faulty, verdict_status, work_report, election_of, read_election}
+use Rattle.npos_cli.specs.Tasks.{task_report, report_on, bundle_report}
 use Rattle.npos_cli.specs.Words.{HasForm, job_of, usage_line}
 use Rattle.npos_cli.specs.Report.{JobOwes, Owes, replay_status, ReadsInput, IsAnswer, IsJudged}
 use Rattle.npos_cli.specs.Replay.{Outcome, IsReplay}
@@ -31,6 +37,7 @@ use Rattle.npos_cli.specs.Books.{BooksBalance}
 use Rattle.npos_cli.specs.Headline.{SeatsAreSound, IsPromised}
 use Rattle.npos_cli.specs.Owed.{IsAll, IsDrained, Delivers, DeliversFront, DeliversReplay, DeliversReplayFront, Comes, ComesWith, Answers, IsOwed, BeginsToAnswer}
 use Rattle.npos_cli.proofs.RunLaws.{one_owed}
+use Rattle.npos_cli.proofs.StatusLaws.{of_bundle}
 
 -- what an answer that is known to be this one says
 at_answer : (words : List (List ℕ)) (left : Option (List ℕ)) (old new : Option Told) (answer due : Status) → answer ≡ due → IsAnswer due
@@ -56,38 +63,8 @@ pub usage_front_of : (words : List (List ℕ)) (left : Option (List ℕ)) (old n
 usage_front_of words left old new begins unformed = begins usage_line statuses.Usage (usage_owed words left unformed)
 
 -- no report has the status Usage
-no_verdict_usage : (verdict : Verdict) → statuses.Usage ≡ verdict_status verdict → ⊥
-no_verdict_usage verdicts.Yes e = cc
-no_verdict_usage (verdicts.Undecodable at why) e = cc
-no_verdict_usage (verdicts.NoVoter voter) e = cc
-no_verdict_usage (verdicts.NoTarget target) e = cc
-no_verdict_usage (verdicts.VoterTwice voter) e = cc
-no_verdict_usage (verdicts.TargetTwice target) e = cc
-no_verdict_usage (verdicts.NotNominated voter target) e = cc
-no_verdict_usage (verdicts.BadShare voter) e = cc
-no_verdict_usage (verdicts.WrongSize found) e = cc
-no_verdict_usage (verdicts.WrongScore actual) e = cc
-no_verdict_usage (verdicts.Outweighed target prescore) e = cc
-no_verdict_usage (verdicts.Overspent voter) e = cc
-
-no_work_usage : (size : ℕ) (snapshot : Snapshot) (work : Work) → statuses.Usage ≡ (work_report size snapshot work).status → ⊥
-no_work_usage size snapshot Nothing e = cc
-no_work_usage size snapshot (Packed claim bytes) e = no_verdict_usage (verdict_packed snapshot claim bytes) e
-no_work_usage size snapshot (Plain committee edges) e = no_verdict_usage (verdict_plain snapshot (record { committee = committee; edges = edges })) e
-
-no_election_usage : (size : ℕ) (bundle : Bundle) (found : Result Snapshot SnapshotFault) → statuses.Usage ≡ (election_report size bundle found).status → ⊥
-no_election_usage size bundle (Ok snapshot) e = no_work_usage size snapshot bundle.work e
-no_election_usage size bundle (Err fault) e = cc
-
-no_read_usage : (size : ℕ) (read : Result Bundle WireFault) → statuses.Usage ≡ (read_report size read).status → ⊥
-no_read_usage size (Ok bundle) e = no_election_usage size bundle (snapshot_of bundle) e
-no_read_usage size (Err fault) e = cc
-
-no_usage : (bytes : List ℕ) → statuses.Usage ≡ (check_report bytes).status → ⊥
-no_usage bytes e = by (nat_lt most_bundle (length bytes)) e where
-  by : (b : Bool) → statuses.Usage ≡ (if b then faulty long_line else read_report (length bytes) (read_as bundle_form bundle_laws bytes)).status → ⊥
-  by true e = cc
-  by false e = no_read_usage (length bytes) (read_as bundle_form bundle_laws bytes) e
+no_usage : (task : Task) (bytes : List ℕ) → statuses.Usage ≡ (bundle_report task bytes).status → ⊥
+no_usage task bytes = of_bundle (λ status. statuses.Usage ≡ status → ⊥) (λ e. cc) (λ e. cc) (λ e. cc) task bytes
 
 -- no job owes the status Usage
 usage_by : (job : Option Job) (bytes text : List ℕ) → JobOwes job bytes text statuses.Usage → (IsSome job → ⊥) × (text ≡ usage_line)
@@ -96,7 +73,7 @@ usage_by (Some jobs.Replay) bytes text owes = absurd (not_usage owes.0.faulty ow
   not_usage : (faulty : Bool) → statuses.Usage ≡ replay_status faulty → ⊥
   not_usage true e = cc
   not_usage false e = cc
-usage_by (Some jobs.Check) bytes text owes = absurd (no_usage bytes (ap (λ (r : Report). r.status) owes))
+usage_by (Some (jobs.OnBundle task)) bytes text owes = absurd (no_usage task bytes (ap (λ (r : Report). r.status) owes))
 
 pub usage_due : (words : List (List ℕ)) (left : Option (List ℕ)) (old new : Option Told) (answer : Status)
     → (IsAnswer answer → Answers words left old new answer) → answer ≡ statuses.Usage → (HasForm words → ⊥) × Delivers old new usage_line

@@ -1,7 +1,7 @@
 -- From what a run owes and what was delivered to the clauses of `run`.
 use Rattle.std.proofs.Common.{◌≡◌, ◌⊎◌, inl, inr, ℕ, ◌+◌, ◌<◌, ◌≤◌, Bool, true, false, List, [], ◌++◌, length, nat_lt, Option, Some, None, Result, Ok, Err, IfSome, if◌then◌else◌, refl, sym, ◌∙◌, ap, subst, arith, length-append}
 use Rattle.std.proofs.lemmas.List.{take_all, append-nil}
-use Rattle.std.proofs.lemmas.Bool.{lt-ltb, cases_lt}
+use Rattle.std.proofs.lemmas.Bool.{lt-ltb, cases_lt, true≢false}
 use Rattle.npos_base.specs.Outside.{Told}
 use Rattle.scale_wire.specs.Form.{IsBytes}
 use Rattle.npos_cli.specs.declared.job.Job.{Job}
@@ -18,15 +18,24 @@ use Rattle.scale_wire.specs.WholeReading.{read_as}
 use Rattle.block_wire.specs.Bundles.{bundle_form}
 use Rattle.block_wire.specs.BundleLaws.{bundle_laws}
 use Rattle.npos_cli.specs.Verdicts.{long_line, most_bundle}
-use Rattle.npos_cli.specs.Bundles.{Report, faulty, verdict_status, work_report, election_report, read_report, check_report, IsSound}
-use Rattle.block_wire.specs.declared.bundle.Bundle.{Bundle}
+use Rattle.npos_cli.specs.declared.job.Task.{Task}
+use Rattle.npos_cli.specs.Bundles.{Report, faulty, read_election}
+use Rattle.npos_cli.specs.Tasks.{report_on, bundle_report, IsSound}
 use Rattle.block_wire.specs.declared.bundle.Work.{Work}
 use Rattle.block_wire.specs.declared.bundle.Work.TheVariants.{Nothing, Packed, Plain}
+use Rattle.block_wire.specs.declared.bundle.Bundle.{Bundle}
 use Rattle.scale_wire.specs.declared.fault.WireFault.{WireFault}
 use Rattle.election_snapshot.specs.declared.fault.SnapshotFault.{SnapshotFault}
 use Rattle.election_snapshot.specs.Snapshot.{Snapshot}
 use Rattle.election_check.specs.declared.verdict.Verdict.{Verdict}
 use Rattle.election_check.specs.declared.verdict.Verdict.TheVariants as verdicts
+use Rattle.npos_cli.specs.declared.job.Task.TheVariants as tasks
+use Rattle.npos_cli.specs.declared.job.Miner.TheVariants as miners
+use Rattle.npos_cli.specs.declared.reading.Election.{Election as Read}
+use Rattle.npos_cli.specs.Bundles.{verdict_status, work_report, election_of}
+use Rattle.npos_cli.specs.Tasks.{task_report}
+use Rattle.npos_cli.specs.Mining.{mine_report}
+use Rattle.npos_cli.specs.Elections.{snapshot_of}
 use Rattle.npos_cli.specs.Owed.{IsAll, LeftAfter, ReadsUpTo, TakesAtMost, IsDrained, Delivers, DeliversFront, FindsReplay, Finds, FindsFor, IsOwed, BeginsToAnswer}
 use Rattle.npos_cli.proofs.ReplayLaws.{one_replay, any_replay}
 use Rattle.npos_cli.proofs.ChainLaws.{genesis_laws, turn_laws}
@@ -66,7 +75,7 @@ one_owed words bytes text other status end first second = by (job_of words) firs
   by (Some jobs.Replay) first second =
       let same = one_replay npos_machine genesis_laws turn_laws bytes first.0 second.0 first.1 second.1 in
       (first.2 ∙ (ap (λ (o : Outcome Chain Election). o.text) same ∙ sym second.2), first.3 ∙ (ap (λ (o : Outcome Chain Election). replay_status o.faulty) same ∙ sym second.3))
-  by (Some jobs.Check) first second =
+  by (Some (jobs.OnBundle task)) first second =
       (ap (λ (r : Report). r.text) (first ∙ sym second), ap (λ (r : Report). r.status) (first ∙ sym second))
 
 -- a front of what was found is a front of what is owed
@@ -89,7 +98,7 @@ any_owed words bytes are = by (job_of words) where
   by (Some jobs.Replay) =
       let r = any_replay npos_machine genesis_laws turn_laws bytes are in
       (r.outcome.text, replay_status r.outcome.faulty, (r.outcome, r.is_replay, refl, refl))
-  by (Some jobs.Check) = ((check_report bytes).text, (check_report bytes).status, refl)
+  by (Some (jobs.OnBundle task)) = ((bundle_report task bytes).text, (bundle_report task bytes).status, refl)
 
 -- ## What is owed is an answer
 
@@ -112,19 +121,32 @@ work_answers size snapshot Nothing = tt
 work_answers size snapshot (Packed claim bytes) = verdict_answers _
 work_answers size snapshot (Plain committee edges) = verdict_answers _
 
-election_answers : (size : ℕ) (bundle : Bundle) (elected : Result Snapshot SnapshotFault) → IsAnswer (election_report size bundle elected).status
-election_answers size bundle (Ok snapshot) = work_answers size snapshot bundle.work
-election_answers size bundle (Err fault) = tt
+task_answers : (task : Task) (size : ℕ) (election : Read) → IsAnswer (task_report task size election).status
+task_answers tasks.Check size election = work_answers size election.snapshot election.work
+task_answers (tasks.Mine miners.Fill) size election = verdict_answers _
 
-read_answers : (size : ℕ) (read : Result Bundle WireFault) → IsAnswer (read_report size read).status
-read_answers size (Ok bundle) = election_answers size bundle _
-read_answers size (Err fault) = tt
+-- an election is reported by its task, and a fault is bad input
+IsFaulty : Result Read Report → Type 0
+IsFaulty (Ok election) = Unit {0}
+IsFaulty (Err report) = report.status ≡ statuses.BadInput
 
-check_answers : (bytes : List ℕ) → IsAnswer (check_report bytes).status
-check_answers bytes = by (nat_lt most_bundle (length bytes)) where
-  by : (over : Bool) → IsAnswer (if over then faulty long_line else read_report (length bytes) (read_as bundle_form bundle_laws bytes)).status
+report_answers : (task : Task) (size : ℕ) (read : Result Read Report) → IsFaulty read → IsAnswer (report_on task size read).status
+report_answers task size (Ok election) faulty = task_answers task size election
+report_answers task size (Err report) faulty = subst (λ (s : Status). IsAnswer s) (sym faulty) tt
+
+built_faulty : (bundle : Bundle) (built : Result Snapshot SnapshotFault) → IsFaulty (election_of bundle built)
+built_faulty bundle (Ok snapshot) = tt
+built_faulty bundle (Err fault) = refl
+
+read_faulty : (read : Result Bundle WireFault) → IsFaulty (read_election read)
+read_faulty (Ok bundle) = built_faulty bundle (snapshot_of bundle)
+read_faulty (Err fault) = refl
+
+bundle_answers : (task : Task) (bytes : List ℕ) → IsAnswer (bundle_report task bytes).status
+bundle_answers task bytes = by (nat_lt most_bundle (length bytes)) where
+  by : (over : Bool) → IsAnswer (report_on task (length bytes) (if over then Err (faulty long_line) else read_election (read_as bundle_form bundle_laws bytes))).status
   by true = tt
-  by false = read_answers (length bytes) _
+  by false = report_answers task (length bytes) _ (read_faulty (read_as bundle_form bundle_laws bytes))
 
 replay_answers : (faulty : Bool) → IsAnswer (replay_status faulty)
 replay_answers true = tt
@@ -133,10 +155,10 @@ replay_answers false = tt
 pub owed_answers : (job : Option Job) (bytes text : List ℕ) (status : Status) → JobOwes job bytes text status → IsAnswer status
 owed_answers None bytes text status owes = subst (λ (s : Status). IsAnswer s) (sym owes.1) tt
 owed_answers (Some jobs.Replay) bytes text status owes = subst (λ (s : Status). IsAnswer s) (sym owes.3) (replay_answers owes.0.faulty)
-owed_answers (Some jobs.Check) bytes text status owes =
-    subst (λ (s : Status). IsAnswer s) (sym (ap (λ (r : Report). r.status) owes)) (check_answers bytes)
+owed_answers (Some (jobs.OnBundle task)) bytes text status owes =
+    subst (λ (s : Status). IsAnswer s) (sym (ap (λ (r : Report). r.status) owes)) (bundle_answers task bytes)
 
--- ## A check
+-- ## A bundle
 
 -- bytes within the limit are all that was left
 all_left : (most : ℕ) (left : List ℕ) (now : Option (List ℕ)) (bytes : List ℕ) → ReadsUpTo most (Some left) now bytes → length bytes ≤ most → bytes ≡ left
@@ -146,46 +168,48 @@ all_left most left now bytes reads within =
     sym (t.2 ∙ (ap (λ (rest : List ℕ). bytes ++ rest) empty ∙ append-nil bytes))
 
 -- more than the limit is reported alike, whatever follows
-long_report : (bytes : List ℕ) → most_bundle < length bytes → check_report bytes ≡ faulty long_line
-long_report bytes over = ap (λ (b : Bool). if b then faulty long_line else read_report (length bytes) (read_as bundle_form bundle_laws bytes))
-    (lt-ltb most_bundle (length bytes) over)
+long_report : (task : Task) (bytes : List ℕ) → most_bundle < length bytes → bundle_report task bytes ≡ faulty long_line
+long_report task bytes over = ap (report_on task (length bytes)) (long (nat_lt most_bundle (length bytes)) (lt-ltb most_bundle (length bytes) over)) where
+  long : (b : Bool) → b ≡ true → (if b then Err (faulty long_line) else read_election (read_as bundle_form bundle_laws bytes)) ≡ Err (faulty long_line)
+  long true e = refl
+  long false e = absurd (true≢false (sym e))
 
 -- what is reported of the bytes that were read is what is reported of all
-pub report_read : (left : List ℕ) (now : Option (List ℕ)) (bytes : List ℕ) → ReadsUpTo most_bundle (Some left) now bytes → check_report bytes ≡ check_report left
-report_read left now bytes reads = elim (cases_lt most_bundle (length bytes)) [
+pub report_read : (task : Task) (left : List ℕ) (now : Option (List ℕ)) (bytes : List ℕ) → ReadsUpTo most_bundle (Some left) now bytes
+    → bundle_report task bytes ≡ bundle_report task left
+report_read task left now bytes reads = elim (cases_lt most_bundle (length bytes)) [
   | inl over ↦
-      long_report bytes over ∙ sym (long_report left (let t = reads.taken in
+      long_report task bytes over ∙ sym (long_report task left (let t = reads.taken in
       omega (arith, over, ap length t.2, length-append bytes t.0)))
-  | inr within ↦ ap check_report (all_left most_bundle left now bytes reads within)
+  | inr within ↦ ap (bundle_report task) (all_left most_bundle left now bytes reads within)
 ]
 
-pub check_found : (old now : Option (List ℕ)) (bytes text : List ℕ) (status : Status) → ReadsUpTo most_bundle old now bytes
-    → record { text = text; status = status } ≡ check_report bytes → FindsFor (Some jobs.Check) old text status
-check_found None now bytes text status reads is = (bytes, tt, is)
-check_found (Some left) now bytes text status reads is = (left, refl, is ∙ report_read left now bytes reads)
+pub bundle_found : (task : Task) (old now : Option (List ℕ)) (bytes text : List ℕ) (status : Status) → ReadsUpTo most_bundle old now bytes
+    → record { text = text; status = status } ≡ bundle_report task bytes → FindsFor (Some (jobs.OnBundle task)) old text status
+bundle_found task None now bytes text status reads is = (bytes, tt, is)
+bundle_found task (Some left) now bytes text status reads is = (left, refl, is ∙ report_read task left now bytes reads)
 
-pub check_drained : (old now : Option (List ℕ)) (bytes text : List ℕ) (status : Status) → ReadsUpTo most_bundle old now bytes
-    → record { text = text; status = status } ≡ check_report bytes → IsJudged status → IsDrained old now
-check_drained old now bytes text status reads is judged = elim (cases_lt most_bundle (length bytes)) [
+-- an answer of Done or No comes of bytes within the limit
+pub bundle_within : (task : Task) (bytes text : List ℕ) (status : Status) → record { text = text; status = status } ≡ bundle_report task bytes → IsJudged status
+    → length bytes ≤ most_bundle
+bundle_within task bytes text status is judged = elim (cases_lt most_bundle (length bytes)) [
   | inl over ↦
-      let faulty_is : status ≡ statuses.BadInput = ap (λ (r : Report). r.status) (is ∙ long_report bytes over) in
+      let faulty_is : status ≡ statuses.BadInput = ap (λ (r : Report). r.status) (is ∙ long_report task bytes over) in
       absurd (subst (λ (s : Status). IsJudged s) faulty_is judged)
-  | inr within ↦ reads.ended within
+  | inr within ↦ within
 ]
 
-pub check_few : (old now : Option (List ℕ)) (bytes : List ℕ) → ReadsUpTo most_bundle old now bytes → TakesAtMost (most_bundle + 1) old now
-check_few old now bytes reads = (bytes, reads.taken, reads.few)
+pub bundle_drained : (task : Task) (old now : Option (List ℕ)) (bytes text : List ℕ) (status : Status) → ReadsUpTo most_bundle old now bytes
+    → record { text = text; status = status } ≡ bundle_report task bytes → IsJudged status → IsDrained old now
+bundle_drained task old now bytes text status reads is judged = reads.ended (bundle_within task bytes text status is judged)
 
-pub check_sound : (old now : Option (List ℕ)) (bytes text : List ℕ) (status : Status) → ReadsUpTo most_bundle old now bytes
-    → record { text = text; status = status } ≡ check_report bytes → (status ≡ statuses.Done → IsSound bytes) → status ≡ statuses.Done
-    → IfSome old IsSound
-check_sound None now bytes text status reads is sound done = tt
-check_sound (Some left) now bytes text status reads is sound done =
+pub bundle_few : (old now : Option (List ℕ)) (bytes : List ℕ) → ReadsUpTo most_bundle old now bytes → TakesAtMost (most_bundle + 1) old now
+bundle_few old now bytes reads = (bytes, reads.taken, reads.few)
+
+pub bundle_sound : (task : Task) (old now : Option (List ℕ)) (bytes text : List ℕ) (status : Status) → ReadsUpTo most_bundle old now bytes
+    → record { text = text; status = status } ≡ bundle_report task bytes → (status ≡ statuses.Done → IsSound task bytes) → status ≡ statuses.Done
+    → IfSome old (IsSound task)
+bundle_sound task None now bytes text status reads is sound done = tt
+bundle_sound task (Some left) now bytes text status reads is sound done =
     let judged : IsJudged status = subst (λ (s : Status). IsJudged s) (sym done) tt in
-    let within : length bytes ≤ most_bundle = elim (cases_lt most_bundle (length bytes)) [
-      | inl over ↦
-          let faulty_is : status ≡ statuses.BadInput = ap (λ (r : Report). r.status) (is ∙ long_report bytes over) in
-          absurd (subst (λ (s : Status). IsJudged s) faulty_is judged)
-      | inr within ↦ within
-    ] in
-    subst (λ (b : List ℕ). IsSound b) (all_left most_bundle left now bytes reads within) (sound done)
+    subst (λ (b : List ℕ). IsSound task b) (all_left most_bundle left now bytes reads (bundle_within task bytes text status is judged)) (sound done)

@@ -1,27 +1,42 @@
--- Work with the verdict Yes is sound.
-use Rattle.std.proofs.Common.{◌≡◌, ℕ, List, Result, Ok, Err, IfOk, refl, sym, ◌∙◌, ap}
+-- What is reported with a Yes is sound, and the fill is always reported so.
+use Rattle.std.proofs.Common.{◌≡◌, ◌≢◌, ℕ, Bool, true, false, nat_lt, if◌then◌else◌, List, length, Result, Ok, Err, IfOk, refl, sym, ◌∙◌, ap, subst}
 use Rattle.npos_base.specs.declared.figures.Edge.{Edge}
 use Rattle.npos_base.specs.declared.figures.Score.{Score}
+use Rattle.npos_base.specs.declared.no_memory.NoMemory.{NoMemory}
+use Rattle.scale_wire.specs.declared.fault.WireFault.{WireFault}
+use Rattle.scale_wire.specs.WholeReading.{read_as}
 use Rattle.block_wire.specs.declared.bundle.Bundle.{Bundle}
 use Rattle.block_wire.specs.declared.bundle.Work.{Work}
-use Rattle.npos_base.specs.declared.no_memory.NoMemory.{NoMemory}
-use Rattle.npos_cli.specs.declared.checking.Answer.{Answer}
-use Rattle.npos_cli.specs.Answer.{report_of}
-use Rattle.npos_cli.specs.Elections.{snapshot_of}
 use Rattle.block_wire.specs.declared.bundle.Work.TheVariants.{Nothing, Packed, Plain}
+use Rattle.block_wire.specs.Bundles.{bundle_form}
+use Rattle.block_wire.specs.BundleLaws.{bundle_laws}
+use Rattle.election_snapshot.specs.declared.fault.SnapshotFault.{SnapshotFault}
 use Rattle.election_snapshot.specs.Snapshot.{Snapshot, IsWellFormed}
 use Rattle.weight_book.specs.Weights.{Weights}
 use Rattle.weight_book.proofs.AveragingLemmas.{averaging}
+use Rattle.quota_fill.specs.Filled.{filled}
+use Rattle.quota_fill.proofs.PassingLemmas.{fill_passes}
 use Rattle.election_check.specs.declared.verdict.Verdict.{Verdict}
 use Rattle.election_check.specs.declared.verdict.Verdict.TheVariants as verdicts
+use Rattle.election_check.specs.First.{or_yes}
 use Rattle.election_check.specs.Plain.{verdict_plain}
 use Rattle.election_check.specs.Packed.{verdict_packed, expanded}
 use Rattle.election_check.proofs.FaultLemmas.{plain_yes}
-use Rattle.election_check.proofs.PassingLemmas.{passes}
+use Rattle.election_check.proofs.PassingLemmas.{passes, no_plain_fault}
 use Rattle.election_check.proofs.PackedLemmas.{accepted}
+use Rattle.npos_cli.specs.declared.answers.Answer.{Answer}
+use Rattle.npos_cli.specs.declared.reading.Election.{Election}
+use Rattle.npos_cli.specs.declared.job.Task.{Task}
+use Rattle.npos_cli.specs.declared.job.Task.TheVariants as tasks
+use Rattle.npos_cli.specs.declared.job.Miner.TheVariants as miners
 use Rattle.npos_cli.specs.declared.status.Status.{Status}
 use Rattle.npos_cli.specs.declared.status.Status.TheVariants as statuses
-use Rattle.npos_cli.specs.Bundles.{Report, judged, verdict_status, work_report, IsWork, IsSoundWork}
+use Rattle.npos_cli.specs.Answer.{report_of}
+use Rattle.npos_cli.specs.Elections.{snapshot_of}
+use Rattle.npos_cli.specs.Texts.{fault_line}
+use Rattle.npos_cli.specs.Verdicts.{snapshot_line, long_line, most_bundle}
+use Rattle.npos_cli.specs.Bundles.{Report, faulty, verdict_status, election_of, read_election, election_in}
+use Rattle.npos_cli.specs.Tasks.{task_report, AreWeights, IsSoundElection, IsSound}
 
 -- only a Yes is done
 done_is_yes : (verdict : Verdict) → statuses.Done ≡ verdict_status verdict → verdict ≡ verdicts.Yes
@@ -39,37 +54,127 @@ done_is_yes (verdicts.Outweighed target prescore) e = cc
 done_is_yes (verdicts.Overspent voter) e = cc
 
 -- weights with a plain Yes pass, and so are proportional
-sound_weights : (snapshot : Snapshot) (work : Work) (weights : Weights) → IsWellFormed snapshot → IsWork snapshot work weights
-    → verdict_plain snapshot weights ≡ verdicts.Yes → IsSoundWork snapshot work
-sound_weights snapshot work weights well is yes_is =
-    let passing = passes snapshot weights (plain_yes snapshot weights yes_is) in
-    record { weights = weights; is_work = is; feasible = passing.feasible; proportional = averaging snapshot weights well passing }
+sound_weights : (task : Task) (election : Election) (weights : Weights) → IsWellFormed election.snapshot → AreWeights task election weights
+    → verdict_plain election.snapshot weights ≡ verdicts.Yes → IsSoundElection task election
+sound_weights task election weights well are yes_is =
+    let passing = passes election.snapshot weights (plain_yes election.snapshot weights yes_is) in
+    record { weights = weights; are_weights = are; feasible = passing.feasible; proportional = averaging election.snapshot weights well passing }
 
-sound_plain : (snapshot : Snapshot) (committee : List ℕ) (edges : List Edge) → IsWellFormed snapshot
-    → verdict_plain snapshot (record { committee = committee; edges = edges }) ≡ verdicts.Yes → IsSoundWork snapshot (Plain committee edges)
-sound_plain snapshot committee edges well yes_is =
-    sound_weights snapshot (Plain committee edges) (record { committee = committee; edges = edges }) well refl yes_is
+abbrev on_work : Snapshot → Work → Election
+on_work snapshot work = record { snapshot = snapshot; work = work }
 
-sound_packed : (snapshot : Snapshot) (claim : Score) (bytes : List ℕ) → IsWellFormed snapshot
-    → verdict_packed snapshot claim bytes ≡ verdicts.Yes → IsSoundWork snapshot (Packed claim bytes)
-sound_packed snapshot claim bytes well yes_is =
-    let a = accepted snapshot claim bytes yes_is in
-    sound_weights snapshot (Packed claim bytes) (expanded snapshot a.solution) well (a.solution, a.decoded_is, refl, a.claimed) a.plain_yes
-
-pub sound_work : (size : ℕ) (snapshot : Snapshot) (work : Work) (report : Report) → IsWellFormed snapshot → report ≡ work_report size snapshot work
-    → report.status ≡ statuses.Done → IsSoundWork snapshot work
-sound_work size snapshot Nothing report well is done =
+sound_check : (size : ℕ) (snapshot : Snapshot) (work : Work) (report : Report) → IsWellFormed snapshot → report ≡ task_report tasks.Check size (on_work snapshot work)
+    → report.status ≡ statuses.Done → IsSoundElection tasks.Check (on_work snapshot work)
+sound_check size snapshot Nothing report well is done =
     let e : statuses.Done ≡ statuses.BadInput = sym done ∙ ap (λ (r : Report). r.status) is in absurd (cc)
-sound_work size snapshot (Packed claim bytes) report well is done =
-    sound_packed snapshot claim bytes well (done_is_yes (verdict_packed snapshot claim bytes) (sym done ∙ ap (λ (r : Report). r.status) is))
-sound_work size snapshot (Plain committee edges) report well is done =
-    sound_plain snapshot committee edges well
-    (done_is_yes (verdict_plain snapshot (record { committee = committee; edges = edges })) (sym done ∙ ap (λ (r : Report). r.status) is))
+sound_check size snapshot (Packed claim bytes) report well is done =
+    let a = accepted snapshot claim bytes (done_is_yes (verdict_packed snapshot claim bytes) (sym done ∙ ap (λ (r : Report). r.status) is)) in
+    sound_weights tasks.Check (on_work snapshot (Packed claim bytes)) (expanded snapshot a.solution) well (a.solution, a.decoded_is, refl, a.claimed) a.plain_yes
+sound_check size snapshot (Plain committee edges) report well is done =
+    let weights : Weights = record { committee = committee; edges = edges } in
+    sound_weights tasks.Check (on_work snapshot (Plain committee edges)) weights well refl
+    (done_is_yes (verdict_plain snapshot weights) (sym done ∙ ap (λ (r : Report). r.status) is))
 
--- an answer on the election of a bundle that is done tells of sound work
-pub sound_answer : (size : ℕ) (bundle : Bundle) (snapshot : Snapshot) (result : Result Answer NoMemory) → IsWellFormed snapshot
-    → snapshot_of bundle ≡ Ok snapshot → IfOk result (λ answer. report_of answer ≡ work_report size snapshot bundle.work)
-    → IfOk result (λ answer. answer.status ≡ statuses.Done → (s : Snapshot) × (snapshot_of bundle ≡ Ok s) × IsSoundWork s bundle.work)
-sound_answer size bundle snapshot (Ok answer) well is report = λ done.
-    (snapshot, is, sound_work size snapshot bundle.work (report_of answer) well report done)
-sound_answer size bundle snapshot (Err want) well is report = tt
+sound_task : (task : Task) (size : ℕ) (election : Election) (report : Report) → IsWellFormed election.snapshot → report ≡ task_report task size election
+    → report.status ≡ statuses.Done → IsSoundElection task election
+sound_task tasks.Check size election report well is done = sound_check size election.snapshot election.work report well is done
+sound_task (tasks.Mine miners.Fill) size election report well is done =
+    sound_weights (tasks.Mine miners.Fill) election (filled election.snapshot) well refl
+    (done_is_yes (verdict_plain election.snapshot (filled election.snapshot)) (sym done ∙ ap (λ (r : Report). r.status) is))
+
+-- an answer on an election that is done tells of sound weights
+pub sound_answer : (task : Task) (size : ℕ) (election : Election) (result : Result Answer NoMemory) → IsWellFormed election.snapshot
+    → IfOk result (λ answer. report_of answer ≡ task_report task size election)
+    → IfOk result (λ answer. answer.status ≡ statuses.Done → IsSoundElection task election)
+sound_answer task size election (Ok answer) well report = λ done. sound_task task size election (report_of answer) well report done
+sound_answer task size election (Err want) well report = tt
+
+-- ## The fill
+
+pub fill_is_yes : (snapshot : Snapshot) → IsWellFormed snapshot → verdict_plain snapshot (filled snapshot) ≡ verdicts.Yes
+fill_is_yes snapshot well = ap or_yes (no_plain_fault snapshot (filled snapshot) (fill_passes snapshot well))
+
+fill_is_done : (task : Task) (size : ℕ) (election : Election) (report : Report) → IsWellFormed election.snapshot → report ≡ task_report task size election
+    → task ≡ tasks.Mine miners.Fill → report.status ≡ statuses.Done
+fill_is_done task size election report well is asked =
+    ap (λ (r : Report). r.status) (is ∙ ap (λ (t : Task). task_report t size election) asked)
+    ∙ ap verdict_status (fill_is_yes election.snapshot well)
+
+done_is_no_no : (status : Status) → status ≡ statuses.Done → status ≢ statuses.No
+done_is_no_no status done = λ refused. let e : statuses.Done ≡ statuses.No = sym done ∙ refused in cc
+
+pub fill_answer : (task : Task) (size : ℕ) (election : Election) (result : Result Answer NoMemory) → IsWellFormed election.snapshot
+    → IfOk result (λ answer. report_of answer ≡ task_report task size election)
+    → task ≡ tasks.Mine miners.Fill → IfOk result (λ answer. answer.status ≢ statuses.No)
+fill_answer task size election (Ok answer) well report asked = done_is_no_no answer.status (fill_is_done task size election (report_of answer) well report asked)
+fill_answer task size election (Err want) well report asked = tt
+
+-- ## Bytes
+
+abbrev as_err : Report → Result Election Report
+as_err report = Err report
+
+bad : (other report : Report) → as_err other ≡ as_err report → other.status ≡ statuses.BadInput → report.status ≡ statuses.BadInput
+bad other report e is = let same : other ≡ report = cc in ap (λ (r : Report). r.status) (sym same) ∙ is
+
+built_bad : (bundle : Bundle) (built : Result Snapshot SnapshotFault) (report : Report) → election_of bundle built ≡ Err report → report.status ≡ statuses.BadInput
+built_bad bundle (Ok snapshot) report e = absurd (cc)
+built_bad bundle (Err fault) report e = bad (faulty (snapshot_line fault)) report e refl
+
+read_bad : (read : Result Bundle WireFault) (report : Report) → read_election read ≡ Err report → report.status ≡ statuses.BadInput
+read_bad (Ok bundle) report e = built_bad bundle (snapshot_of bundle) report e
+read_bad (Err fault) report e = bad (faulty (fault_line fault.at fault.why)) report e refl
+
+-- the report of a first fault ends with a fault line
+pub refused_is_bad : (bytes : List ℕ) (report : Report) → election_in bytes ≡ Err report → report.status ≡ statuses.BadInput
+refused_is_bad bytes report e = by (nat_lt most_bundle (length bytes)) e where
+  by : (b : Bool) → (if b then Err (faulty long_line) else read_election (read_as bundle_form bundle_laws bytes)) ≡ Err report → report.status ≡ statuses.BadInput
+  by true e = bad (faulty long_line) report e refl
+  by false e = read_bad (read_as bundle_form bundle_laws bytes) report e
+
+record IsRead (bytes : List ℕ) (election : Election) : Type 0 where
+  pub bundle : Bundle
+  pub is_bundle : read_as bundle_form bundle_laws bytes ≡ Ok bundle
+  pub snapshot : Snapshot
+  pub is_snapshot : snapshot_of bundle ≡ Ok snapshot
+  pub is_election : on_work snapshot bundle.work ≡ election
+
+was_read : (bytes : List ℕ) (election : Election) → election_in bytes ≡ Ok election → IsRead bytes election
+was_read bytes election e = by (nat_lt most_bundle (length bytes)) e where
+  built : (bundle : Bundle) → read_as bundle_form bundle_laws bytes ≡ Ok bundle → (found : Result Snapshot SnapshotFault) → snapshot_of bundle ≡ found
+      → election_of bundle found ≡ Ok election → IsRead bytes election
+  built bundle is (Ok snapshot) found e = record { bundle = bundle; is_bundle = is; snapshot = snapshot; is_snapshot = found; is_election = let same : on_work snapshot bundle.work ≡ election = cc in same }
+  built bundle is (Err fault) found e = absurd (cc)
+
+  read : (r : Result Bundle WireFault) → read_as bundle_form bundle_laws bytes ≡ r → read_election r ≡ Ok election → IsRead bytes election
+  read (Ok bundle) is e = built bundle is (snapshot_of bundle) refl e
+  read (Err fault) is e = absurd (cc)
+
+  by : (b : Bool) → (if b then Err (faulty long_line) else read_election (read_as bundle_form bundle_laws bytes)) ≡ Ok election → IsRead bytes election
+  by true e = absurd (cc)
+  by false e = read (read_as bundle_form bundle_laws bytes) refl e
+
+pub sound_bytes : (task : Task) (bytes : List ℕ) (election : Election) → election_in bytes ≡ Ok election → IsSoundElection task election → IsSound task bytes
+sound_bytes task bytes election e sound =
+    let read = was_read bytes election e in
+    record {
+      bundle = read.bundle;
+      is_bundle = read.is_bundle;
+      snapshot = read.snapshot;
+      is_snapshot = read.is_snapshot;
+      election = subst (λ (x : Election). IsSoundElection task x) (sym read.is_election) sound;
+    }
+
+-- an answer on bytes with an election that is done tells of sound weights
+pub sound_reading : (task : Task) (bytes : List ℕ) (election : Election) (result : Result Answer NoMemory) → election_in bytes ≡ Ok election
+    → IfOk result (λ answer. answer.status ≡ statuses.Done → IsSoundElection task election)
+    → IfOk result (λ answer. answer.status ≡ statuses.Done → IsSound task bytes)
+sound_reading task bytes election (Ok answer) e sound = λ done. sound_bytes task bytes election e (sound done)
+sound_reading task bytes election (Err want) e sound = tt
+
+-- and a refused one is neither done nor a No
+pub refused_not_done : (task : Task) (bytes : List ℕ) (report : Report) → election_in bytes ≡ Err report → report.status ≡ statuses.Done → IsSound task bytes
+refused_not_done task bytes report e done = let same : statuses.Done ≡ statuses.BadInput = sym done ∙ refused_is_bad bytes report e in absurd (cc)
+
+pub refused_not_no : (bytes : List ℕ) (report : Report) → election_in bytes ≡ Err report → report.status ≢ statuses.No
+refused_not_no bytes report e = λ refused. let same : statuses.No ≡ statuses.BadInput = sym refused ∙ refused_is_bad bytes report e in cc

@@ -6,6 +6,8 @@ pub mod Words
 pub mod Elections
 pub mod Verdicts
 pub mod Bundles
+pub mod Mining
+pub mod Tasks
 pub mod Report
 pub mod Owed
 pub mod Ahead

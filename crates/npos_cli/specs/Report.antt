@@ -9,7 +9,7 @@ use Rattle.npos_cli.specs.declared.status.Status.TheVariants as statuses
 use Rattle.npos_cli.specs.Words.{job_of, usage_line}
 use Rattle.npos_cli.specs.Replay.{Outcome, IsReplay}
 use Rattle.npos_cli.specs.Chain.{npos_machine}
-use Rattle.npos_cli.specs.Bundles.{check_report}
+use Rattle.npos_cli.specs.Tasks.{bundle_report}
 
 -- a replay is done, unless it ends with a fault line
 abbrev pub replay_status : Bool → Status
@@ -21,7 +21,7 @@ abbrev pub JobOwes : Option Job → List ℕ → List ℕ → Status → Type 0
 JobOwes None bytes text status = (text ≡ usage_line) × (status ≡ statuses.Usage)
 JobOwes (Some jobs.Replay) bytes text status =
     (out : Outcome Chain Election) × IsReplay npos_machine bytes out × (text ≡ out.text) × (status ≡ replay_status out.faulty)
-JobOwes (Some jobs.Check) bytes text status = record { text = text; status = status } ≡ check_report bytes
+JobOwes (Some (jobs.OnBundle task)) bytes text status = record { text = text; status = status } ≡ bundle_report task bytes
 
 abbrev pub Owes : List (List ℕ) → List ℕ → List ℕ → Status → Type 0
 Owes words = JobOwes (job_of words)
@@ -30,7 +30,13 @@ Owes words = JobOwes (job_of words)
 abbrev pub ReadsInput : Option Job → Type 0
 ReadsInput None = ⊥
 ReadsInput (Some jobs.Replay) = ⊤
-ReadsInput (Some jobs.Check) = ⊤
+ReadsInput (Some (jobs.OnBundle task)) = ⊤
+
+-- whether a job reads a bundle
+abbrev pub ReadsBundle : Option Job → Type 0
+ReadsBundle None = ⊥
+ReadsBundle (Some jobs.Replay) = ⊥
+ReadsBundle (Some (jobs.OnBundle task)) = ⊤
 
 -- a status that answers what is owed; the others say that the run was cut off
 abbrev pub IsAnswer : Status → Type 0

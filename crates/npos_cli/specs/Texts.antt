@@ -9,6 +9,10 @@ use Rattle.scale_wire.specs.declared.fault.Why.TheVariants.{Short, NotShortest, 
 abbrev pub newline : List ℕ
 newline = 10 ∷ []
 
+-- the bytes of an account, each as two digits in hexadecimal, in lower case
+abbrev pub account_text : AccountId → List ℕ
+account_text who = encode_lower (account_bytes who)
+
 abbrev pub word_of : Why → List ℕ
 word_of Short = codes "short"
 word_of NotShortest = codes "notshortest"

@@ -7,7 +7,8 @@ use Rattle.election_snapshot.specs.declared.fault.SnapshotFault.{SnapshotFault}
 use Rattle.election_snapshot.specs.declared.fault.SnapshotFault.TheVariants as faults
 use Rattle.election_check.specs.declared.verdict.Verdict.{Verdict}
 use Rattle.election_check.specs.declared.verdict.Verdict.TheVariants as verdicts
-use Rattle.npos_cli.specs.Texts.{newline}
+use Rattle.npos_base.specs.declared.account.AccountId.{AccountId}
+use Rattle.npos_cli.specs.Texts.{newline, account_text}
 
 abbrev pub number_text : ℕ → List ℕ
 number_text number = codes " " ++ decimal number
@@ -32,6 +33,13 @@ verdict_numbers (verdicts.Overspent voter) = 11 ∷ voter ∷ []
 
 abbrev pub verdict_line : Verdict → List ℕ
 verdict_line verdict = numbers_line (codes "verdict") (verdict_numbers verdict)
+
+-- a member of a committee, with its support
+abbrev pub member_line : AccountId → ℕ → List ℕ
+member_line who support = codes "member " ++ (account_text who ++ (number_text support ++ newline))
+
+abbrev pub score_line : Score → List ℕ
+score_line score = numbers_line (codes "score") (score.minimal ∷ score.sum ∷ score.squares ∷ [])
 
 -- The number of the fault and its detail: both counts where one is too small for the other, and else the position of the
 -- account, the one that an account too many would have had, or the seats. Want of memory has no line.

@@ -1,113 +1,17 @@
-//! What `check` makes of the bytes of a bundle.
-ghost use Rattle.std.specs.Prelude.{◌≡◌, ◌<◌, ◌≤◌, ◌++◌, [], length, IfOk, OnOk, Ok};
-ghost use Rattle.election_snapshot.specs.Snapshot.{Snapshot as instance, IsWellFormed};
+//! What `check` makes of the work on an election.
+ghost use Rattle.std.specs.Prelude.{◌≡◌, ◌≤◌, ◌++◌, length, IfOk};
 ghost use Rattle.election_check.specs.Plain.{verdict_plain};
 ghost use Rattle.election_check.specs.Packed.{verdict_packed};
-ghost use Rattle.npos_cli.specs.Elections.{snapshot_of};
-ghost use Rattle.npos_cli.specs.Texts.{fault_line};
-ghost use Rattle.npos_cli.specs.Verdicts.{no_solution_line, long_line, snapshot_line};
-ghost use Rattle.npos_cli.specs.Bundles.{Report, faulty, judged, verdict_status, work_report, read_report, check_report, IsSound, IsSoundWork};
-ghost use Rattle.npos_cli.specs.declared.status.Status.TheVariants as statuses;
+ghost use Rattle.npos_cli.specs.Bundles.{work_report};
 ghost use Rattle.npos_cli.specs.Answer.{report_of};
 
-use crate::Status;
-use crate::election::snapshot_of;
-use crate::numbers::{tell_snapshot_fault, tell_verdict};
-use crate::telling::{Piece, tell, tell_fault};
-use block_wire::{Bundle, Work};
+use crate::answers::{Answer, told, unsolved};
+use block_wire::Work;
 use election_check::{Checker, Verdict};
-use election_snapshot::{Snapshot, SnapshotFault};
+use election_snapshot::Snapshot;
 use npos_base::{Edge, NoMemory, Score};
-use scale_wire::fault::{ReadFault, WireFault};
-use scale_wire::read_whole;
 use std::alloc::Global;
 use weight_book::Weights;
-
-/// The most bytes of a bundle.
-pub const MOST_BUNDLE: usize = 16_777_216;
-
-/// A text, and the status that it is told with.
-#[derive(Drop)]
-pub struct Answer {
-    pub text: Vec<u8>,
-    pub status: Status,
-}
-
-/// The answer of a bundle that is too long.
-fn long(alloc: Global) -> Result<Answer, NoMemory>
-    ensures { IfOk result (λ answer. report_of answer ≡ faulty long_line) }
-{
-    let mut text = Vec::new(alloc);
-    tell(&mut text, &[Piece::Words("fault 16777216 long\n")])?;
-    Ok(Answer {
-        text,
-        status: Status::BadInput,
-    })
-}
-
-/// The answer of bytes that spell no bundle.
-fn refused(alloc: Global, fault: WireFault) -> Result<Answer, NoMemory>
-    ensures { IfOk result (λ answer. report_of answer ≡ faulty (fault_line fault.at fault.why)) }
-{
-    let mut text = Vec::new(alloc);
-    tell_fault(&mut text, fault.at, fault.why)?;
-    Ok(Answer {
-        text,
-        status: Status::BadInput,
-    })
-}
-
-/// The answer of a bundle whose election has a fault.
-fn unelectable(alloc: Global, fault: SnapshotFault) -> Result<Answer, NoMemory>
-    ensures line { IfOk result (λ answer. report_of answer ≡ faulty (snapshot_line fault)) }
-{
-    let mut text = Vec::new(alloc);
-    tell_snapshot_fault(&mut text, fault)?;
-    Ok(Answer {
-        text,
-        status: Status::BadInput,
-    })
-}
-
-/// The answer of a bundle without work, whose tag stands at this place.
-fn unsolved(alloc: Global, at: u64) -> Result<Answer, NoMemory>
-    ensures { IfOk result (λ answer. report_of answer ≡ faulty (no_solution_line at)) }
-{
-    let mut text = Vec::new(alloc);
-    tell(
-        &mut text,
-        &[
-            Piece::Words("fault "),
-            Piece::Number(at),
-            Piece::Words(" nosolution\n"),
-        ],
-    )?;
-    Ok(Answer {
-        text,
-        status: Status::BadInput,
-    })
-}
-
-/// The answer of a verdict.
-fn judged(alloc: Global, verdict: Verdict) -> Result<Answer, NoMemory>
-    ensures { IfOk result (λ answer. report_of answer ≡ judged verdict) }
-{
-    let mut text = Vec::new(alloc);
-    tell_verdict(&mut text, verdict)?;
-    Ok(Answer {
-        text,
-        status: verdict_status(verdict),
-    })
-}
-
-fn verdict_status(verdict: Verdict) -> Status
-    ensures { result ≡ verdict_status verdict }
-{
-    match verdict {
-        Verdict::Yes => Status::Done,
-        _ => Status::No,
-    }
-}
 
 /// Appends the members, for which there is room.
 fn push_members(weights: &mut Weights, members: &[u16])
@@ -148,7 +52,8 @@ fn weights_of(
     Ok(weights)
 }
 
-fn checker_of(alloc: Global, snapshot: Snapshot) -> Result<Checker, NoMemory>
+/// A checker for this snapshot.
+pub fn checker_of(alloc: Global, snapshot: Snapshot) -> Result<Checker, NoMemory>
     ensures { IfOk result (λ checker. checker ≡ snapshot) }
 {
     match Checker::new(alloc, snapshot) {
@@ -186,55 +91,23 @@ fn packed_verdict(
 }
 
 /// The answer on the work of a bundle that has so many bytes.
-fn check_work(alloc: Global, snapshot: Snapshot, work: &Work, size: u64) -> Result<Answer, NoMemory>
-    requires { 1 ≤ size }
-    ensures report { IfOk result (λ answer. report_of answer ≡ work_report size snapshot work.now) }
-    ensures well_formed { IsWellFormed snapshot }
+pub fn check_work(
+    alloc: Global,
+    snapshot: Snapshot,
+    work: &Work,
+    size: u64,
+) -> Result<Answer, NoMemory>
+    ensures { IfOk result (λ answer. report_of answer ≡ work_report size snapshot work.now) }
 {
-    let _seats = snapshot.seats();
     match work {
-        Work::Nothing => unsolved(alloc, size - 1),
+        Work::Nothing => unsolved(alloc, size.saturating_sub(1)),
         Work::Packed { claim, bytes } => {
             let verdict = packed_verdict(alloc, snapshot, claim, bytes.as_slice())?;
-            judged(alloc, verdict)
+            told(Vec::new(alloc), verdict)
         }
         Work::Plain { committee, edges } => {
             let verdict = plain_verdict(alloc, snapshot, committee.as_slice(), edges.as_slice())?;
-            judged(alloc, verdict)
+            told(Vec::new(alloc), verdict)
         }
-    }
-}
-
-/// The answer on a bundle that has so many bytes. Targets and voters go once the election is built.
-fn check_bundle(alloc: Global, bundle: Bundle, size: u64) -> Result<Answer, NoMemory>
-    requires { 1 ≤ size }
-    ensures report { IfOk result (λ answer. report_of answer ≡ read_report size (Ok bundle)) }
-    ensures sound { IfOk result (λ answer. answer.status ≡ statuses.Done
-        → (snapshot : instance) × (snapshot_of bundle ≡ Ok snapshot) × IsSoundWork snapshot bundle.work) }
-{
-    let elected = snapshot_of(alloc, &bundle);
-    let Bundle { work, .. } = bundle;
-    match elected {
-        Ok(snapshot) => check_work(alloc, snapshot, &work, size),
-        Err(SnapshotFault::NoMemory) => Err(NoMemory),
-        Err(fault) => unelectable(alloc, fault),
-    }
-}
-
-/// The answer on the bytes of a bundle, which go once they are read.
-pub fn check_bytes(alloc: Global, bytes: Vec<u8>) -> Result<Answer, NoMemory>
-    ensures report { IfOk result (λ answer. report_of answer ≡ check_report bytes.items) }
-    ensures sound { IfOk result (λ answer. answer.status ≡ statuses.Done → IsSound bytes.items) }
-{
-    let size = bytes.len();
-    if size > MOST_BUNDLE {
-        return long(alloc);
-    }
-    let read = read_whole::<Bundle>(alloc, bytes.as_slice());
-    drop(bytes);
-    match read {
-        Ok(bundle) => check_bundle(alloc, bundle, size as u64),
-        Err(ReadFault::Wire(fault)) => refused(alloc, fault),
-        Err(ReadFault::NoMemory) => Err(NoMemory),
     }
 }

@@ -1,14 +1,31 @@
 //! What the words of a call ask for.
 ghost use Rattle.std.specs.Prelude.{◌≡◌, map, string_bytes};
-ghost use Rattle.npos_cli.specs.Words.{job_of, has_word};
+ghost use Rattle.npos_cli.specs.Words.{job_of, has_word, asks_for_fill};
 
 /// What the program is to do.
 #[derive(Clone, Copy, Debug, PartialEq, Eq)]
 pub enum Job {
     /// To replay a stream.
     Replay,
-    /// To check the work of a bundle.
+    /// To read a bundle and to report on it.
+    OnBundle(Task),
+}
+
+/// What is to be reported of a bundle.
+#[derive(Clone, Copy, Debug, PartialEq, Eq)]
+pub enum Task {
+    /// The verdict on its work.
     Check,
+    /// The committee that a miner makes of its election, with the verdict on that. The work of the
+    /// bundle is not looked at.
+    Mine(Miner),
+}
+
+/// Who makes a committee.
+#[derive(Clone, Copy, Debug, PartialEq, Eq)]
+pub enum Miner {
+    /// The greedy fill, which always passes.
+    Fill,
 }
 
 /// Whether the word at this place is this text.
@@ -21,6 +38,16 @@ fn has_word(words: &[String], place: usize, text: &str) -> bool
     }
 }
 
+/// Whether the words ask for the fill of a bundle's election.
+fn asks_for_fill(words: &[String]) -> bool
+    ensures { result ≡ asks_for_fill (map string_bytes words.now) }
+{
+    words.len() == 4
+        && has_word(words, 1, "mine")
+        && has_word(words, 2, "--miner")
+        && has_word(words, 3, "fill")
+}
+
 /// The job that the words ask for. The first word is the program's name, which is not looked at.
 pub fn job_of(words: &[String]) -> Option<Job>
     ensures { result ≡ job_of (map string_bytes words.now) }
@@ -28,7 +55,9 @@ pub fn job_of(words: &[String]) -> Option<Job>
     if words.len() == 2 && has_word(words, 1, "replay") {
         Some(Job::Replay)
     } else if words.len() == 2 && has_word(words, 1, "check") {
-        Some(Job::Check)
+        Some(Job::OnBundle(Task::Check))
+    } else if asks_for_fill(words) {
+        Some(Job::OnBundle(Task::Mine(Miner::Fill)))
     } else {
         None
     }

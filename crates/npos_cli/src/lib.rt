@@ -1,6 +1,7 @@
 //! The top call of npos: words and bytes in, receipts and a status out.
 #![tactic(auto)]
 
+mod answers;
 #[cfg(test)]
 mod check_tests;
 mod checking;
@@ -10,12 +11,15 @@ mod held;
 mod input;
 mod job;
 pub mod laws;
+mod mining;
 mod numbers;
 pub mod promises;
+mod reading;
 mod replaying;
 mod status;
 #[cfg(test)]
 mod stream_tests;
+mod tasks;
 mod telling;
 #[cfg(test)]
 mod tests;

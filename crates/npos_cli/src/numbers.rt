@@ -1,12 +1,14 @@
 //! Lines of words and numbers.
-ghost use Rattle.std.specs.Prelude.{◌≡◌, ◌≢◌, [], ◌∷◌, ◌++◌, flat_map, codes, OnOk};
+ghost use Rattle.std.specs.Prelude.{◌≡◌, ◌≢◌, [], ◌∷◌, ◌++◌, flat_map, codes, string_bytes, IfOk, OnOk};
 ghost use Rattle.election_snapshot.specs.declared.fault.SnapshotFault.TheVariants as faults;
-ghost use Rattle.npos_cli.specs.Verdicts.{number_text, numbers_line, verdict_numbers, verdict_line, fault_numbers, snapshot_line};
+ghost use Rattle.npos_cli.specs.Texts.{account_text};
+ghost use Rattle.npos_cli.specs.Verdicts.{number_text, numbers_line, member_line, score_line, verdict_numbers, verdict_line, fault_numbers, snapshot_line};
 
 use election_check::Verdict;
 use election_snapshot::SnapshotFault;
 use itoa::Buffer;
-use npos_base::{MOST_TARGETS, MOST_VOTERS, NoMemory};
+use npos_base::{AccountId, MOST_TARGETS, MOST_VOTERS, NoMemory, Score};
+use std::alloc::Global;
 
 /// Appends a number in decimal, behind a blank.
 fn tell_number(text: &mut Vec<u8>, number: u128) -> Result<(), NoMemory>
@@ -35,6 +37,46 @@ fn tell_line(text: &mut Vec<u8>, words: &str, numbers: &[u128]) -> Result<(), No
     tell_numbers(text, numbers)?;
     text.extend_from_slice(b"\n")?;
     Ok(())
+}
+
+/// An account in hexadecimal.
+fn text_of(alloc: Global, who: AccountId) -> Result<String, NoMemory>
+    ensures { IfOk result (λ text. string_bytes text ≡ account_text who) }
+{
+    let text = hex::encode(alloc, who.to_bytes())?;
+    Ok(text)
+}
+
+/// Appends the line of a member with its support.
+pub fn tell_member(
+    text: &mut Vec<u8>,
+    alloc: Global,
+    who: AccountId,
+    support: u128,
+) -> Result<(), NoMemory>
+    ensures { OnOk result (text.new.items ≡ text.old.items ++ member_line who support) }
+{
+    let account = text_of(alloc, who)?;
+    text.extend_from_slice(b"member ")?;
+    text.extend_from_slice(account.as_bytes())?;
+    tell_number(text, support)?;
+    text.extend_from_slice(b"\n")?;
+    Ok(())
+}
+
+/// Appends the line of a score.
+pub fn tell_score(text: &mut Vec<u8>, score: &Score) -> Result<(), NoMemory>
+    ensures { OnOk result (text.new.items ≡ text.old.items ++ score_line score.now) }
+{
+    tell_line(
+        text,
+        "score",
+        &[
+            u128::from(score.minimal),
+            u128::from(score.sum),
+            score.squares,
+        ],
+    )
 }
 
 /// Appends the line of a verdict.

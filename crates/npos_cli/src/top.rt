@@ -1,24 +1,29 @@
 //! The top call.
-ghost use Rattle.std.specs.Prelude.{◌≡◌, ◌⊎◌, ◌<◌, ◌+◌, None, Some, map, IfOk, IfSome, string_bytes};
+ghost use Rattle.std.specs.Prelude.{◌≡◌, ◌≢◌, ◌⊎◌, ◌<◌, ◌+◌, None, Some, map, IfOk, IfSome, string_bytes};
 ghost use Rattle.npos_base.specs.Outside.{Rose};
 ghost use Rattle.npos_cli.specs.declared.job.Job.TheVariants as jobs;
+ghost use Rattle.npos_cli.specs.declared.job.Task.{Task as task_kind};
+ghost use Rattle.npos_cli.specs.declared.job.Task.TheVariants as tasks;
+ghost use Rattle.npos_cli.specs.declared.job.Miner.TheVariants as miners;
 ghost use Rattle.npos_cli.specs.Words.{job_of};
-ghost use Rattle.npos_cli.specs.Report.{ReadsInput, IsAnswer, IsJudged, replay_status};
+ghost use Rattle.npos_cli.specs.Report.{ReadsInput, ReadsBundle, IsAnswer, IsJudged, replay_status};
 ghost use Rattle.npos_cli.specs.Books.{BooksBalance};
 ghost use Rattle.npos_cli.specs.Headline.{SeatsAreSound};
 ghost use Rattle.npos_cli.specs.Verdicts.{most_bundle};
-ghost use Rattle.npos_cli.specs.Bundles.{IsSound};
+ghost use Rattle.npos_cli.specs.Tasks.{IsSound};
 ghost use Rattle.npos_cli.specs.declared.status.Status.TheVariants as statuses;
 ghost use Rattle.npos_cli.specs.Owed.{Finds, FindsFor, Answers, BeginsToAnswer, IsDrained, TakesAtMost, HaltsWell, KeepsFlushed};
 ghost use Rattle.npos_cli.specs.Due.{due_text, due_status};
 
 use crate::Status;
-use crate::checking::{Answer, MOST_BUNDLE, check_bytes};
+use crate::answers::Answer;
 use crate::edges::deliver;
 use crate::input::read_up_to;
-use crate::job::{Job, job_of};
+use crate::job::{Job, Task, job_of};
 use crate::laws::replays_seat_sound_committees;
+use crate::reading::MOST_BUNDLE;
 use crate::replaying::replay;
+use crate::tasks::answer_bytes;
 use npos_base::{Failed, Sink, Source};
 use std::alloc::Global;
 
@@ -80,20 +85,23 @@ fn replay_due<S: Source>(alloc: Global, source: &mut S) -> Result<Due, Status>
     })
 }
 
-/// Checks the bundle that is left in the source, of which no more than one byte beyond the limit is
-/// read. The status of an Err is ReadFault or NoMemory.
-#[tactic(auto, using(crate::proofs::RunLaws::check_found, crate::proofs::RunLaws::check_drained, crate::proofs::RunLaws::check_few, crate::proofs::RunLaws::check_sound))]
-fn check_due<S: Source>(alloc: Global, source: &mut S) -> Result<Due, Status>
-    ensures due { IfOk result (λ due. FindsFor (Some jobs.Check) (S.left source.old)
+/// Reads the bundle that is left in the source, no more than one byte beyond the limit, and reports
+/// on it. The status of an Err is ReadFault or NoMemory.
+#[tactic(auto, using(crate::proofs::RunLaws::bundle_found, crate::proofs::RunLaws::bundle_drained, crate::proofs::RunLaws::bundle_few, crate::proofs::RunLaws::bundle_sound))]
+fn bundle_due<S: Source>(alloc: Global, source: &mut S, task: Task) -> Result<Due, Status>
+    ensures due { IfOk result (λ due. FindsFor (Some (jobs.OnBundle task)) (S.left source.old)
         (due_text due) (due_status due)) }
     ensures drained { IfOk result (λ due. IsJudged (due_status due)
         → IsDrained (S.left source.old) (S.left source.new)) }
     ensures few { IfOk result (λ _. TakesAtMost (most_bundle + 1) (S.left source.old) (S.left source.new)) }
-    ensures sound { IfOk result (λ due. due_status due ≡ statuses.Done → IfSome (S.left source.old) IsSound) }
+    ensures sound { IfOk result (λ due. due_status due ≡ statuses.Done
+        → IfSome (S.left source.old) (IsSound task)) }
+    ensures passes { task ≡ tasks.Mine miners.Fill
+        → IfOk result (λ due. due_status due ≢ statuses.No) }
     ensures halts { HaltsWell (S.faults source.old) (S.faults source.new) result }
 {
     let bytes = read_up_to(alloc, source, MOST_BUNDLE)?;
-    let Answer { text, status } = check_bytes(alloc, bytes)?;
+    let Answer { text, status } = answer_bytes(alloc, bytes, task)?;
     Ok(Due::Answer { text, status })
 }
 
@@ -110,16 +118,20 @@ fn prepare<S: Source>(alloc: Global, words: &[String], source: &mut S) -> Result
     ensures drained { IfOk result (λ due. IsJudged (due_status due)
         → ReadsInput (job_of (map string_bytes words.now))
         → IsDrained (S.left source.old) (S.left source.new)) }
-    ensures few { job_of (map string_bytes words.now) ≡ Some jobs.Check → IfOk result (λ _.
+    ensures few { ReadsBundle (job_of (map string_bytes words.now)) → IfOk result (λ _.
         TakesAtMost (most_bundle + 1) (S.left source.old) (S.left source.new)) }
-    ensures sound { job_of (map string_bytes words.now) ≡ Some jobs.Check → IfOk result (λ due.
-        due_status due ≡ statuses.Done → IfSome (S.left source.old) IsSound) }
+    ensures sound { (task : task_kind) → job_of (map string_bytes words.now) ≡ Some (jobs.OnBundle task)
+        → IfOk result (λ due. due_status due ≡ statuses.Done
+        → IfSome (S.left source.old) (IsSound task)) }
+    ensures passes { job_of (map string_bytes words.now)
+        ≡ Some (jobs.OnBundle (tasks.Mine miners.Fill))
+        → IfOk result (λ due. due_status due ≢ statuses.No) }
     ensures halts { HaltsWell (S.faults source.old) (S.faults source.new) result }
 {
     match job_of(words) {
         None => Ok(Due::Usage),
         Some(Job::Replay) => replay_due(alloc, source),
-        Some(Job::Check) => check_due(alloc, source),
+        Some(Job::OnBundle(task)) => bundle_due(alloc, source, task),
     }
 }
 
@@ -156,10 +168,12 @@ pub fn run<S: Source, K: Sink>(
         → IsDrained (S.left source.old) (S.left source.new) }
     ensures books { IfSome (S.left source.old) BooksBalance }
     ensures committees { IfSome (S.left source.old) SeatsAreSound }
-    ensures few { job_of (map string_bytes words.now) ≡ Some jobs.Check → IsAnswer result
+    ensures few { ReadsBundle (job_of (map string_bytes words.now)) → IsAnswer result
         → TakesAtMost (most_bundle + 1) (S.left source.old) (S.left source.new) }
-    ensures accepted { job_of (map string_bytes words.now) ≡ Some jobs.Check → result ≡ Status.Done
-        → IfSome (S.left source.old) IsSound }
+    ensures accepted { (task : task_kind) → job_of (map string_bytes words.now) ≡ Some (jobs.OnBundle task)
+        → result ≡ Status.Done → IfSome (S.left source.old) (IsSound task) }
+    ensures passes { job_of (map string_bytes words.now)
+        ≡ Some (jobs.OnBundle (tasks.Mine miners.Fill)) → result ≢ Status.No }
 {
     replays_seat_sound_committees(); // a law, which does nothing
     let due = match prepare(alloc, words, source) {

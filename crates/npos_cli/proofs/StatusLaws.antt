@@ -1,0 +1,79 @@
+-- The statuses of reports on bundles: done, a No, or a fault line.
+use Rattle.std.proofs.Common.{◌≡◌, ℕ, Bool, true, false, nat_lt, if◌then◌else◌, List, length, Option, Some, None, Result, Ok, Err, sym, subst}
+use Rattle.scale_wire.specs.declared.fault.WireFault.{WireFault}
+use Rattle.scale_wire.specs.WholeReading.{read_as}
+use Rattle.block_wire.specs.declared.bundle.Bundle.{Bundle}
+use Rattle.block_wire.specs.declared.bundle.Work.{Work}
+use Rattle.block_wire.specs.declared.bundle.Work.TheVariants.{Nothing, Packed, Plain}
+use Rattle.block_wire.specs.Bundles.{bundle_form}
+use Rattle.block_wire.specs.BundleLaws.{bundle_laws}
+use Rattle.election_snapshot.specs.Snapshot.{Snapshot}
+use Rattle.election_snapshot.specs.declared.fault.SnapshotFault.{SnapshotFault}
+use Rattle.quota_fill.specs.Filled.{filled}
+use Rattle.election_check.specs.declared.verdict.Verdict.{Verdict}
+use Rattle.election_check.specs.declared.verdict.Verdict.TheVariants as verdicts
+use Rattle.election_check.specs.Plain.{verdict_plain}
+use Rattle.election_check.specs.Packed.{verdict_packed}
+use Rattle.npos_cli.specs.declared.reading.Election.{Election}
+use Rattle.npos_cli.specs.declared.job.Job.{Job}
+use Rattle.npos_cli.specs.declared.job.Job.TheVariants as jobs
+use Rattle.npos_cli.specs.declared.job.Task.{Task}
+use Rattle.npos_cli.specs.declared.job.Task.TheVariants as tasks
+use Rattle.npos_cli.specs.declared.job.Miner.TheVariants as miners
+use Rattle.npos_cli.specs.declared.status.Status.{Status}
+use Rattle.npos_cli.specs.declared.status.Status.TheVariants as statuses
+use Rattle.npos_cli.specs.Elections.{snapshot_of}
+use Rattle.npos_cli.specs.Verdicts.{long_line, most_bundle}
+use Rattle.npos_cli.specs.Bundles.{Report, faulty, verdict_status, work_report, election_of, read_election}
+use Rattle.npos_cli.specs.Tasks.{task_report, report_on, bundle_report}
+use Rattle.npos_cli.specs.Report.{replay_status, IsAnswer}
+use Rattle.npos_cli.specs.Owed.{FindsFor}
+
+-- what holds of these three holds of the status of each report
+module _ (P : Status → Type 0) (done : P statuses.Done) (no_verdict : P statuses.No) (bad : P statuses.BadInput) where
+  of_verdict : (verdict : Verdict) → P (verdict_status verdict)
+  of_verdict verdicts.Yes = done
+  of_verdict (verdicts.Undecodable at why) = no_verdict
+  of_verdict (verdicts.NoVoter voter) = no_verdict
+  of_verdict (verdicts.NoTarget target) = no_verdict
+  of_verdict (verdicts.VoterTwice voter) = no_verdict
+  of_verdict (verdicts.TargetTwice target) = no_verdict
+  of_verdict (verdicts.NotNominated voter target) = no_verdict
+  of_verdict (verdicts.BadShare voter) = no_verdict
+  of_verdict (verdicts.WrongSize found) = no_verdict
+  of_verdict (verdicts.WrongScore actual) = no_verdict
+  of_verdict (verdicts.Outweighed target prescore) = no_verdict
+  of_verdict (verdicts.Overspent voter) = no_verdict
+
+  of_work : (size : ℕ) (snapshot : Snapshot) (work : Work) → P (work_report size snapshot work).status
+  of_work size snapshot Nothing = bad
+  of_work size snapshot (Packed claim bytes) = of_verdict (verdict_packed snapshot claim bytes)
+  of_work size snapshot (Plain committee edges) = of_verdict (verdict_plain snapshot (record { committee = committee; edges = edges }))
+
+  of_task : (task : Task) (size : ℕ) (election : Election) → P (task_report task size election).status
+  of_task tasks.Check size election = of_work size election.snapshot election.work
+  of_task (tasks.Mine miners.Fill) size election = of_verdict (verdict_plain election.snapshot (filled election.snapshot))
+
+  of_built : (task : Task) (size : ℕ) (bundle : Bundle) (found : Result Snapshot SnapshotFault) → P (report_on task size (election_of bundle found)).status
+  of_built task size bundle (Ok snapshot) = of_task task size (record { snapshot = snapshot; work = bundle.work })
+  of_built task size bundle (Err fault) = bad
+
+  of_read : (task : Task) (size : ℕ) (read : Result Bundle WireFault) → P (report_on task size (read_election read)).status
+  of_read task size (Ok bundle) = of_built task size bundle (snapshot_of bundle)
+  of_read task size (Err fault) = bad
+
+  pub of_bundle : (task : Task) (bytes : List ℕ) → P (bundle_report task bytes).status
+  of_bundle task bytes = by (nat_lt most_bundle (length bytes)) where
+    by : (b : Bool) → P (report_on task (length bytes) (if b then Err (faulty long_line) else read_election (read_as bundle_form bundle_laws bytes))).status
+    by true = bad
+    by false = of_read task (length bytes) (read_as bundle_form bundle_laws bytes)
+
+-- what is found to be owed has a status that answers
+pub found_answers : (job : Option Job) (left : Option (List ℕ)) (text : List ℕ) (status : Status) → FindsFor job left text status → IsAnswer status
+found_answers None left text status finds = subst (λ (s : Status). IsAnswer s) (sym finds.2.1) tt
+found_answers (Some jobs.Replay) left text status finds = subst (λ (s : Status). IsAnswer s) (sym finds.2.3) (replayed finds.2.0.faulty) where
+  replayed : (faulty : Bool) → IsAnswer (replay_status faulty)
+  replayed true = tt
+  replayed false = tt
+found_answers (Some (jobs.OnBundle task)) left text status finds =
+    subst (λ (r : Report). IsAnswer r.status) (sym finds.2) (of_bundle IsAnswer tt tt tt task finds.0)

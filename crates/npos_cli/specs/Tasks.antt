@@ -1,0 +1,63 @@
+-- What is reported of the bytes of a bundle, by task, and what a report that ends with a Yes says.
+use Rattle.std.specs.Prelude.{◌≡◌, ℕ, List, length, Result, Ok, Err}
+use Rattle.scale_wire.specs.WholeReading.{read_as}
+use Rattle.block_wire.specs.declared.bundle.Bundle.{Bundle}
+use Rattle.block_wire.specs.declared.bundle.Work.{Work}
+use Rattle.block_wire.specs.declared.bundle.Work.TheVariants.{Nothing, Packed, Plain}
+use Rattle.block_wire.specs.Bundles.{bundle_form}
+use Rattle.block_wire.specs.BundleLaws.{bundle_laws}
+use Rattle.election_snapshot.specs.Snapshot.{Snapshot}
+use Rattle.weight_book.specs.Weights.{Weights, IsFeasible}
+use Rattle.weight_book.specs.Scoring.{score_of}
+use Rattle.weight_book.specs.Proportional.{IsProportional}
+use Rattle.compact_solution.specs.Solution.{Entry}
+use Rattle.compact_solution.specs.Decoded.{decoded}
+use Rattle.election_check.specs.Packed.{expanded}
+use Rattle.npos_cli.specs.declared.job.Task.{Task}
+use Rattle.npos_cli.specs.declared.job.Task.TheVariants as tasks
+use Rattle.npos_cli.specs.declared.reading.Election.{Election}
+use Rattle.npos_cli.specs.Elections.{snapshot_of}
+use Rattle.npos_cli.specs.Bundles.{Report, work_report, election_in}
+use Rattle.npos_cli.specs.Mining.{mined, mine_report}
+
+-- A check looks at the work of a bundle that has so many bytes, and a miner at its election alone.
+abbrev pub task_report : Task → ℕ → Election → Report
+task_report tasks.Check size election = work_report size election.snapshot election.work
+task_report (tasks.Mine miner) size election = mine_report miner election.snapshot
+
+-- bytes without an election are reported by their fault
+abbrev pub report_on : Task → ℕ → Result Election Report → Report
+report_on task size (Ok election) = task_report task size election
+report_on task size (Err fault) = fault
+
+abbrev pub bundle_report : Task → List ℕ → Report
+bundle_report task bytes = report_on task (length bytes) (election_in bytes)
+
+-- ## What an accepted bundle is
+
+-- the weights that the work stands for
+abbrev pub IsWork : Snapshot → Work → Weights → Type 0
+IsWork snapshot Nothing weights = ⊥
+IsWork snapshot (Packed claim bytes) weights =
+    (solution : List (List Entry)) × (decoded bytes ≡ Ok solution) × (weights ≡ expanded snapshot solution) × (score_of weights ≡ claim)
+IsWork snapshot (Plain committee edges) weights = weights ≡ record { committee = committee; edges = edges }
+
+-- the weights that the task reports on
+abbrev pub AreWeights : Task → Election → Weights → Type 0
+AreWeights tasks.Check election weights = IsWork election.snapshot election.work weights
+AreWeights (tasks.Mine miner) election weights = weights ≡ mined miner election.snapshot
+
+-- The weights fill the seats, follow nominations, spend no voter beyond its stake, and are proportional.
+pub record IsSoundElection (task : Task) (election : Election) : Type 0 where
+  pub weights : Weights
+  pub are_weights : AreWeights task election weights
+  pub feasible : IsFeasible election.snapshot weights
+  pub proportional : IsProportional election.snapshot weights
+
+-- the bytes spell a bundle with an election, and the weights on it are sound
+pub record IsSound (task : Task) (bytes : List ℕ) : Type 0 where
+  pub bundle : Bundle
+  pub is_bundle : read_as bundle_form bundle_laws bytes ≡ Ok bundle
+  pub snapshot : Snapshot
+  pub is_snapshot : snapshot_of bundle ≡ Ok snapshot
+  pub election : IsSoundElection task (record { snapshot = snapshot; work = bundle.work })

@@ -1,0 +1,62 @@
+//! What is answered on the bytes of a bundle.
+ghost use Rattle.std.specs.Prelude.{◌≡◌, ◌≢◌, IfOk};
+ghost use Rattle.npos_cli.specs.declared.job.Task.TheVariants as tasks;
+ghost use Rattle.npos_cli.specs.declared.job.Miner.TheVariants as miners;
+ghost use Rattle.npos_cli.specs.declared.status.Status.TheVariants as statuses;
+ghost use Rattle.npos_cli.specs.Tasks.{task_report, bundle_report, IsSound, IsSoundElection};
+ghost use Rattle.npos_cli.specs.Answer.{report_of};
+
+use crate::answers::Answer;
+use crate::checking::check_work;
+use crate::job::Task;
+use crate::mining::mine;
+use crate::reading::{Election, Reading, read_election};
+use npos_base::NoMemory;
+use std::alloc::Global;
+
+/// The answer on the election of a bundle that has so many bytes.
+fn report_on(
+    alloc: Global,
+    election: Election,
+    task: Task,
+    size: u64,
+) -> Result<Answer, NoMemory>
+    ensures { IfOk result (λ answer. report_of answer ≡ task_report task size election) }
+{
+    let Election { snapshot, work } = election;
+    match task {
+        Task::Check => check_work(alloc, snapshot, &work, size),
+        Task::Mine(miner) => mine(alloc, snapshot, miner),
+    }
+}
+
+/// The same, with what follows for weights that get a Yes.
+fn answer_election(
+    alloc: Global,
+    election: Election,
+    task: Task,
+    size: u64,
+) -> Result<Answer, NoMemory>
+    ensures report { IfOk result (λ answer. report_of answer ≡ task_report task size election) }
+    ensures sound { IfOk result (λ answer. answer.status ≡ statuses.Done
+        → IsSoundElection task election) }
+    ensures passes { task ≡ tasks.Mine miners.Fill
+        → IfOk result (λ answer. answer.status ≢ statuses.No) }
+{
+    let _seats = election.snapshot.seats();
+    report_on(alloc, election, task, size)
+}
+
+/// The answer on the bytes of a bundle, which go once they are read.
+pub fn answer_bytes(alloc: Global, bytes: Vec<u8>, task: Task) -> Result<Answer, NoMemory>
+    ensures report { IfOk result (λ answer. report_of answer ≡ bundle_report task bytes.items) }
+    ensures sound { IfOk result (λ answer. answer.status ≡ statuses.Done → IsSound task bytes.items) }
+    ensures passes { task ≡ tasks.Mine miners.Fill
+        → IfOk result (λ answer. answer.status ≢ statuses.No) }
+{
+    let size = bytes.len() as u64;
+    match read_election(alloc, bytes)? {
+        Reading::Stands(election) => answer_election(alloc, election, task, size),
+        Reading::Refused(answer) => Ok(answer),
+    }
+}
