@@ -31,7 +31,7 @@ use Rattle.npos_cli.specs.Words.{HasForm, job_of, usage_line}
 use Rattle.npos_cli.specs.Report.{JobOwes, Owes, replay_status, ReadsInput, IsAnswer, IsJudged}
 use Rattle.npos_cli.specs.Replay.{Outcome, IsReplay}
 use Rattle.npos_runtime.specs.declared.chain.Chain.{Chain}
-use Rattle.npos_runtime.specs.Outcome.{Election}
+use Rattle.npos_runtime.specs.Outcome.{Election as Seated}
 use Rattle.npos_cli.specs.Chain.{npos_machine}
 use Rattle.npos_cli.specs.Books.{BooksBalance}
 use Rattle.npos_cli.specs.Headline.{SeatsAreSound, IsPromised}
@@ -120,13 +120,13 @@ usage_comes words left old new answer read write answers reads writes unformed =
 -- ## A replay
 
 module _ (words : List (List ℕ)) (asked : job_of words ≡ Some jobs.Replay) where
-  replay_owed : (left : List ℕ) (out : Outcome Chain Election) → IsReplay npos_machine left out → IsOwed words (Some left) out.text (replay_status out.faulty)
+  replay_owed : (left : List ℕ) (out : Outcome Chain Seated) → IsReplay npos_machine left out → IsOwed words (Some left) out.text (replay_status out.faulty)
   replay_owed left out is_replay = λ bytes all.
       subst (λ (job : Option Job). JobOwes job bytes out.text (replay_status out.faulty)) (sym asked)
       (out, subst (λ (b : List ℕ). IsReplay npos_machine b out) (sym all) is_replay, refl, refl)
 
   found : (left : List ℕ) (old new : Option Told) (answer : Status) → Answers words (Some left) old new answer
-      → (out : Outcome Chain Election) × IsReplay npos_machine left out × (answer ≡ replay_status out.faulty) × Delivers old new out.text
+      → (out : Outcome Chain Seated) × IsReplay npos_machine left out × (answer ≡ replay_status out.faulty) × Delivers old new out.text
   found left old new answer a =
       let owes = subst (λ (job : Option Job). JobOwes job a.1.0 a.0 answer) asked a.1.2 in
       (owes.0, subst (λ (b : List ℕ). IsReplay npos_machine b owes.0) a.1.1 owes.1, owes.3, subst (λ (t : List ℕ). Delivers old new t) owes.2 a.2)

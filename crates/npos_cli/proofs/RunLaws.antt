@@ -21,21 +21,6 @@ use Rattle.npos_cli.specs.Verdicts.{long_line, most_bundle}
 use Rattle.npos_cli.specs.declared.job.Task.{Task}
 use Rattle.npos_cli.specs.Bundles.{Report, faulty, read_election}
 use Rattle.npos_cli.specs.Tasks.{report_on, bundle_report, IsSound}
-use Rattle.block_wire.specs.declared.bundle.Work.{Work}
-use Rattle.block_wire.specs.declared.bundle.Work.TheVariants.{Nothing, Packed, Plain}
-use Rattle.block_wire.specs.declared.bundle.Bundle.{Bundle}
-use Rattle.scale_wire.specs.declared.fault.WireFault.{WireFault}
-use Rattle.election_snapshot.specs.declared.fault.SnapshotFault.{SnapshotFault}
-use Rattle.election_snapshot.specs.Snapshot.{Snapshot}
-use Rattle.election_check.specs.declared.verdict.Verdict.{Verdict}
-use Rattle.election_check.specs.declared.verdict.Verdict.TheVariants as verdicts
-use Rattle.npos_cli.specs.declared.job.Task.TheVariants as tasks
-use Rattle.npos_cli.specs.declared.job.Miner.TheVariants as miners
-use Rattle.npos_cli.specs.declared.reading.Election.{Election as Read}
-use Rattle.npos_cli.specs.Bundles.{verdict_status, work_report, election_of}
-use Rattle.npos_cli.specs.Tasks.{task_report}
-use Rattle.npos_cli.specs.Mining.{mine_report}
-use Rattle.npos_cli.specs.Elections.{snapshot_of}
 use Rattle.npos_cli.specs.Owed.{IsAll, LeftAfter, ReadsUpTo, TakesAtMost, IsDrained, Delivers, DeliversFront, FindsReplay, Finds, FindsFor, IsOwed, BeginsToAnswer}
 use Rattle.npos_cli.proofs.ReplayLaws.{one_replay, any_replay}
 use Rattle.npos_cli.proofs.ChainLaws.{genesis_laws, turn_laws}
@@ -99,64 +84,6 @@ any_owed words bytes are = by (job_of words) where
       let r = any_replay npos_machine genesis_laws turn_laws bytes are in
       (r.outcome.text, replay_status r.outcome.faulty, (r.outcome, r.is_replay, refl, refl))
   by (Some (jobs.OnBundle task)) = ((bundle_report task bytes).text, (bundle_report task bytes).status, refl)
-
--- ## What is owed is an answer
-
-verdict_answers : (verdict : Verdict) → IsAnswer (verdict_status verdict)
-verdict_answers verdicts.Yes = tt
-verdict_answers (verdicts.Undecodable at why) = tt
-verdict_answers (verdicts.NoVoter voter) = tt
-verdict_answers (verdicts.NoTarget target) = tt
-verdict_answers (verdicts.VoterTwice voter) = tt
-verdict_answers (verdicts.TargetTwice target) = tt
-verdict_answers (verdicts.NotNominated voter target) = tt
-verdict_answers (verdicts.BadShare voter) = tt
-verdict_answers (verdicts.WrongSize found) = tt
-verdict_answers (verdicts.WrongScore actual) = tt
-verdict_answers (verdicts.Outweighed target prescore) = tt
-verdict_answers (verdicts.Overspent voter) = tt
-
-work_answers : (size : ℕ) (snapshot : Snapshot) (work : Work) → IsAnswer (work_report size snapshot work).status
-work_answers size snapshot Nothing = tt
-work_answers size snapshot (Packed claim bytes) = verdict_answers _
-work_answers size snapshot (Plain committee edges) = verdict_answers _
-
-task_answers : (task : Task) (size : ℕ) (election : Read) → IsAnswer (task_report task size election).status
-task_answers tasks.Check size election = work_answers size election.snapshot election.work
-task_answers (tasks.Mine miners.Fill) size election = verdict_answers _
-
--- an election is reported by its task, and a fault is bad input
-IsFaulty : Result Read Report → Type 0
-IsFaulty (Ok election) = Unit {0}
-IsFaulty (Err report) = report.status ≡ statuses.BadInput
-
-report_answers : (task : Task) (size : ℕ) (read : Result Read Report) → IsFaulty read → IsAnswer (report_on task size read).status
-report_answers task size (Ok election) faulty = task_answers task size election
-report_answers task size (Err report) faulty = subst (λ (s : Status). IsAnswer s) (sym faulty) tt
-
-built_faulty : (bundle : Bundle) (built : Result Snapshot SnapshotFault) → IsFaulty (election_of bundle built)
-built_faulty bundle (Ok snapshot) = tt
-built_faulty bundle (Err fault) = refl
-
-read_faulty : (read : Result Bundle WireFault) → IsFaulty (read_election read)
-read_faulty (Ok bundle) = built_faulty bundle (snapshot_of bundle)
-read_faulty (Err fault) = refl
-
-bundle_answers : (task : Task) (bytes : List ℕ) → IsAnswer (bundle_report task bytes).status
-bundle_answers task bytes = by (nat_lt most_bundle (length bytes)) where
-  by : (over : Bool) → IsAnswer (report_on task (length bytes) (if over then Err (faulty long_line) else read_election (read_as bundle_form bundle_laws bytes))).status
-  by true = tt
-  by false = report_answers task (length bytes) _ (read_faulty (read_as bundle_form bundle_laws bytes))
-
-replay_answers : (faulty : Bool) → IsAnswer (replay_status faulty)
-replay_answers true = tt
-replay_answers false = tt
-
-pub owed_answers : (job : Option Job) (bytes text : List ℕ) (status : Status) → JobOwes job bytes text status → IsAnswer status
-owed_answers None bytes text status owes = subst (λ (s : Status). IsAnswer s) (sym owes.1) tt
-owed_answers (Some jobs.Replay) bytes text status owes = subst (λ (s : Status). IsAnswer s) (sym owes.3) (replay_answers owes.0.faulty)
-owed_answers (Some (jobs.OnBundle task)) bytes text status owes =
-    subst (λ (s : Status). IsAnswer s) (sym (ap (λ (r : Report). r.status) owes)) (bundle_answers task bytes)
 
 -- ## A bundle
 

@@ -13,8 +13,8 @@ use Rattle.npos_runtime.specs.declared.line.Line.{Line}
 use Rattle.npos_runtime.specs.declared.line.Line.TheVariants as lines
 use Rattle.npos_runtime.specs.Genesis.{genesis_fault, genesis_chain, fault_numbers}
 use Rattle.npos_runtime.specs.Step.{step}
-use Rattle.npos_cli.specs.Texts.{newline, member_line}
-use Rattle.npos_cli.specs.Verdicts.{verdict_line}
+use Rattle.npos_cli.specs.Texts.{newline}
+use Rattle.npos_cli.specs.Verdicts.{member_line, verdict_line}
 use Rattle.npos_cli.specs.Replay.{Machine}
 
 abbrev pub line_text : Line → List ℕ

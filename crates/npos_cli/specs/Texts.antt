@@ -30,14 +30,6 @@ abbrev pub number_line : ℕ → ℕ → ℕ → List ℕ
 number_line at due found =
     codes "fault " ++ (decimal at ++ (codes " number due " ++ (decimal due ++ (codes " found " ++ (decimal found ++ newline)))))
 
--- an account in lower-case hexadecimal
-abbrev pub account_text : AccountId → List ℕ
-account_text who = encode_lower (account_bytes who)
-
--- a member of a committee, and its support
-abbrev pub member_line : AccountId → ℕ → List ℕ
-member_line who support = codes "member " ++ (account_text who ++ (codes " " ++ (decimal support ++ newline)))
-
 -- the genesis has the fault of this number, with this detail
 abbrev pub genesis_line : ℕ × ℕ → List ℕ
 genesis_line fault = codes "fault 0 genesis " ++ (decimal fault.0 ++ (codes " " ++ (decimal fault.1 ++ newline)))

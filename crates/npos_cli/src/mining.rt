@@ -18,7 +18,6 @@ use weight_book::Weights;
 /// Appends the lines of the members in the order of the committee.
 fn tell_members(
     text: &mut Vec<u8>,
-    alloc: Global,
     snapshot: &Snapshot,
     weights: &Weights,
 ) -> Result<(), NoMemory>
@@ -27,7 +26,7 @@ fn tell_members(
         ++ flat_map (line_of snapshot.now weights.now.plain) weights.now.plain.committee) }
 {
     for member in weights.committee() {
-        tell_member(text, alloc, snapshot.target(*member), weights.support(*member))?;
+        tell_member(text, snapshot.target(*member), weights.support(*member))?;
     }
     Ok(())
 }
@@ -35,7 +34,6 @@ fn tell_members(
 /// Appends the lines of the members by rising position, and the line of the score.
 fn tell_weights(
     text: &mut Vec<u8>,
-    alloc: Global,
     snapshot: &Snapshot,
     weights: Weights,
 ) -> Result<(), NoMemory>
@@ -46,7 +44,7 @@ fn tell_weights(
     let score = weights.score();
     let mut rising = weights;
     rising.sort_members();
-    tell_members(text, alloc, snapshot, &rising)?;
+    tell_members(text, snapshot, &rising)?;
     tell_score(text, &score)?;
     Ok(())
 }
@@ -60,7 +58,7 @@ fn mine_fill(alloc: Global, snapshot: Snapshot) -> Result<Answer, NoMemory>
     let mut checker = checker_of(alloc, snapshot)?;
     let verdict = checker.verdict(&weights);
     let mut lines = Vec::new(alloc);
-    tell_weights(&mut lines, alloc, checker.snapshot(), weights)?;
+    tell_weights(&mut lines, checker.snapshot(), weights)?;
     told(lines, verdict)
 }
 

@@ -1,14 +1,13 @@
 //! Lines of words and numbers.
-ghost use Rattle.std.specs.Prelude.{◌≡◌, ◌≢◌, [], ◌∷◌, ◌++◌, flat_map, codes, string_bytes, IfOk, OnOk};
+ghost use Rattle.std.specs.Prelude.{◌≡◌, ◌≢◌, [], ◌∷◌, ◌++◌, flat_map, codes, OnOk};
 ghost use Rattle.election_snapshot.specs.declared.fault.SnapshotFault.TheVariants as faults;
-ghost use Rattle.npos_cli.specs.Texts.{account_text};
 ghost use Rattle.npos_cli.specs.Verdicts.{number_text, numbers_line, member_line, score_line, verdict_numbers, verdict_line, fault_numbers, snapshot_line};
 
+use crate::telling::tell_account;
 use election_check::Verdict;
 use election_snapshot::SnapshotFault;
 use itoa::Buffer;
 use npos_base::{AccountId, MOST_TARGETS, MOST_VOTERS, NoMemory, Score};
-use std::alloc::Global;
 
 /// Appends a number in decimal, behind a blank.
 fn tell_number(text: &mut Vec<u8>, number: u128) -> Result<(), NoMemory>
@@ -39,26 +38,12 @@ fn tell_line(text: &mut Vec<u8>, words: &str, numbers: &[u128]) -> Result<(), No
     Ok(())
 }
 
-/// An account in hexadecimal.
-fn text_of(alloc: Global, who: AccountId) -> Result<String, NoMemory>
-    ensures { IfOk result (λ text. string_bytes text ≡ account_text who) }
-{
-    let text = hex::encode(alloc, who.to_bytes())?;
-    Ok(text)
-}
-
 /// Appends the line of a member with its support.
-pub fn tell_member(
-    text: &mut Vec<u8>,
-    alloc: Global,
-    who: AccountId,
-    support: u128,
-) -> Result<(), NoMemory>
+pub fn tell_member(text: &mut Vec<u8>, who: AccountId, support: u128) -> Result<(), NoMemory>
     ensures { OnOk result (text.new.items ≡ text.old.items ++ member_line who support) }
 {
-    let account = text_of(alloc, who)?;
     text.extend_from_slice(b"member ")?;
-    text.extend_from_slice(account.as_bytes())?;
+    tell_account(text, who)?;
     tell_number(text, support)?;
     text.extend_from_slice(b"\n")?;
     Ok(())

@@ -1,13 +1,13 @@
 //! The lines that the program writes, made piece by piece.
 ghost use Rattle.std.specs.Prelude.{◌≡◌, ◌≢◌, ◌++◌, flat_map, OnOk};
-ghost use Rattle.npos_cli.specs.Texts.{fault_line, number_line, genesis_line, word_of, account_text, member_line};
+ghost use Rattle.npos_cli.specs.Texts.{fault_line, number_line, genesis_line, word_of, account_text};
 ghost use Rattle.npos_runtime.specs.declared.line.Line.TheVariants as lines;
 ghost use Rattle.npos_runtime.specs.Genesis.{fault_numbers};
 ghost use Rattle.npos_runtime.specs.declared.begin.GenesisFault.TheVariants as faults;
 ghost use Rattle.npos_cli.specs.Pieces.{piece_text};
 ghost use Rattle.npos_cli.specs.Chain.{end_line, line_text};
 
-use crate::numbers::tell_verdict;
+use crate::numbers::{tell_member, tell_verdict};
 use election_check::Verdict;
 use hex::encode_to_slice;
 use itoa::Buffer;
@@ -25,7 +25,7 @@ pub enum Piece<'a> {
 }
 
 /// Appends an account in lower-case hexadecimal.
-fn tell_account(text: &mut Vec<u8>, who: AccountId) -> Result<(), NoMemory>
+pub(crate) fn tell_account(text: &mut Vec<u8>, who: AccountId) -> Result<(), NoMemory>
     ensures { OnOk result (text.new.items ≡ text.old.items ++ account_text who) }
 {
     let mut digits = [0; 64];
@@ -150,22 +150,6 @@ fn tell_forfeit(
     tell_verdict(text, verdict)
 }
 
-/// Appends the line of a member of a committee.
-pub fn tell_member(text: &mut Vec<u8>, who: AccountId, support: u64) -> Result<(), NoMemory>
-    ensures { OnOk result (text.new.items ≡ text.old.items ++ member_line who support) }
-{
-    tell(
-        text,
-        &[
-            Piece::Words("member "),
-            Piece::Account(who),
-            Piece::Words(" "),
-            Piece::Number(support),
-            Piece::Words("\n"),
-        ],
-    )
-}
-
 /// Appends one line of a receipt.
 fn tell_line(text: &mut Vec<u8>, line: &Line) -> Result<(), NoMemory>
     ensures { OnOk result (text.new.items ≡ text.old.items ++ line_text line.now) }
@@ -265,7 +249,7 @@ fn tell_line(text: &mut Vec<u8>, line: &Line) -> Result<(), NoMemory>
                 Piece::Words(" fill\n"),
             ],
         ),
-        Line::Member { who, support } => tell_member(text, who, support),
+        Line::Member { who, support } => tell_member(text, who, u128::from(support)),
         Line::CallOk { index } => tell(
             text,
             &[

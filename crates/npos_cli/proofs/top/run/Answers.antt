@@ -1,5 +1,6 @@
-use Rattle.std.proofs.Common.{ℕ, List, map, string_bytes, sym, subst, ◌∙◌}
+use Rattle.std.proofs.Common.{◌≡◌, ◌⊎◌, inl, inr, ℕ, List, map, string_bytes, sym, subst, ◌∙◌}
 use Rattle.npos_cli.specs.declared.status.Status.{Status}
+use Rattle.npos_cli.specs.declared.status.Status.TheVariants as statuses
 use Rattle.npos_cli.specs.Words.{job_of}
 use Rattle.npos_cli.specs.Report.{IsAnswer}
 use Rattle.npos_cli.proofs.StatusLaws.{found_answers}
@@ -25,4 +26,17 @@ returns-in-Ok-deliver-clause-read_fault g c = λ is. absurd (subst (λ (s : Stat
 
 pub returns-in-Ok-deliver-clause-write_fault : goal.returns-in-Ok-deliver-clause-write_fault
 returns-in-Ok-deliver-clause-write_fault g c = λ is. absurd (subst (λ (s : Status). IsAnswer s) (sym c.status.ensures ∙ is)
+    (found_answers (job_of (map string_bytes c.args.words.now)) (g.S.Source.left c.args.source.now) (due_text c.in-Ok.due) (due_status c.in-Ok.due) c.in-Ok.ensures.due))
+
+pub returns-in-Ok-deliver-clause-unwritten : goal.returns-in-Ok-deliver-clause-unwritten
+returns-in-Ok-deliver-clause-unwritten g c = λ is. absurd (cut is) where
+  answers : IsAnswer (due_status c.in-Ok.due)
+  answers = found_answers (job_of (map string_bytes c.args.words.now)) (g.S.Source.left c.args.source.now) (due_text c.in-Ok.due) (due_status c.in-Ok.due) c.in-Ok.ensures.due
+
+  cut : (c.status.result ≡ statuses.ReadFault) ⊎ (c.status.result ≡ statuses.NoMemory) → ⊥
+  cut (inl is) = subst (λ (s : Status). IsAnswer s) (sym c.status.ensures ∙ is) answers
+  cut (inr is) = subst (λ (s : Status). IsAnswer s) (sym c.status.ensures ∙ is) answers
+
+pub returns-in-Ok-deliver-clause-unflushed : goal.returns-in-Ok-deliver-clause-unflushed
+returns-in-Ok-deliver-clause-unflushed g c = λ is. absurd (subst (λ (s : Status). IsAnswer s) (sym c.status.ensures ∙ is)
     (found_answers (job_of (map string_bytes c.args.words.now)) (g.S.Source.left c.args.source.now) (due_text c.in-Ok.due) (due_status c.in-Ok.due) c.in-Ok.ensures.due))
