@@ -100,7 +100,7 @@ nobody_rises = tt
 places_within : (params : Params) → params_fault params ≡ None → (1 ≤ params.queue) × (params.queue ≤ 16)
 places_within params sound =
     let limits = (first_none (threshold_fault 0 0 params.thresholds) (limits_fault params)
-        (first_none (numbers_fault params) (option_or (threshold_fault 0 0 params.thresholds) (limits_fault params)) sound).1).1 in
+    (first_none (numbers_fault params) (option_or (threshold_fault 0 0 params.thresholds) (limits_fault params)) sound).1).1 in
     at (nat_le 1 params.queue) (nat_le params.queue 16) (not (is_within 1 2097152 params.solution_max)) refl refl limits where
       at : (a b c : Bool) → nat_le 1 params.queue ≡ a → nat_le params.queue 16 ≡ b
           → (if not (a && b) then Some (BadQueue params.queue) else if c then Some (BadSolutionMax params.solution_max) else None) ≡ None

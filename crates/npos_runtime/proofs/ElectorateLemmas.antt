@@ -66,8 +66,8 @@ one_voter draft who stake votes sound free =
     let stakes : stakes_of (draft.voters ++ voter ∷ []) ≡ stakes_of draft.voters ++ stake ∷ [] = mapped_more (λ (v : Voter). v.stake) draft.voters voter in
     let voted : map (λ (v : Voter). v.votes) (draft.voters ++ voter ∷ []) ≡ map (λ (v : Voter). v.votes) draft.voters ++ votes ∷ [] = mapped_more (λ (v : Voter). v.votes) draft.voters voter in
     let kept = kept_with draft.targets (accounts_of draft.voters) (stakes_of draft.voters) (map (λ (v : Voter). v.votes) draft.voters) (sum (stakes_of draft.voters)) who stake votes
-        (accounts_of (draft.voters ++ voter ∷ [])) (stakes_of (draft.voters ++ voter ∷ [])) (map (λ (v : Voter). v.votes) (draft.voters ++ voter ∷ [])) accounts stakes voted sound
-        (ap (λ (vs : List Voter). voter_fault (record { targets = draft.targets; voters = vs }) who stake votes) (recomposed draft.voters) ∙ free) in
+    (accounts_of (draft.voters ++ voter ∷ [])) (stakes_of (draft.voters ++ voter ∷ [])) (map (λ (v : Voter). v.votes) (draft.voters ++ voter ∷ [])) accounts stakes voted sound
+    (ap (λ (vs : List Voter). voter_fault (record { targets = draft.targets; voters = vs }) who stake votes) (recomposed draft.voters) ∙ free) in
     subst (AreVotersOf draft.targets) (recomposed (draft.voters ++ voter ∷ [])) kept.voters
 
 same_length : {A B : Type 0} (f : A → B) (xs : List A) → length (map f xs) ≡ length xs
@@ -109,7 +109,7 @@ all_polled chain draft [] live is are =
 all_polled chain draft (who ∷ rest) live is are = at (nat_lt (length draft.voters) 16384) refl (all_polled chain (polled chain draft who) rest live) where
   at : (b : Bool) → nat_lt (length draft.voters) 16384 ≡ b
       → (IsPolled chain (polled chain draft who) rest → AreVotersOf (polled chain draft who).targets (polled chain draft who).voters
-        → AreVotersOf (ballot_of chain).targets (ballot_of chain).voters)
+      → AreVotersOf (ballot_of chain).targets (ballot_of chain).voters)
       → AreVotersOf (ballot_of chain).targets (ballot_of chain).voters
   at true e later =
       let room : length draft.voters < 16384 = grind (arith, nat_tests) in
@@ -151,7 +151,7 @@ seats_within : (params : Option Params) → AreSound params → (1 ≤ seats_of 
 seats_within None sound = (omega arith, omega arith)
 seats_within (Some params) sound =
     let inside : not (is_within 1 512 params.seats) ≡ false
-        = passed (not (is_within 1 512 params.seats)) _ _ (first_of_two (numbers_fault params) (option_or (threshold_fault 0 0 params.thresholds) (limits_fault params)) sound) in
+    = passed (not (is_within 1 512 params.seats)) _ _ (first_of_two (numbers_fault params) (option_or (threshold_fault 0 0 params.thresholds) (limits_fault params)) sound) in
     let both = both_true (nat_le 1 params.seats) (nat_le params.seats 512) (not_false (is_within 1 512 params.seats) inside) in
     (let a = both.0 in grind (arith, nat_tests), let a = both.1 in grind (arith, nat_tests)) where
       not_false : (t : Bool) → not t ≡ false → t ≡ true

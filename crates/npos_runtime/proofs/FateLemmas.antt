@@ -235,7 +235,7 @@ module _ (number : ℕ) where
       let second = fair_then chain era round ((lines.Block block.number ∷ []) ++ (era_phase chain).lines) (round_phase era).lines first (fair_round era) in
       let third = fair_then chain round (before_calls chain) (((lines.Block block.number ∷ []) ++ (era_phase chain).lines) ++ (round_phase era).lines) (decision_phase round).lines second (fair_decision round) in
       let fourth = fair_then chain (before_calls chain) called ((((lines.Block block.number ∷ []) ++ (era_phase chain).lines) ++ (round_phase era).lines) ++ (decision_phase round).lines)
-          (calls_outcome 0 block.calls (before_calls chain)).lines third (fair_calls 0 block.calls (before_calls chain) (live_before chain live)) in
+      (calls_outcome 0 block.calls (before_calls chain)).lines third (fair_calls 0 block.calls (before_calls chain) (live_before chain live)) in
       fair_then chain called (step chain block).state (((((lines.Block block.number ∷ []) ++ (era_phase chain).lines) ++ (round_phase era).lines) ++ (decision_phase round).lines) ++ (calls_outcome 0 block.calls (before_calls chain)).lines) []
       fourth (omega arith)
 

@@ -151,11 +151,10 @@ not_begun (Some params) number sound is = at (place_of params number == params.o
 pub seats : SeatsLaw
 seats chain block number snapshot commissions live is stands =
     let last : (undecided chain).round ≡ Some (rounds.Open number snapshot commissions) =
-        ap (round_after (era_phase chain).state) (not_begun chain.params chain.due live.params is) ∙ stands in
+    ap (round_after (era_phase chain).state) (not_begun chain.params chain.due live.params is) ∙ stands in
     let decides : decision_phase (undecided chain) ≡ decision_of (Some (rounds.Open number snapshot commissions)) (undecided chain) =
-        (λ i. if is i then decision_of (undecided chain).round (undecided chain) else quiet (undecided chain))
-        ∙ ap (λ round. decision_of round (undecided chain)) last in
-    (
+    (λ i. if is i then decision_of (undecided chain).round (undecided chain) else quiet (undecided chain))
+    ∙ ap (λ round. decision_of round (undecided chain)) last in (
       waits_calls 0 block.calls (before_calls chain) ∙ ap (λ (o : Outcome). o.state.waiting) decides,
       seats_step chain block ∙ ap (λ (o : Outcome). o.seated) decides,
     )

@@ -229,8 +229,8 @@ submitted_live chain item live none =
     let is = taken chain.queue item live.queue free.1 in
     let held = books_held (release_now chain) chain.book item chain.queue.items free.0 (books_of chain live) in
     let books = all_books_returned (release_now chain) (ejected chain.queue item) (offered chain.queue item).items (deposit_held item.who item.deposit chain.book)
-        (books_moved (release_now chain) (deposit_held item.who item.deposit chain.book) (item ∷ chain.queue.items)
-        (ejected chain.queue item ++ (offered chain.queue item).items) is.moved held) in
+    (books_moved (release_now chain) (deposit_held item.who item.deposit chain.book) (item ∷ chain.queue.items)
+    (ejected chain.queue item ++ (offered chain.queue item).items) is.moved held) in
     record {
       params = live.params;
       due_at_least = live.due_at_least;

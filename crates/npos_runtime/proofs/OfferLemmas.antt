@@ -61,7 +61,7 @@ over_last queue item last h full is better =
     let whole : length queue.items ≡ queue.places = let fits = h.fits in grind (arith, nat_tests) in
     let some : 1 ≤ length queue.items = omega (arith, whole, h.some) in
     let fits : placed (take (length queue.items - 1) queue.items) item ≡ (offered queue item).items
-        = placed_over_last queue.places queue.items item last h.by_rank h.some whole is better in
+    = placed_over_last queue.places queue.items item last h.by_rank h.some whole is better in
     let out : ejected queue item ≡ last ∷ [] = rw (full, is, better) refl in
     record {
       moved = subst (λ zs. IsPermutation (item ∷ queue.items) (zs ++ (offered queue item).items)) (sym out)

@@ -77,9 +77,9 @@ pub in_order : (snapshot : Snapshot) (old new : Weights) → IsPermutation old.c
     → All (λ member. member < length snapshot.targets) new.committee → new ≡ rising snapshot old
 in_order snapshot old new moved edges up within =
     let same : filter (has old.committee) (range_with_len 0 (length snapshot.targets)) ≡ new.committee =
-        (λ i. filter (λ q. sym (has_permutation old.committee new.committee q moved) i) (range_with_len 0 (length snapshot.targets)))
-        ∙ listed 0 (length snapshot.targets) new.committee (rising_by new.committee up) (λ k d below. omega arith)
-        (λ k d below. omega (arith, within k d below)) in
+    (λ i. filter (λ q. sym (has_permutation old.committee new.committee q moved) i) (range_with_len 0 (length snapshot.targets)))
+    ∙ listed 0 (length snapshot.targets) new.committee (rising_by new.committee up) (λ k d below. omega arith)
+    (λ k d below. omega (arith, within k d below)) in
     λ i. record { committee = sym same i; edges = edges i }
 
 -- ## The members, told one after the other

@@ -1,5 +1,5 @@
--- The decision of a round: the submissions are judged by rank, the first that holds wins, and its committee is seated,
--- or the fill where none holds.
+-- The decision of a round: the submissions are judged by rank, the first that holds wins, and its
+-- committee is seated, or the fill where none holds.
 use Rattle.std.specs.Prelude.{ℕ, Bool, true, false, not, ◌+◌, min, List, [], ◌∷◌, ◌++◌, length, map, filter, take, drop, get_or, Option, Some, None, if◌then◌else◌}
 use Rattle.std.specs.List.{prefix_len, range_with_len}
 use Rattle.stake_ledger.specs.Ledger.{Ledger}
@@ -62,15 +62,18 @@ reward_in reward book = min reward (room_of book)
 abbrev pub rewarded : ℕ → Ledger → Submission → Ledger
 rewarded reward book winner = minted_free winner.who (reward_in reward book) book
 
--- The winner gets its deposit back and the reward, and the others behind it get their deposits back.
+-- The winner gets its deposit back and the reward, and those behind it get their deposits back.
 abbrev pub paid_out : ℕ → List Submission → Ledger → Ledger
 paid_out reward [] book = book
-paid_out reward (winner ∷ rest) book = all_returned rest (rewarded reward (returned book winner) winner)
+paid_out reward (winner ∷ rest) book =
+    all_returned rest (rewarded reward (returned book winner) winner)
 
 abbrev pub paid_lines : ℕ → List Submission → Ledger → List Line
 paid_lines reward [] book = []
 paid_lines reward (winner ∷ rest) book =
-    return_line winner ∷ lines.Reward winner.number (reward_in reward (returned book winner)) ∷ return_lines rest
+    return_line winner
+    ∷ lines.Reward winner.number (reward_in reward (returned book winner))
+    ∷ return_lines rest
 
 -- ## The seat
 
@@ -132,8 +135,10 @@ decided number snapshot commissions chain = record {
 
 -- a void round decides nothing
 abbrev pub decision_of : Option Round → Chain → Outcome
-decision_of (Some (rounds.Open number snapshot commissions)) chain = decided number snapshot commissions chain
+decision_of (Some (rounds.Open number snapshot commissions)) chain =
+    decided number snapshot commissions chain
 decision_of other chain = quiet chain
 
 abbrev pub decision_phase : Chain → Outcome
-decision_phase chain = if is_decision chain.params chain.due then decision_of chain.round chain else quiet chain
+decision_phase chain =
+    if is_decision chain.params chain.due then decision_of chain.round chain else quiet chain

@@ -12,7 +12,8 @@ use Rattle.npos_runtime.specs.declared.line.Line.TheVariants as lines
 abbrev pub deposits_of : AccountId → List Submission → ℕ
 deposits_of who items = sum_by (λ item. if same_account who item.who then item.deposit else 0) items
 
--- what is held of each account is the deposits of its submissions among these, and each of their accounts is known
+-- what is held of each account is the deposits of its submissions among these, and each of their
+-- accounts is known
 pub record AreHeld (book : Ledger) (items : List Submission) : Type 0 where
   pub held : (who : AccountId) → (row_at book who).held ≡ deposits_of who items
   pub known : All (λ item. is_some (row_of book item.who) ≡ true) items

@@ -19,8 +19,8 @@ use Rattle.npos_runtime.specs.Deposits.{deposits_of}
 use Rattle.npos_runtime.specs.Fates.{fate, waiting_with, issued}
 use Rattle.npos_base.specs.declared.account.AccountId.{AccountId}
 
--- The committee has a member for each seat, follows nominations, spends no voter beyond its stake, and represents each
--- group of voters by as many members as its stake stands for.
+-- The committee has a member for each seat, follows nominations, spends no voter beyond its stake,
+-- and represents each group of voters by as many members as its stake stands for.
 pub record IsSound (election : Election) : Type 0 where
   pub well_formed : IsWellFormed election.snapshot
   pub feasible : IsFeasible election.snapshot election.weights
@@ -29,23 +29,26 @@ pub record IsSound (election : Election) : Type 0 where
 
 -- every election that a block of a live chain seats is sound
 abbrev pub SoundStepLaw : Type 0
-SoundStepLaw = (chain : Chain) (block : Block) → IsLive chain → All IsSound (step chain block).seated
+SoundStepLaw =
+    (chain : Chain) (block : Block) → IsLive chain → All IsSound (step chain block).seated
 
 -- the blocks are so few that each has a number
 abbrev pub FitsBehind : Genesis → List Block → Type 0
 FitsBehind genesis blocks = 1 + length blocks ≤ 2 ^ 32
 
 abbrev pub SoundLaw : Type 0
-SoundLaw = (genesis : Genesis) (blocks : List Block) → genesis_fault genesis ≡ None → FitsBehind genesis blocks
+SoundLaw = (genesis : Genesis) (blocks : List Block)
+    → genesis_fault genesis ≡ None → FitsBehind genesis blocks
     → All IsSound (seated_by (genesis_chain genesis) blocks)
 
--- Where a round that is not void is decided, its committee is seated and waits: with the round's snapshot, the weights
--- of the winner or the fill, and the members in rising order.
+-- Where a round that is not void is decided, its committee is seated and waits: with the round's
+-- snapshot, the weights of the winner or the fill, and the members in rising order.
 abbrev pub SeatsLaw : Type 0
 SeatsLaw = (chain : Chain) (block : Block) (number : ℕ) (snapshot : Snapshot) (commissions : List ℕ)
     → IsLive chain → is_decision chain.params chain.due ≡ true
     → chain.round ≡ Some (rounds.Open number snapshot commissions)
-    → ((step chain block).state.waiting ≡ Some (committee_of snapshot commissions chain.queue.items))
+    → ((step chain block).state.waiting
+    ≡ Some (committee_of snapshot commissions chain.queue.items))
     × ((step chain block).seated ≡ record {
       round = number;
       snapshot = snapshot;
@@ -54,15 +57,16 @@ SeatsLaw = (chain : Chain) (block : Block) (number : ℕ) (snapshot : Snapshot) 
 
 -- What is held of each account is the deposits of its submissions that wait.
 abbrev pub HeldLaw : Type 0
-HeldLaw = (genesis : Genesis) (blocks : List Block) (who : AccountId) → genesis_fault genesis ≡ None → FitsBehind genesis blocks
+HeldLaw = (genesis : Genesis) (blocks : List Block) (who : AccountId)
+    → genesis_fault genesis ≡ None → FitsBehind genesis blocks
     → (row_at (after_blocks (genesis_chain genesis) blocks).book who).held
     ≡ deposits_of who (after_blocks (genesis_chain genesis) blocks).queue.items
 
--- Accepted submissions have the numbers from 1 on without gaps. Each that was accepted waits once and was not settled,
--- or does not wait and was settled once; no other was settled.
+-- Accepted submissions have the numbers from 1 on without gaps. Each that was accepted waits once
+-- and was not settled, or does not wait and was settled once; no other was settled.
 abbrev pub FateLaw : Type 0
-FateLaw = (genesis : Genesis) (blocks : List Block) (number : ℕ) → genesis_fault genesis ≡ None → FitsBehind genesis blocks
-    → 1 ≤ number
+FateLaw = (genesis : Genesis) (blocks : List Block) (number : ℕ)
+    → genesis_fault genesis ≡ None → FitsBehind genesis blocks → 1 ≤ number
     → fate number (told_by (genesis_chain genesis) blocks)
     + waiting_with number (after_blocks (genesis_chain genesis) blocks).queue.items
     ≡ issued number (after_blocks (genesis_chain genesis) blocks).next

@@ -66,7 +66,8 @@ pub record IsLive (chain : Chain) : Type 0 where
   pub queue : IsOrdered chain.queue
   pub deposits : AreHeld chain.book chain.queue.items
 
--- A block has fewer than 2^32 calls, and block numbers are u32, so the numbers of submissions fit u64.
+-- A block has fewer than 2^32 calls, and block numbers are u32, so the numbers of submissions fit
+-- u64.
 abbrev pub most_calls : ℕ
 most_calls = 2 ^ 32 - 1
 

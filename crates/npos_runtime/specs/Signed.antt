@@ -33,8 +33,13 @@ abbrev pub current_round : Chain → ℕ
 current_round chain = era_of chain.params chain.due + 1
 
 abbrev pub submission_of : Chain → AccountId → Score → List ℕ → Submission
-submission_of chain who claim bytes =
-    record { number = chain.next; who = who; deposit = deposit_of chain.params; score = claim; bytes = bytes }
+submission_of chain who claim bytes = record {
+  number = chain.next;
+  who = who;
+  deposit = deposit_of chain.params;
+  score = claim;
+  bytes = bytes;
+}
 
 -- why the round takes no such submission, if it takes none
 abbrev pub form_refusal : Chain → ℕ → List ℕ → Option Refusal
@@ -53,7 +58,8 @@ offer_refusal chain item =
 
 abbrev pub submit_stop : Chain → AccountId → ℕ → Score → List ℕ → Option Refusal
 submit_stop chain who round claim bytes =
-    option_or (form_refusal chain round bytes) (offer_refusal chain (submission_of chain who claim bytes))
+    option_or (form_refusal chain round bytes)
+    (offer_refusal chain (submission_of chain who claim bytes))
 
 -- the submission that an offer puts out of the queue, if it puts one out
 abbrev pub put_out : Result (Option Submission) (Worse × Submission) → List Submission
@@ -63,8 +69,8 @@ put_out (Err back) = []
 abbrev pub ejected : Ranking → Submission → List Submission
 ejected queue item = put_out (offer_answer queue item)
 
--- The deposit is held, the submission waits under the next number, and the deposit of the one that it ejects is free
--- again.
+-- The deposit is held, the submission waits under the next number, and the deposit of the one that
+-- it ejects is free again.
 abbrev pub submitted : Chain → Submission → Chain
 submitted chain item = record chain {
   book = all_returned (ejected chain.queue item) (deposit_held item.who item.deposit chain.book);
@@ -76,4 +82,5 @@ abbrev pub submit_done : Chain → AccountId → Score → List ℕ → Chain
 submit_done chain who claim bytes = submitted chain (submission_of chain who claim bytes)
 
 abbrev pub submit_told : Chain → AccountId → Score → List ℕ → List Line
-submit_told chain who claim bytes = return_lines (ejected chain.queue (submission_of chain who claim bytes))
+submit_told chain who claim bytes =
+    return_lines (ejected chain.queue (submission_of chain who claim bytes))

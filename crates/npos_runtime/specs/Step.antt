@@ -1,5 +1,5 @@
--- The step of a block: the line of the block, the era that may begin, the round that may, the decision that may be due,
--- and then the calls in order.
+-- The step of a block: the line of the block, the era that may begin, the round that may, the
+-- decision that may be due, and then the calls in order.
 use Rattle.std.specs.Prelude.{ℕ, ◌+◌, List, [], ◌∷◌, ◌++◌, Option, Some, None, option_map, option_to_list}
 use Rattle.block_wire.specs.declared.call.Call.{Call}
 use Rattle.block_wire.specs.declared.block.Block.{Block}
@@ -32,7 +32,8 @@ era_phase chain =
 abbrev pub call_after : Option Refusal → ℕ → Call → Chain → Outcome
 call_after None index call chain =
     telling (lines.CallOk index ∷ told_of chain call.who call.kind) (done_of chain call.who call.kind)
-call_after (Some refusal) index call chain = telling (lines.CallRefused index (code_of refusal) ∷ []) chain
+call_after (Some refusal) index call chain =
+    telling (lines.CallRefused index (code_of refusal) ∷ []) chain
 
 abbrev pub call_outcome : ℕ → Call → Chain → Outcome
 call_outcome index call chain = call_after (stop_of chain call.who call.kind) index call chain
@@ -58,8 +59,10 @@ after_blocks chain (block ∷ more) = after_blocks (step chain block).state more
 -- what the blocks tell, and the elections that they seat
 abbrev pub told_by : Chain → List Block → List Line
 told_by chain [] = []
-told_by chain (block ∷ more) = (step chain block).lines ++ told_by (step chain block).state more
+told_by chain (block ∷ more) =
+    (step chain block).lines ++ told_by (step chain block).state more
 
 abbrev pub seated_by : Chain → List Block → List Election
 seated_by chain [] = []
-seated_by chain (block ∷ more) = (step chain block).seated ++ seated_by (step chain block).state more
+seated_by chain (block ∷ more) =
+    (step chain block).seated ++ seated_by (step chain block).state more

@@ -222,7 +222,8 @@ fn not_built() -> Result<(), Stop>
     Err(Stop::Refused(Refusal::NotBuilt))
 }
 
-/// Does what the call asks for, or stops. What it tells besides that it was accepted goes to `more`.
+/// Does what the call asks for, or stops. What it tells besides that it was accepted goes to
+/// `more`.
 #[tactic(auto, unfolding(crate::specs::Calls::stop_of, crate::specs::Calls::done_of, crate::specs::Calls::told_of))]
 pub fn act(
     chain: &mut Chain,

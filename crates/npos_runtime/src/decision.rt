@@ -252,11 +252,7 @@ fn tell_members(lines: &mut Vec<Line>, elected: &Elected) -> Result<(), NoMemory
 }
 
 /// A round may be due to be decided. A void one seats nobody.
-pub fn decide_round(
-    alloc: Global,
-    chain: &mut Chain,
-    lines: &mut Vec<Line>,
-) -> Result<(), NoMemory>
+pub fn decide_round(alloc: Global, chain: &mut Chain, lines: &mut Vec<Line>) -> Result<(), NoMemory>
     requires { IsLive chain.old }
     ensures { OnOk result
         (Goes (decision_phase chain.old) chain.new lines.old.items lines.new.items) }
@@ -265,11 +261,13 @@ pub fn decide_round(
         return Ok(());
     }
     match chain.round.take() {
-        Some(Round::Open {
-            number,
-            snapshot,
-            commissions,
-        }) => {
+        Some(
+            Round::Open {
+                number,
+                snapshot,
+                commissions,
+            },
+        ) => {
             let amount = reward_of(&chain.params);
             let elected = decide(
                 alloc,

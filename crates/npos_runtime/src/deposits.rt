@@ -29,11 +29,7 @@ pub fn return_deposit(
 
 /// The deposits of all that wait are free again, by rank, and nobody waits then.
 #[tactic(auto, using(crate::proofs::DepositLemmas::front, crate::proofs::DepositLemmas::held_within, crate::proofs::DepositLemmas::held_returned))]
-pub fn return_all(
-    book: &mut Book,
-    lines: &mut Vec<Line>,
-    queue: &mut Queue,
-) -> Result<(), NoMemory>
+pub fn return_all(book: &mut Book, lines: &mut Vec<Line>, queue: &mut Queue) -> Result<(), NoMemory>
     requires { AreHeld book.old queue.old.items }
     ensures book { OnOk result (book.new ≡ all_returned queue.old.items book.old) }
     ensures lines { OnOk result

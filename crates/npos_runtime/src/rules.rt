@@ -123,8 +123,7 @@ pub fn is_signed(params: &Option<Params>, number: u64) -> bool
         return false;
     };
     let place = (number - 1) % u64::from(params.era_blocks);
-    u64::from(params.offset) <= place
-        && place < u64::from(params.offset) + u64::from(params.signed)
+    u64::from(params.offset) <= place && place < u64::from(params.offset) + u64::from(params.signed)
 }
 
 /// Whether a round is decided in the block of this number.

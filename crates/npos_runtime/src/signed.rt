@@ -27,7 +27,8 @@ fn is_open(round: &Option<Round>) -> bool
 fn check_form(chain: &Chain, round: u32, bytes: &[u8]) -> Result<(), Refusal>
     requires { IsLive chain.now }
     ensures ok { OnOk result (form_refusal chain.now round bytes.now ≡ None) }
-    ensures refused { IfErr result (λ refusal. form_refusal chain.now round bytes.now ≡ Some refusal) }
+    ensures refused { IfErr result
+        (λ refusal. form_refusal chain.now round bytes.now ≡ Some refusal) }
 {
     if !is_signed(&chain.params, chain.due) || !is_open(&chain.round) {
         return Err(Refusal::WrongPhase);
@@ -55,8 +56,10 @@ fn hold(book: &mut Book, who: AccountId, deposit: u64) -> Result<(), NoMemory>
 fn take_in(chain: &mut Chain, more: &mut Vec<Line>, item: Submission) -> Result<(), Stop>
     requires live { IsLive chain.old }
     requires numbers { chain.old.next + 1 < 2 ^ 64 }
-    ensures meets { Meets (offer_refusal chain.old item) (submitted chain.old item) chain.old chain.new result }
-    ensures told { OnOk result (more.new.items ≡ more.old.items ++ return_lines (ejected chain.old.queue item)) }
+    ensures meets { Meets (offer_refusal chain.old item) (submitted chain.old item)
+        chain.old chain.new result }
+    ensures told { OnOk result
+        (more.new.items ≡ more.old.items ++ return_lines (ejected chain.old.queue item)) }
 {
     let (who, deposit) = (item.who, item.deposit);
     if chain.book.free(who) < deposit {
@@ -84,8 +87,10 @@ pub fn submit(
 ) -> Result<(), Stop>
     requires live { IsLive chain.old }
     requires numbers { chain.old.next + 1 < 2 ^ 64 }
-    ensures meets { Meets (submit_stop chain.old who round claim bytes) (submit_done chain.old who claim bytes) chain.old chain.new result }
-    ensures told { OnOk result (more.new.items ≡ more.old.items ++ submit_told chain.old who claim bytes) }
+    ensures meets { Meets (submit_stop chain.old who round claim bytes)
+        (submit_done chain.old who claim bytes) chain.old chain.new result }
+    ensures told { OnOk result
+        (more.new.items ≡ more.old.items ++ submit_told chain.old who claim bytes) }
 {
     if let Err(refusal) = check_form(chain, round, bytes.as_slice()) {
         return Err(Stop::Refused(refusal));

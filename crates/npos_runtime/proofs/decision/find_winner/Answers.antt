@@ -18,7 +18,7 @@ items-preserved c =
     let first : c.items.queue.items ≡ item ∷ later = front c.items.queue.items item (sym c.take_best.ensures.best ∙ c.in-Some.is) in
     let rest : c.take_best.new.self.items ≡ later = ap (λ (q : Ranking). q.items) c.take_best.ensures.rest in
     let seen : c.in_ok-verdict.verdict ≡ judged snapshot item =
-        c.in_ok-verdict.ensures.verdict ∙ (λ i. verdict_packed (c.items.invariant.snapshot i) item.score (c.as_slice-bytes.ensures i)) in
+    c.in_ok-verdict.ensures.verdict ∙ (λ i. verdict_packed (c.items.invariant.snapshot i) item.score (c.as_slice-bytes.ensures i)) in
     let fails_here = fails_first snapshot item later (fails_by snapshot item (λ e. c.in_default-2.not-Yes (seen ∙ e))) in
     let lost : losers snapshot c.items.queue.items ≡ item ∷ losers snapshot later = ap (losers snapshot) first ∙ fails_here.0 in
     let told = c.in_ok-forfeit-in_default-2.ensures in

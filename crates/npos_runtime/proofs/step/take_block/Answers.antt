@@ -31,7 +31,7 @@ take_calls-requires-clause-live c =
 pub take_calls-requires-clause-numbers : goal.take_calls-requires-clause-numbers
 take_calls-requires-clause-numbers c =
     let same = begun c.args.chain.now c.begin_era.new.chain c.begin_round.new.chain c.decide_round.new.chain
-        c.in_ok-begin_era.ensures.state c.in_ok-begin_round.ensures.state c.in_ok-decide_round.ensures.state in
+    c.in_ok-begin_era.ensures.state c.in_ok-begin_round.ensures.state c.in_ok-decide_round.ensures.state in
     omega (
       arith,
       ap (λ (chain : Chain). chain.next) same,
@@ -44,7 +44,7 @@ take_calls-requires-clause-numbers c =
 pub returns-clause-ready_after : goal.returns-clause-ready_after
 returns-clause-ready_after c =
     let same = begun c.args.chain.now c.begin_era.new.chain c.begin_round.new.chain c.decide_round.new.chain
-        c.in_ok-begin_era.ensures.state c.in_ok-begin_round.ensures.state c.in_ok-decide_round.ensures.state in
+    c.in_ok-begin_era.ensures.state c.in_ok-begin_round.ensures.state c.in_ok-decide_round.ensures.state in
     let called = c.in_ok-take_calls.ensures.goes.state in
     record {
       live = live_closed c.take_calls.new.chain c.in_ok-take_calls.ensures.live_after
