@@ -27,7 +27,12 @@ fn tell_members(
         ++ flat_map (line_of snapshot.now weights.now.plain) weights.now.plain.committee) }
 {
     for member in weights.committee() {
-        tell_member(text, alloc, snapshot.target(*member), weights.support(*member))?;
+        tell_member(
+            text,
+            alloc,
+            snapshot.target(*member),
+            weights.support(*member),
+        )?;
     }
     Ok(())
 }
