@@ -23,7 +23,7 @@ rising_members targets old new moved up distinct within = same_list (λ n. n) ne
     (rises_sorted (λ n. n) new up (IsDistinct-IsPermutation nat_eq eqb_turned old new moved distinct))
     (rises-filter (λ n. n) (has old) (range_with_len 0 targets) (rises_range 0 targets))
     (λ n h. let there = in_permuted new old n (IsPermutation-sym old new moved) h in
-        in_filter (has old) (range_with_len 0 targets) n (in_range 0 targets n (omega arith) (omega (arith, all_at (λ m. m < targets) old within n there))) (in_has old n there))
+    in_filter (has old) (range_with_len 0 targets) n (in_range 0 targets n (omega arith) (omega (arith, all_at (λ m. m < targets) old within n there))) (in_has old n there))
     (λ n h. in_permuted old new n moved (from_has old n (from_filter (has old) (range_with_len 0 targets) n h).1))
 
 -- one line more

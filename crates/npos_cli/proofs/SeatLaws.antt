@@ -32,7 +32,6 @@ module _ (law : SoundStepLaw) where
       subst (λ (out : Outcome Chain Election). All IsSound out.seated) (sym o)
       (passes_sound reaches.blocks p q text reaches.passes (live_by start.genesis p.state (genesis_fault start.genesis) refl start.state_is))
 
-
 pub told_sound : (left : Option (List ℕ)) → ((bytes : List ℕ) → SeatsAreSound bytes) → IfSome left SeatsAreSound
 told_sound None law = tt
 told_sound (Some bytes) law = law bytes

@@ -1,4 +1,4 @@
-//! Worked bundles, whose verdicts were computed by hand, through the top call.
+//! Worked bundles, whose verdicts and fills were computed by hand, through the top call.
 use crate::run;
 use npos_base::{AccountId, List, MemorySink, MemorySource, NoMemory};
 use scale_wire::Pen;
@@ -189,6 +189,34 @@ const SPELLED: [(u64, Voters, &[u8], u8, &str); 7] = [
     (1, &[(9, &[0])], &[0], 3, "fault 0 snapshot 1 1 2\n"),
 ];
 
+/// Bundles with two seats and work that no miner looks at, with the status and the text of the fill: a tie that goes to
+/// the lowest, the least total, less than that, a byte too many and an unknown vote.
+const FILLED: [(u64, Voters, &[u8], u8, &str); 5] = [
+    (
+        3,
+        &[(70, &[0, 1]), (30, &[2])],
+        &[0],
+        0,
+        "member 0000000000000000000000000000000000000000000000000000000000000000 50\nmember 0000000000000000000000000000000000000000000000000000000000000002 30\nscore 30 80 3400\nverdict 0\n",
+    ),
+    (
+        3,
+        &[(3, &[0, 1]), (1, &[2])],
+        &[2, 0, 4, 8, 0, 4],
+        0,
+        "member 0000000000000000000000000000000000000000000000000000000000000000 2\nmember 0000000000000000000000000000000000000000000000000000000000000001 1\nscore 1 3 5\nverdict 0\n",
+    ),
+    (
+        3,
+        &[(2, &[0, 1]), (1, &[2])],
+        &[0],
+        3,
+        "fault 0 snapshot 2 3 2\n",
+    ),
+    (3, APART, &[0, 0], 3, "fault 170 trailing\n"),
+    (2, &[(9, &[0, 2])], &[0], 3, "fault 0 snapshot 5 0\n"),
+];
+
 /// Appends a bundle with two seats, up to its work.
 fn put_election(pen: &mut Pen, targets: u64, voters: Voters) -> Result<(), NoMemory> {
     pen.put_compact(2)?;
@@ -233,11 +261,16 @@ fn put_packed(
     Ok(())
 }
 
-/// What a check of these bytes writes, its status, and how many bytes it leaves.
-fn check(alloc: Global, bytes: List<u8>) -> Result<(Vec<u8>, u8, usize), NoMemory> {
+/// What these words and bytes write, the status, and how many bytes are left.
+fn report(
+    alloc: Global,
+    asked: &[&str],
+    bytes: List<u8>,
+) -> Result<(Vec<u8>, u8, usize), NoMemory> {
     let mut words = Vec::new(alloc);
-    words.push(String::from_str(alloc, "npos")?)?;
-    words.push(String::from_str(alloc, "check")?)?;
+    for word in asked {
+        words.push(String::from_str(alloc, word)?)?;
+    }
     let mut source = MemorySource::new(bytes, 4096, List::new(alloc));
     let mut sink = MemorySink::new(alloc, 4096, List::new(alloc));
     sink.reserve(4096)?;
@@ -249,13 +282,19 @@ fn check(alloc: Global, bytes: List<u8>) -> Result<(Vec<u8>, u8, usize), NoMemor
     ))
 }
 
+/// The words of a check.
+const CHECK: [&str; 2] = ["npos", "check"];
+
+/// The words of a fill.
+const FILL: [&str; 4] = ["npos", "mine", "--miner", "fill"];
+
 #[test]
 fn packed_work_gets_its_verdict(rt: HostRuntime) -> Result<(), Fail> {
     for (targets, voters, claim, front, zeros, status, line) in PACKED {
         let mut pen = Pen::new(rt.alloc());
         put_election(&mut pen, targets, voters)?;
         put_packed(&mut pen, claim, front, zeros)?;
-        let (text, ended, left) = check(rt.alloc(), pen.finish())?;
+        let (text, ended, left) = report(rt.alloc(), &CHECK, pen.finish())?;
         assert_eq!(rt; text.as_slice(), line.as_bytes());
         assert_eq!(rt; (ended, left), (status, 0));
     }
@@ -268,7 +307,7 @@ fn spelled_work_gets_its_verdict_or_its_fault(rt: HostRuntime) -> Result<(), Fai
         let mut pen = Pen::new(rt.alloc());
         put_election(&mut pen, targets, voters)?;
         pen.put_bytes(work)?;
-        let (text, ended, _) = check(rt.alloc(), pen.finish())?;
+        let (text, ended, _) = report(rt.alloc(), &CHECK, pen.finish())?;
         assert_eq!(rt; text.as_slice(), line.as_bytes());
         assert_eq!(rt; ended, status);
     }
@@ -276,9 +315,22 @@ fn spelled_work_gets_its_verdict_or_its_fault(rt: HostRuntime) -> Result<(), Fai
 }
 
 #[test]
+fn elections_get_their_fill_or_their_fault(rt: HostRuntime) -> Result<(), Fail> {
+    for (targets, voters, work, status, lines) in FILLED {
+        let mut pen = Pen::new(rt.alloc());
+        put_election(&mut pen, targets, voters)?;
+        pen.put_bytes(work)?;
+        let (text, ended, left) = report(rt.alloc(), &FILL, pen.finish())?;
+        assert_eq!(rt; text.as_slice(), lines.as_bytes());
+        assert_eq!(rt; (ended, left), (status, 0));
+    }
+    Ok(())
+}
+
+#[test]
 fn a_bundle_that_is_too_long_is_not_read_on(rt: HostRuntime) -> Result<(), Fail> {
     let bytes = Vec::from_elem(rt.alloc(), 0, 16_777_220)?;
-    let (text, ended, left) = check(rt.alloc(), List::from_vec(bytes))?;
+    let (text, ended, left) = report(rt.alloc(), &CHECK, List::from_vec(bytes))?;
     assert_eq!(rt; text.as_slice(), b"fault 16777216 long\n".as_slice());
     assert_eq!(rt; (ended, left), (3, 3));
     Ok(())

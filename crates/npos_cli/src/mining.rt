@@ -16,11 +16,7 @@ use std::alloc::Global;
 use weight_book::Weights;
 
 /// Appends the lines of the members in the order of the committee.
-fn tell_members(
-    text: &mut Vec<u8>,
-    snapshot: &Snapshot,
-    weights: &Weights,
-) -> Result<(), NoMemory>
+fn tell_members(text: &mut Vec<u8>, snapshot: &Snapshot, weights: &Weights) -> Result<(), NoMemory>
     requires { All (λ member. member < length snapshot.now.targets) weights.now.plain.committee }
     ensures { OnOk result (text.new.items ≡ text.old.items
         ++ flat_map (line_of snapshot.now weights.now.plain) weights.now.plain.committee) }
@@ -32,11 +28,7 @@ fn tell_members(
 }
 
 /// Appends the lines of the members by rising position, and the line of the score.
-fn tell_weights(
-    text: &mut Vec<u8>,
-    snapshot: &Snapshot,
-    weights: Weights,
-) -> Result<(), NoMemory>
+fn tell_weights(text: &mut Vec<u8>, snapshot: &Snapshot, weights: Weights) -> Result<(), NoMemory>
     requires { IsFeasible snapshot.now weights.plain }
     ensures { OnOk result (text.new.items ≡ text.old.items ++ weights_lines snapshot.now weights.plain) }
 {

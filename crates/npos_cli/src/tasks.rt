@@ -15,12 +15,7 @@ use npos_base::NoMemory;
 use std::alloc::Global;
 
 /// The answer on the election of a bundle that has so many bytes.
-fn report_on(
-    alloc: Global,
-    election: Election,
-    task: Task,
-    size: u64,
-) -> Result<Answer, NoMemory>
+fn report_on(alloc: Global, election: Election, task: Task, size: u64) -> Result<Answer, NoMemory>
     ensures { IfOk result (λ answer. report_of answer ≡ task_report task size election) }
 {
     let Election { snapshot, work } = election;

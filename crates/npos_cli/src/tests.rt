@@ -241,17 +241,30 @@ fn a_failed_read_or_write_ends_the_run(rt: HostRuntime) -> Result<(), Fail> {
     Ok(())
 }
 
+// Words that ask for nothing.
+const FORMLESS: [&[&str]; 7] = [
+    &["npos"],
+    &["npos", "elect"],
+    &["npos", "replay", "replay"],
+    &["npos", "mine"],
+    &["npos", "mine", "--miner"],
+    &["npos", "mine", "fill", "--miner"],
+    &["npos", "mine", "--miner", "fill", "fill"],
+];
+
 #[test]
 fn words_without_a_form_owe_the_usage_line(rt: HostRuntime) -> Result<(), Fail> {
-    let bytes = List::from_vec(Vec::from_slice(rt.alloc(), &PLAIN)?);
-    let ran = run_over(rt.alloc(), &["npos", "elect"], bytes, calm(4096))?;
-    delivered(
-        &rt,
-        &ran,
-        2,
-        "usage: npos replay|check|mine|pack|show|demo\n",
-    );
-    assert_eq!(rt; ran.left, 69);
+    for words in FORMLESS {
+        let bytes = List::from_vec(Vec::from_slice(rt.alloc(), &PLAIN)?);
+        let ran = run_over(rt.alloc(), words, bytes, calm(4096))?;
+        delivered(
+            &rt,
+            &ran,
+            2,
+            "usage: npos replay|check|mine|pack|show|demo\n",
+        );
+        assert_eq!(rt; ran.left, 69);
+    }
     Ok(())
 }
 

@@ -1,11 +1,11 @@
 -- Tables by target, changed at each of a voter's votes.
-use Rattle.std.proofs.Common.{◌≡◌, ℕ, zero, suc, ◌+◌, ◌<◌, ◌⊎◌, min, Bool, true, false, not, cond, ◌||◌, nat_eq, List, [], ◌∷◌, ◌++◌, length, take, get_or, set, filter, None, inl, inr, refl, ap, sym, subst, ◌∙◌, arith}
+use Rattle.std.proofs.Common.{◌≡◌, ℕ, zero, suc, ◌+◌, ◌<◌, ◌⊎◌, min, Bool, true, false, not, cond, ◌||◌, nat_eq, List, [], ◌∷◌, ◌++◌, length, take, get_or, set, filter, Option, Some, None, IfSome, is_none, nat_lt, inl, inr, refl, ap, sym, subst, ◌∙◌, arith}
 use Rattle.std.specs.List.{IsDistinct, range_with_len, fold}
 use Rattle.std.proofs.lemmas.List.{length-take, get_or-take, get_or_default, get_or-set_same, get_or-set_other}
 use Rattle.std.proofs.lemmas.List.Elements.{filter-append}
 use Rattle.std.proofs.lemmas.List.Folds.{list_any_more, list_any_none}
 use Rattle.std.proofs.lemmas.List.Sums.{fold-append}
-use Rattle.std.proofs.lemmas.Bool.{cases_eq, cond-true, cond-false, eq-eqb, ne_eqb, or_right}
+use Rattle.std.proofs.lemmas.Bool.{cases_eq, cond-true, cond-false, eq-eqb, ne_eqb, or_right, true≢false}
 use Rattle.std.proofs.lemmas.Bool.Decides.{Decides-eqb}
 use Rattle.std.proofs.lemmas.Map.Made.{AllPairs-from_IsDistinct}
 use Rattle.election_snapshot.specs.Snapshot.{has}
@@ -84,3 +84,25 @@ module _ (backings : List ℕ) (marks : List Bool) where
 
   pub best_kept : (count : ℕ) → get_or marks count false ≡ true → best_by backings marks count ≡ best_by backings marks (count + 1)
   best_kept count t = sym (one_more count ∙ ap (λ b. fold (better (says backings)) (best_by backings marks count) (cond (not b) (count ∷ []) [])) t)
+
+  -- the best of the targets so far, and its backing
+  abbrev pub IsBestSoFar : ℕ → Option ℕ → ℕ → Type 0
+  IsBestSoFar count best most = (best ≡ best_by backings marks count)
+      × IfSome best (λ target. (target < length backings) × (most ≡ says backings target))
+
+  pub best_next : (count : ℕ) (best : Option ℕ) (most : ℕ) → count < length backings → IsBestSoFar count best most → get_or marks count false ≡ false
+      → (is_none best || nat_lt most (says backings count)) ≡ true → IsBestSoFar (count + 1) (Some count) (says backings count)
+  best_next count best most h so_far f more = (better_is best so_far.1 more ∙ ap (λ o. better (says backings) o count) so_far.0 ∙ best_taken count f, (h, refl)) where
+    better_is : (o : Option ℕ) → IfSome o (λ target. (target < length backings) × (most ≡ says backings target)) → (is_none o || nat_lt most (says backings count)) ≡ true
+        → Some count ≡ better (says backings) o count
+    better_is None is m = refl
+    better_is (Some b) is m = sym (ap (λ test. cond test (Some count) (Some b)) (ap (λ n. nat_lt n (says backings count)) (sym is.1) ∙ m))
+
+  pub best_stays : (count : ℕ) (best : Option ℕ) (most : ℕ) → IsBestSoFar count best most
+      → (get_or marks count false ≡ true) ⊎ ((get_or marks count false ≡ false) × ((is_none best || nat_lt most (says backings count)) ≡ false)) → IsBestSoFar (count + 1) best most
+  best_stays count best most so_far (inl t) = (so_far.0 ∙ best_kept count t, so_far.1)
+  best_stays count best most so_far (inr (f, no_more)) = (same best so_far.1 no_more ∙ ap (λ o. better (says backings) o count) so_far.0 ∙ best_taken count f, so_far.1) where
+    same : (o : Option ℕ) → IfSome o (λ target. (target < length backings) × (most ≡ says backings target)) → (is_none o || nat_lt most (says backings count)) ≡ false
+        → o ≡ better (says backings) o count
+    same None is m = absurd (true≢false m)
+    same (Some b) is m = sym (ap (λ test. cond test (Some count) (Some b)) (ap (λ n. nat_lt n (says backings count)) (sym is.1) ∙ m))

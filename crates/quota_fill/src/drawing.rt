@@ -1,9 +1,9 @@
 //! One pick: the target that joins, and what it draws.
-ghost use Rattle.std.specs.Prelude.{◌≡◌, ℕ, ◌-◌, ◌<◌, ◌≤◌, ◌∷◌, [], ◌++◌, if◌then◌else◌, length, nat_eq, nat_lt, slice_set, All, IsTrue, IfSome, OnOk};
+ghost use Rattle.std.specs.Prelude.{◌≡◌, ℕ, ◌-◌, ◌<◌, ◌≤◌, ◌∷◌, [], ◌++◌, if◌then◌else◌, length, nat_eq, nat_lt, is_none, ◌||◌, slice_set, All, IsTrue, IfSome, OnOk};
 ghost use Rattle.std.specs.List.{IsDistinct};
 ghost use Rattle.election_snapshot.specs.Snapshot.{has};
 ghost use Rattle.weight_book.specs.Passing.{nominators};
-ghost use Rattle.quota_fill.specs.Filled.{better, draw};
+ghost use Rattle.quota_fill.specs.Filled.{draw};
 ghost use Rattle.quota_fill.specs.Kept.{says, best_by, draws_of, AreBackings};
 
 use election_snapshot::Snapshot;
@@ -17,24 +17,23 @@ pub(crate) fn best_outside(backings: &[u64], is_picked: &[bool]) -> Option<u16>
     ensures in_range { IfSome result (λ target. target < length backings.now) }
 {
     let mut best = None;
+    let mut most = 0;
     for target in 0..backings.len() {
-        if !is_picked[target] {
-            best = better_of(backings, best, target as u16);
+        if !is_picked[target] && exceeds(best, most, backings[target]) {
+            best = Some(target as u16);
+            most = backings[target];
         }
     }
     best
 }
 
-/// The target, where it has a greater backing than the best before it.
-fn better_of(backings: &[u64], best: Option<u16>, target: u16) -> Option<u16>
-    requires best { IfSome best (λ other. other < length backings.now) }
-    requires target { target < length backings.now }
-    ensures better { result ≡ better (says backings.now) best target }
-    ensures in_range { IfSome result (λ other. other < length backings.now) }
+/// Whether a backing is more than the most so far, or the first one.
+fn exceeds(best: Option<u16>, most: u64, backing: u64) -> bool
+    ensures { result ≡ (is_none best || nat_lt most backing) }
 {
     match best {
-        Some(best) if backings[usize::from(best)] >= backings[usize::from(target)] => Some(best),
-        _ => Some(target),
+        Some(_) => most < backing,
+        None => true,
     }
 }
 

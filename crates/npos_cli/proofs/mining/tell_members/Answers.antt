@@ -10,7 +10,7 @@ pub loop-member-preserved : goal.loop-member-preserved
 loop-member-preserved c =
     let committee = c.args.weights.now.plain.committee in
     let i = c.loop-member.member-index in
-    let who : c.target.result ≡ target_at c.args.snapshot.now (get_or c.args.weights.now.plain.committee c.loop-member.member-index 0) 
+    let who : c.target.result ≡ target_at c.args.snapshot.now (get_or c.args.weights.now.plain.committee c.loop-member.member-index 0)
     = sym (get_or_from_slice_get c.args.snapshot.now.targets (get_or committee i 0) c.target.result no_account (search rules)) in
     let number : c.support.result ≡ support c.args.weights.now.plain.edges (get_or c.args.weights.now.plain.committee c.loop-member.member-index 0) = search rules in
     let h : c.loop-member.member-index < length c.args.weights.now.plain.committee = search rules in

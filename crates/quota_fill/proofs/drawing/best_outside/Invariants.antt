@@ -1,7 +1,6 @@
-use Rattle.std.proofs.Common.{◌≡◌, ◌<◌, length, IfSome}
-use Rattle.quota_fill.specs.Kept.{best_by}
+use Rattle.quota_fill.proofs.TableLemmas.{IsBestSoFar}
 use Rattle.quota_fill.proofs.drawing.best_outside.Given as goal
 
--- the best of the targets so far
+-- the best of the targets so far, and its backing
 abbrev pub invariant-loop-target : goal.invariant-loop-target
-invariant-loop-target l = (l.best ≡ best_by l.backings l.is_picked l.target) × IfSome l.best (λ target. target < length l.backings)
+invariant-loop-target l = IsBestSoFar l.backings l.is_picked l.target l.best l.most
