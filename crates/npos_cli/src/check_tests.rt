@@ -14,8 +14,8 @@ const APART: Voters = &[(60, &[0]), (40, &[1])];
 /// One voter with 10 for two targets.
 const ONE: Voters = &[(10, &[0, 1])];
 
-/// Bundles with two seats: how many targets, the voters, the claimed score, the front of a solution and how many zeros
-/// follow it; and then the status and the line.
+/// Bundles with two seats: how many targets, the voters, the claimed score, the front of a solution
+/// and how many zeros follow it; and then the status and the line.
 const PACKED: [(u64, Voters, (u64, u64, u128), &[u8], u32, u8, &str); 16] = [
     (
         3,
@@ -189,8 +189,9 @@ const SPELLED: [(u64, Voters, &[u8], u8, &str); 7] = [
     (1, &[(9, &[0])], &[0], 3, "fault 0 snapshot 1 1 2\n"),
 ];
 
-/// Bundles with two seats and work that no miner looks at, with the status and the text of the fill: a tie that goes to
-/// the lowest, the least total, less than that, a byte too many and an unknown vote.
+/// Bundles with two seats and work that no miner looks at, with the status and the text of the
+/// fill: a tie that goes to the lowest, the least total, less than that, a byte too many and an
+/// unknown vote.
 const FILLED: [(u64, Voters, &[u8], u8, &str); 5] = [
     (
         3,

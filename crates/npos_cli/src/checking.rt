@@ -43,7 +43,8 @@ fn weights_of(
     committee: &[u16],
     edges: &[Edge],
 ) -> Result<Weights, NoMemory>
-    ensures { IfOk result (λ weights. weights.plain ≡ record { committee = committee.now; edges = edges.now }) }
+    ensures { IfOk result (λ weights. weights.plain
+        ≡ record { committee = committee.now; edges = edges.now }) }
 {
     let mut weights = Weights::with_room(alloc, snapshot)?;
     weights.reserve(committee.len(), edges.len())?;
@@ -69,7 +70,8 @@ fn plain_verdict(
     committee: &[u16],
     edges: &[Edge],
 ) -> Result<Verdict, NoMemory>
-    ensures { IfOk result (λ verdict. verdict ≡ verdict_plain snapshot (record { committee = committee.now; edges = edges.now })) }
+    ensures { IfOk result (λ verdict. verdict
+        ≡ verdict_plain snapshot (record { committee = committee.now; edges = edges.now })) }
 {
     let weights = weights_of(alloc, &snapshot, committee, edges)?;
     let mut checker = checker_of(alloc, snapshot)?;

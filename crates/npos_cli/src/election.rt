@@ -12,7 +12,8 @@ use std::alloc::Global;
 /// Adds the targets in order, up to the first fault.
 fn add_targets(builder: &mut SnapshotBuilder, targets: &[AccountId]) -> Result<(), SnapshotFault>
     ensures done { OnOk result (with_targets targets.now builder.old ≡ Ok builder.new) }
-    ensures fault { IfErr result (λ fault. fault ≢ NoMemory → with_targets targets.now builder.old ≡ Err fault) }
+    ensures fault { IfErr result (λ fault. fault ≢ NoMemory
+        → with_targets targets.now builder.old ≡ Err fault) }
 {
     for who in targets {
         builder.add_target(*who)?;
@@ -22,7 +23,8 @@ fn add_targets(builder: &mut SnapshotBuilder, targets: &[AccountId]) -> Result<(
 
 /// Adds one voter.
 fn add_voter(builder: &mut SnapshotBuilder, voter: &BundleVoter) -> Result<(), SnapshotFault>
-    ensures { Meets NoMemory (fault_of builder.old voter.now) (draft_with builder.old voter.now) builder.old builder.new result }
+    ensures { Meets NoMemory (fault_of builder.old voter.now)
+        (draft_with builder.old voter.now) builder.old builder.new result }
 {
     builder.add_voter(voter.account, voter.stake, voter.votes.as_slice())
 }
@@ -30,7 +32,8 @@ fn add_voter(builder: &mut SnapshotBuilder, voter: &BundleVoter) -> Result<(), S
 /// Adds the voters in order, up to the first fault.
 fn add_voters(builder: &mut SnapshotBuilder, voters: &[BundleVoter]) -> Result<(), SnapshotFault>
     ensures done { OnOk result (with_voters voters.now builder.old ≡ Ok builder.new) }
-    ensures fault { IfErr result (λ fault. fault ≢ NoMemory → with_voters voters.now builder.old ≡ Err fault) }
+    ensures fault { IfErr result (λ fault. fault ≢ NoMemory
+        → with_voters voters.now builder.old ≡ Err fault) }
 {
     for voter in voters {
         add_voter(builder, voter)?;

@@ -13,8 +13,8 @@ use std::marker::Model;
 /// The most bytes of one read.
 const PIECE: usize = 65_536;
 
-/// The bytes of an input that were read and not taken yet, with room for one read more. Contracts see the bytes, the
-/// place of the first of them, and whether the input has ended behind them.
+/// The bytes of an input that were read and not taken yet, with room for one read more. Contracts
+/// see the bytes, the place of the first of them, and whether the input has ended behind them.
 #[derive(Drop)]
 pub struct Held {
     alloc: Global,
@@ -43,15 +43,17 @@ pub fn blank_piece(alloc: Global, size: usize) -> Result<Vec<u8>, NoMemory>
     Ok(piece)
 }
 
-/// Appends what one read gives, and answers whether the input has ended. The status of an Err is ReadFault or
-/// NoMemory.
+/// Appends what one read gives, and answers whether the input has ended. The status of an Err is
+/// ReadFault or NoMemory.
 pub fn read_more<S: Source>(
     source: &mut S,
     piece: &mut [u8],
     bytes: &mut Vec<u8>,
 ) -> Result<bool, Status>
     requires { 0 < length piece.old }
-    ensures taken { IfOk result (λ ended. TakesMore (S.left source.old) (S.left source.new) bytes.old.items bytes.new.items ended) }
+    ensures taken { IfOk result
+        (λ ended. TakesMore (S.left source.old)
+        (S.left source.new) bytes.old.items bytes.new.items ended) }
     ensures longer { IfOk result (λ ended. ended ≡ false → vec_len bytes.old < vec_len bytes.new) }
     ensures within { vec_len bytes.new ≤ vec_len bytes.old + length piece.old }
     ensures halts { HaltsWell (S.faults source.old) (S.faults source.new) result }
@@ -120,11 +122,13 @@ impl Held {
         Ok(())
     }
 
-    /// Reads once. Places are numbers below 2^64: a read that could pass them, which no chain comes near, ends as want of
-    /// memory does. The status of an Err is ReadFault or NoMemory.
+    /// Reads once. Places are numbers below 2^64: a read that could pass them, which no chain comes
+    /// near, ends as want of memory does. The status of an Err is ReadFault or NoMemory.
     fn read_once<S: Source>(&mut self, source: &mut S) -> Result<(), Status>
-        ensures more { OnOk result (ReadsOn (S.left source.old) (S.left source.new) self.old self.new) }
-        ensures further { OnOk result (self.new.ended ≡ false → length self.old.bytes < length self.new.bytes) }
+        ensures more { OnOk result
+            (ReadsOn (S.left source.old) (S.left source.new) self.old self.new) }
+        ensures further { OnOk result (self.new.ended ≡ false
+            → length self.old.bytes < length self.new.bytes) }
         ensures halts { HaltsWell (S.faults source.old) (S.faults source.new) result }
     {
         let most = self.bytes.len() as u64 + self.piece.len() as u64;
@@ -136,12 +140,14 @@ impl Held {
         Ok(())
     }
 
-    /// Reads on until twice as many bytes are held, or the input has ended. So whoever begins a long value anew after
-    /// each call goes over fewer than three times its bytes, however small the reads are. The status of an Err is ReadFault or
-    /// NoMemory.
+    /// Reads on until twice as many bytes are held, or the input has ended. So whoever begins a
+    /// long value anew after each call goes over fewer than three times its bytes, however small
+    /// the reads are. The status of an Err is ReadFault or NoMemory.
     pub fn read_on<S: Source>(&mut self, source: &mut S) -> Result<(), Status>
-        ensures more { OnOk result (ReadsOn (S.left source.old) (S.left source.new) self.old self.new) }
-        ensures further { OnOk result (self.new.ended ≡ false → length self.old.bytes < length self.new.bytes) }
+        ensures more { OnOk result
+            (ReadsOn (S.left source.old) (S.left source.new) self.old self.new) }
+        ensures further { OnOk result (self.new.ended ≡ false
+            → length self.old.bytes < length self.new.bytes) }
         ensures fits { self.old.at + length self.old.bytes < 2 ^ 64 }
         ensures halts { HaltsWell (S.faults source.old) (S.faults source.new) result }
     {

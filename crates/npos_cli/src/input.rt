@@ -10,11 +10,12 @@ use std::alloc::Global;
 /// The most bytes of one read.
 const PIECE: usize = 65_536;
 
-/// Reads on until the input has ended or more than `most` bytes were read, but never more than one byte beyond. The
-/// status of an Err is ReadFault or NoMemory.
+/// Reads on until the input has ended or more than `most` bytes were read, but never more than one
+/// byte beyond. The status of an Err is ReadFault or NoMemory.
 pub fn read_up_to<S: Source>(alloc: Global, source: &mut S, most: usize) -> Result<Vec<u8>, Status>
     requires { most < 2 ^ 32 }
-    ensures read { IfOk result (λ bytes. ReadsUpTo most (S.left source.old) (S.left source.new) bytes.items) }
+    ensures read { IfOk result
+        (λ bytes. ReadsUpTo most (S.left source.old) (S.left source.new) bytes.items) }
     ensures halts { HaltsWell (S.faults source.old) (S.faults source.new) result }
 {
     let mut bytes = Vec::new(alloc);

@@ -1,5 +1,5 @@
-//! What follows for all words and all bytes. Each law is the clause of a function that does nothing, or no more than
-//! the call that it speaks of.
+//! What follows for all words and all bytes. Each law is the clause of a function that does
+//! nothing, or no more than the call that it speaks of.
 ghost use Rattle.std.specs.Prelude.{◌≡◌, ℕ, List};
 ghost use Rattle.quota_fill.specs.Filled.{filled};
 ghost use Rattle.election_check.specs.Seats.{IsReordered};
@@ -11,8 +11,8 @@ use election_check::{Checker, Elected};
 use npos_runtime::laws::every_seated_committee_is_sound;
 use weight_book::Weights;
 
-/// Every committee that a replay seats, from a signed solution or from the fill, has a member for each seat, follows
-/// nominations, spends no voter beyond its stake, and is proportional.
+/// Every committee that a replay seats, from a signed solution or from the fill, has a member for
+/// each seat, follows nominations, spends no voter beyond its stake, and is proportional.
 #[tactic(auto, using(crate::proofs::SeatLaws::seats_sound))]
 pub fn replays_seat_sound_committees()
     ensures { (bytes : List ℕ) → SeatsAreSound bytes }
@@ -43,7 +43,8 @@ pub fn whole_blocks_have_one_text()
     ensures front { BeginsWithWhole npos_machine }
 {}
 
-/// Where an input goes on, the text of its whole blocks goes on too: nothing that they wrote is taken back.
+/// Where an input goes on, the text of its whole blocks goes on too: nothing that they wrote is
+/// taken back.
 pub fn whole_text_grows()
     ensures { WholeGrows npos_machine }
 {}

@@ -30,7 +30,8 @@ fn tell_members(text: &mut Vec<u8>, snapshot: &Snapshot, weights: &Weights) -> R
 /// Appends the lines of the members by rising position, and the line of the score.
 fn tell_weights(text: &mut Vec<u8>, snapshot: &Snapshot, weights: Weights) -> Result<(), NoMemory>
     requires { IsFeasible snapshot.now weights.plain }
-    ensures { OnOk result (text.new.items ≡ text.old.items ++ weights_lines snapshot.now weights.plain) }
+    ensures { OnOk result (text.new.items ≡ text.old.items
+        ++ weights_lines snapshot.now weights.plain) }
 {
     let _seats = snapshot.seats();
     let score = weights.score();

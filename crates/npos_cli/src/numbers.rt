@@ -107,12 +107,14 @@ pub fn tell_verdict(text: &mut Vec<u8>, verdict: Verdict) -> Result<(), NoMemory
 
 /// Appends the line of a number and its detail.
 fn tell_detail(text: &mut Vec<u8>, number: u128, detail: u32) -> Result<(), NoMemory>
-    ensures { OnOk result (text.new.items ≡ text.old.items ++ numbers_line (codes "fault 0 snapshot") (number ∷ detail ∷ [])) }
+    ensures { OnOk result (text.new.items ≡ text.old.items
+        ++ numbers_line (codes "fault 0 snapshot") (number ∷ detail ∷ [])) }
 {
     tell_line(text, "fault 0 snapshot", &[number, u128::from(detail)])
 }
 
-/// Appends the line of an election that has a fault. Want of memory is no fault of an election, and has no line.
+/// Appends the line of an election that has a fault. Want of memory is no fault of an election, and
+/// has no line.
 pub fn tell_snapshot_fault(text: &mut Vec<u8>, fault: SnapshotFault) -> Result<(), NoMemory>
     ensures line { OnOk result (text.new.items ≡ text.old.items ++ snapshot_line fault) }
     ensures memory { OnOk result (fault ≢ faults.NoMemory) }

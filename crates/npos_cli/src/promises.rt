@@ -13,10 +13,11 @@ use npos_base::{Sink, Source};
 use std::alloc::Global;
 use std::string::String;
 
-/// Runs the program, and promises of a replay whose source and sink tell their bytes: where neither failed and memory was
-/// not refused, exactly the replay of what was read was written; every committee in it has a member for each seat,
-/// follows nominations, spends no voter beyond its stake, and has at least r members among the nominees of each group
-/// that holds the stake of r seats and agrees on r targets; and all holdings equal genesis plus minted less burned.
+/// Runs the program, and promises of a replay whose source and sink tell their bytes: where neither
+/// failed and memory was not refused, exactly the replay of what was read was written; every
+/// committee in it has a member for each seat, follows nominations, spends no voter beyond its
+/// stake, and has at least r members among the nominees of each group that holds the stake of r
+/// seats and agrees on r targets; and all holdings equal genesis plus minted less burned.
 #[tactic(auto, using(crate::proofs::PromiseLaws::promised))]
 pub fn run_as_promised<S: Source, K: Sink>(
     alloc: Global,
@@ -28,15 +29,16 @@ pub fn run_as_promised<S: Source, K: Sink>(
         → (Rose (S.faults source.old) (S.faults source.new) → ⊥)
         → (Rose (K.faults sink.old) (K.faults sink.new) → ⊥)
         → result ≢ Status.NoMemory
-        → IfSome (S.left source.old) (λ bytes. IsPromised bytes (K.told sink.old) (K.told sink.new)) }
+        → IfSome (S.left source.old)
+        (λ bytes. IsPromised bytes (K.told sink.old) (K.told sink.new)) }
 {
     run(alloc, words, source, sink)
 }
 
-/// Runs the program, and says of each status when it comes and what was then written and read. For all
-/// words, whatever is owed comes, unless a count of faults rose or memory was refused; then of Usage for
-/// all words, and of the others for a replay. The body calls `run` and nothing else, so each clause here
-/// is one of `run` too.
+/// Runs the program, and says of each status when it comes and what was then written and read. For
+/// all words, whatever is owed comes, unless a count of faults rose or memory was refused; then of
+/// Usage for all words, and of the others for a replay. The body calls `run` and nothing else, so
+/// each clause here is one of `run` too.
 #[tactic(auto, using(crate::proofs::PromiseLaws::usage_due, crate::proofs::PromiseLaws::unasked, crate::proofs::PromiseLaws::usage_comes))]
 pub fn run_by_status<S: Source, K: Sink>(
     alloc: Global,

@@ -1,5 +1,5 @@
-//! The replay of a stream: a genesis, and then a turn for each block until one is the last. It goes over what was read
-//! so far, and reads on where bytes are missing.
+//! The replay of a stream: a genesis, and then a turn for each block until one is the last. It goes
+//! over what was read so far, and reads on where bytes are missing.
 ghost use Rattle.std.specs.Prelude.{◌≡◌, ◌+◌, ◌<◌, ◌^◌, ℕ, List, true, false, length, IfOk};
 ghost use Rattle.stake_ledger.specs.Ledger.{totals_of};
 ghost use Rattle.scale_wire.specs.Form.{IsBytes};
@@ -57,7 +57,8 @@ fn tell_stop(
     runtime: &Runtime,
     text: &mut Vec<u8>,
 ) -> Result<Stop, NoMemory>
-    ensures { IfOk result (StopsHere cursor.now ended (totals_of runtime.now.state.book) text.old.items text.new.items) }
+    ensures { IfOk result (StopsHere cursor.now ended
+        (totals_of runtime.now.state.book) text.old.items text.new.items) }
 {
     if !cursor.rest().is_empty() {
         tell_fault(text, cursor.at(), Why::Trailing)?;
@@ -102,7 +103,9 @@ fn take_turn(
     requires unspent { runtime.old.spent ≡ false }
     requires fits { cursor.old.at + length cursor.old.rest < 2 ^ 64 }
     requires bytes { IsBytes cursor.old.rest }
-    ensures turn { IfOk result (TakesTurn npos_machine ended (spot cursor.old runtime.old.state) (spot cursor.new runtime.new.state) text.old.items text.new.items) }
+    ensures turn { IfOk result
+        (TakesTurn npos_machine ended (spot cursor.old runtime.old.state)
+        (spot cursor.new runtime.new.state) text.old.items text.new.items) }
     ensures unspent { IfOk result (λ turn. IsGoing turn → runtime.new.spent ≡ false) }
 {
     let mut here = cursor.fork();
@@ -138,7 +141,9 @@ fn take_turns(
     requires unspent { runtime.old.spent ≡ false }
     requires fits { cursor.old.at + length cursor.old.rest < 2 ^ 64 }
     requires bytes { IsBytes cursor.old.rest }
-    ensures runs { IfOk result (RunsOn npos_machine ended (spot cursor.old runtime.old.state) (spot cursor.new runtime.new.state) text.old.items text.new.items) }
+    ensures runs { IfOk result
+        (RunsOn npos_machine ended (spot cursor.old runtime.old.state)
+        (spot cursor.new runtime.new.state) text.old.items text.new.items) }
     ensures unspent { IfOk result (λ stop. stop ≡ stops.More → runtime.new.spent ≡ false) }
 {
     'turns: loop {
@@ -157,7 +162,9 @@ fn take_held(
     text: &mut Vec<u8>,
 ) -> Result<Stop, NoMemory>
     requires unspent { runtime.old.spent ≡ false }
-    ensures runs { IfOk result (RunsOn npos_machine held.old.ended (spot (place held.old) runtime.old.state) (spot (place held.new) runtime.new.state) text.old.items text.new.items) }
+    ensures runs { IfOk result
+        (RunsOn npos_machine held.old.ended (spot (place held.old) runtime.old.state)
+        (spot (place held.new) runtime.new.state) text.old.items text.new.items) }
     ensures unspent { IfOk result (λ stop. stop ≡ stops.More → runtime.new.spent ≡ false) }
     ensures ended { IfOk result (λ _. held.new.ended ≡ held.old.ended) }
 {
@@ -173,8 +180,8 @@ fn take_held(
     }
 }
 
-/// Takes turns until one is the last, reads on where bytes are missing, and answers whether the text then ends with a
-/// fault line. The status of an Err is ReadFault or NoMemory.
+/// Takes turns until one is the last, reads on where bytes are missing, and answers whether the
+/// text then ends with a fault line. The status of an Err is ReadFault or NoMemory.
 fn take_all<S: Source>(
     alloc: Global,
     source: &mut S,
@@ -183,7 +190,9 @@ fn take_all<S: Source>(
     text: &mut Vec<u8>,
 ) -> Result<bool, Status>
     requires unspent { runtime.old.spent ≡ false }
-    ensures runs { IfOk result (RunsThrough npos_machine (S.left source.old) (S.left source.new) held.old.ended (spot (place held.old) runtime.old.state) text.old.items text.new.items) }
+    ensures runs { IfOk result
+        (RunsThrough npos_machine (S.left source.old) (S.left source.new) held.old.ended
+        (spot (place held.old) runtime.old.state) text.old.items text.new.items) }
     ensures halts { HaltsWell (S.faults source.old) (S.faults source.new) result }
 {
     'pieces: loop {
@@ -212,14 +221,17 @@ fn open_held(alloc: Global, held: &mut Held) -> Result<Opening, NoMemory>
     }
 }
 
-/// Reads the genesis, and reads on where bytes are missing. The status of an Err is ReadFault or NoMemory.
+/// Reads the genesis, and reads on where bytes are missing. The status of an Err is ReadFault or
+/// NoMemory.
 fn take_genesis<S: Source>(
     alloc: Global,
     source: &mut S,
     held: &mut Held,
 ) -> Result<Result<Genesis, WireFault>, Status>
     requires fresh { held.old ≡ nothing_read }
-    ensures begins { IfOk result (λ read. (seen : List ℕ) × HasSeen (S.left source.old) (S.left source.new) seen false held.new.ended × BeginsWith seen read held.new) }
+    ensures begins { IfOk result (λ read. (seen : List ℕ)
+        × HasSeen (S.left source.old) (S.left source.new) seen false held.new.ended
+        × BeginsWith seen read held.new) }
     ensures halts { HaltsWell (S.faults source.old) (S.faults source.new) result }
 {
     'pieces: loop {
@@ -231,10 +243,12 @@ fn take_genesis<S: Source>(
     }
 }
 
-/// Replays what is left in the source. A replay that ends with its end line has read it to its end. The status of an
-/// Err is ReadFault or NoMemory.
+/// Replays what is left in the source. A replay that ends with its end line has read it to its end.
+/// The status of an Err is ReadFault or NoMemory.
 pub fn replay<S: Source>(alloc: Global, source: &mut S) -> Result<Told, Status>
-    ensures found { IfOk result (λ told. FindsReplay npos_machine (S.left source.old) (S.left source.new) told.text.items told.faulty) }
+    ensures found { IfOk result
+        (λ told. FindsReplay npos_machine (S.left source.old)
+        (S.left source.new) told.text.items told.faulty) }
     ensures halts { HaltsWell (S.faults source.old) (S.faults source.new) result }
 {
     let mut text = Vec::new(alloc);

@@ -1,4 +1,5 @@
-//! Worked streams, whose texts were made by another program, chosen so that a rule told otherwise changes one of them.
+//! Worked streams, whose texts were made by another program, chosen so that a rule told otherwise
+//! changes one of them.
 use crate::run;
 use npos_base::{AccountId, List, MemorySink, MemorySource, NoMemory};
 use scale_wire::Pen;
@@ -28,10 +29,27 @@ const REBAG: u8 = 9;
 
 const FRONT: u8 = 10;
 
-/// What each of the accounts 1 to 5 is endowed with, the least bond, the calls of each block, and what a replay writes.
-/// There are two seats, eras of six blocks with the snapshot in the third, one era of bonding, and the thresholds 50 and
-/// 80.
-const STREAMS: [(u64, u64, &[&[Call]], &str); 9] = [
+/// A submission: round, the three numbers of the claim, and how many zeros stand behind the
+/// solution.
+const SUBMIT: u8 = 11;
+
+/// Three validators with 60, 40 and 30 units.
+const BONDS: [Call; 6] = [
+    (1, BOND, &[60], &[]),
+    (1, VALIDATE, &[100_000_000], &[]),
+    (2, BOND, &[40], &[]),
+    (2, VALIDATE, &[0], &[]),
+    (3, BOND, &[30], &[]),
+    (3, VALIDATE, &[0], &[]),
+];
+
+/// A solution in which each of the first two voters elects its own target.
+const TWO_VOTES: [u8; 20] = [8, 0, 0, 4, 4, 0, 0, 0, 0, 0, 0, 0, 0, 0, 0, 0, 0, 0, 0, 0];
+
+/// What each of the accounts 1 to 5 is endowed with, the least bond, the calls of each block, and
+/// what a replay writes. There are two seats, eras of six blocks with the snapshot in the third,
+/// one era of bonding, and the thresholds 50 and 80.
+const STREAMS: [(u64, u64, &[&[Call]], &str); 13] = [
     // a chunk is not free before its era
     (
         100,
@@ -188,10 +206,92 @@ const STREAMS: [(u64, u64, &[&[Call]], &str); 9] = [
         ],
         "block 1\ncall 0 ok\ncall 1 ok\ncall 2 ok\ncall 3 ok\ncall 4 ok\ncall 5 ok\ncall 6 refused 17\ncall 7 ok\ncall 8 ok\ncall 9 ok\ncall 10 refused 16\nblock 2\nblock 3\nvoid 1 few\nend free 415 active 85 unlocking 0 deposits 0 minted 0 burned 0 issuance 500\n",
     ),
+    // ranks and deposits: the best claim is wrong and the second wins
+    (
+        100,
+        10,
+        &[
+            &BONDS,
+            &[],
+            &[
+                (4, SUBMIT, &[1, 40, 100, 5200, 0], &[]),
+                (4, SUBMIT, &[1, 39, 100, 5200, 0], &[]),
+                (5, SUBMIT, &[1, 38, 100, 5200, 0], &[]),
+                (5, SUBMIT, &[1, 38, 100, 5200, 0], &[]),
+                (5, SUBMIT, &[1, 41, 100, 5200, 0], &[]),
+            ],
+            &[],
+            &[],
+        ],
+        "block 1\ncall 0 ok\ncall 1 ok\ncall 2 ok\ncall 3 ok\ncall 4 ok\ncall 5 ok\nblock 2\nblock 3\nsnapshot 1 targets 3 voters 3 total 130\ncall 0 ok\ncall 1 ok\ncall 2 ok\ncall 3 refused 20\ncall 4 ok\nreturn 3 12\nblock 4\nblock 5\nforfeit 4 12 verdict 9 40 100 5200\nreturn 1 12\nreward 1 5\nreturn 2 12\nseat 1 signed 1\nmember 0000000000000000000000000000000000000000000000000000000000000001 60\nmember 0000000000000000000000000000000000000000000000000000000000000002 40\nend free 363 active 130 unlocking 0 deposits 0 minted 5 burned 12 issuance 493\n",
+    ),
+    // a wrong claim alone, and the fill is seated
+    (
+        100,
+        10,
+        &[
+            &BONDS,
+            &[],
+            &[(5, SUBMIT, &[1, 41, 100, 5200, 0], &[])],
+            &[],
+            &[],
+        ],
+        "block 1\ncall 0 ok\ncall 1 ok\ncall 2 ok\ncall 3 ok\ncall 4 ok\ncall 5 ok\nblock 2\nblock 3\nsnapshot 1 targets 3 voters 3 total 130\ncall 0 ok\nblock 4\nblock 5\nforfeit 1 12 verdict 9 40 100 5200\nseat 1 fill\nmember 0000000000000000000000000000000000000000000000000000000000000001 60\nmember 0000000000000000000000000000000000000000000000000000000000000002 40\nend free 358 active 130 unlocking 0 deposits 0 minted 0 burned 12 issuance 488\n",
+    ),
+    // the reasons of a submission in their order: too early, another round, too long, too little
+    // free, no better; a better one puts an equal one out
+    (
+        100,
+        10,
+        &[
+            &BONDS,
+            &[(4, SUBMIT, &[1, 40, 100, 5200, 0], &[])],
+            &[
+                (4, SUBMIT, &[2, 40, 100, 5200, 0], &[]),
+                (4, SUBMIT, &[1, 40, 100, 5200, 981], &[]),
+                (1, SUBMIT, &[1, 40, 100, 5200, 0], &[]),
+                (2, SUBMIT, &[1, 40, 100, 5200, 0], &[]),
+                (4, SUBMIT, &[1, 40, 100, 5200, 0], &[]),
+                (4, SUBMIT, &[1, 40, 100, 5200, 0], &[]),
+                (5, SUBMIT, &[1, 40, 100, 5200, 0], &[]),
+                (5, SUBMIT, &[1, 40, 100, 5200, 0], &[]),
+                (5, SUBMIT, &[1, 41, 100, 5200, 0], &[]),
+                (4, SUBMIT, &[1, 42, 100, 5200, 0], &[]),
+            ],
+            &[(4, SUBMIT, &[1, 41, 100, 5200, 0], &[])],
+            &[(4, SUBMIT, &[1, 43, 100, 5200, 0], &[])],
+            &[],
+            &[(4, SUBMIT, &[1, 43, 100, 5200, 0], &[])],
+        ],
+        "block 1\ncall 0 ok\ncall 1 ok\ncall 2 ok\ncall 3 ok\ncall 4 ok\ncall 5 ok\nblock 2\ncall 0 refused 28\nblock 3\nsnapshot 1 targets 3 voters 3 total 130\ncall 0 refused 29\ncall 1 refused 30\ncall 2 ok\ncall 3 ok\ncall 4 ok\ncall 5 refused 20\ncall 6 refused 20\ncall 7 refused 20\ncall 8 ok\nreturn 3 12\ncall 9 ok\nreturn 2 12\nblock 4\ncall 0 ok\nreturn 1 12\nblock 5\nforfeit 5 12 verdict 9 40 100 5200\nforfeit 4 12 verdict 9 40 100 5200\nforfeit 6 12 verdict 9 40 100 5200\nseat 1 fill\nmember 0000000000000000000000000000000000000000000000000000000000000001 60\nmember 0000000000000000000000000000000000000000000000000000000000000002 40\ncall 0 refused 28\nblock 6\nblock 7\nera 1\ncall 0 refused 28\nend free 334 active 130 unlocking 0 deposits 0 minted 0 burned 36 issuance 464\n",
+    ),
+    // too little free for the deposit
+    (
+        12,
+        10,
+        &[
+            &[
+                (1, BOND, &[12], &[]),
+                (1, VALIDATE, &[0], &[]),
+                (2, BOND, &[10], &[]),
+                (2, VALIDATE, &[0], &[]),
+            ],
+            &[],
+            &[
+                (1, SUBMIT, &[1, 40, 100, 5200, 0], &[]),
+                (2, SUBMIT, &[1, 40, 100, 5200, 0], &[]),
+                (4, SUBMIT, &[1, 40, 100, 5200, 0], &[]),
+                (4, SUBMIT, &[1, 40, 100, 5200, 0], &[]),
+            ],
+            &[],
+            &[],
+        ],
+        "block 1\ncall 0 ok\ncall 1 ok\ncall 2 ok\ncall 3 ok\nblock 2\nblock 3\nsnapshot 1 targets 2 voters 2 total 22\ncall 0 refused 1\ncall 1 refused 1\ncall 2 ok\ncall 3 refused 1\nblock 4\nblock 5\nforfeit 1 12 verdict 9 10 22 244\nseat 1 fill\nmember 0000000000000000000000000000000000000000000000000000000000000001 11\nmember 0000000000000000000000000000000000000000000000000000000000000002 10\nend free 26 active 22 unlocking 0 deposits 0 minted 0 burned 12 issuance 48\n",
+    ),
 ];
 
-/// What stands behind the least bond in the genesis: the thresholds 50 and 80, a queue of 3, solutions of 1,000 bytes, a
-/// deposit of 12, a reward of 5, and 1,000 an era.
+/// What stands behind the least bond in the genesis: the thresholds 50 and 80, a queue of 3,
+/// solutions of 1,000 bytes, a deposit of 12, a reward of 5, and 1,000 an era.
 const REST: [u64; 8] = [2, 50, 80, 3, 1000, 12, 5, 1000];
 
 fn put_account(pen: &mut Pen, number: u64) -> Result<(), NoMemory> {
@@ -224,12 +324,28 @@ fn put_call(pen: &mut Pen, call: &Call) -> Result<(), NoMemory> {
     let (who, kind, numbers, accounts) = *call;
     put_account(pen, who)?;
     pen.put_u8(kind)?;
+    if kind == SUBMIT {
+        return put_submission(pen, numbers);
+    }
     put_numbers(pen, numbers)?;
     if kind == NOMINATE {
         pen.put_compact(accounts.len() as u64)?;
     }
     for account in accounts {
         put_account(pen, *account)?;
+    }
+    Ok(())
+}
+
+fn put_submission(pen: &mut Pen, numbers: &[u64]) -> Result<(), NoMemory> {
+    if let [round, minimal, sum, squares, zeros] = *numbers {
+        put_numbers(pen, &[round, minimal, sum])?;
+        pen.put_u128(u128::from(squares))?;
+        pen.put_compact(20 + zeros.min(1000))?;
+        pen.put_bytes(&TWO_VOTES)?;
+        for _ in 0..zeros.min(1000) {
+            pen.put_u8(0)?;
+        }
     }
     Ok(())
 }

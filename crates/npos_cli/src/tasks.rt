@@ -45,7 +45,8 @@ fn answer_election(
 /// The answer on the bytes of a bundle, which go once they are read.
 pub fn answer_bytes(alloc: Global, bytes: Vec<u8>, task: Task) -> Result<Answer, NoMemory>
     ensures report { IfOk result (λ answer. report_of answer ≡ bundle_report task bytes.items) }
-    ensures sound { IfOk result (λ answer. answer.status ≡ statuses.Done → IsSound task bytes.items) }
+    ensures sound { IfOk result (λ answer. answer.status ≡ statuses.Done
+        → IsSound task bytes.items) }
     ensures passes { task ≡ tasks.Mine miners.Fill
         → IfOk result (λ answer. answer.status ≢ statuses.No) }
 {

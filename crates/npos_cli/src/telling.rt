@@ -106,9 +106,11 @@ pub fn tell_other_number(text: &mut Vec<u8>, at: u64, due: u64, found: u32) -> R
     )
 }
 
-/// Appends the line of a genesis that has a fault. Want of memory is no fault of a genesis, and has no line.
+/// Appends the line of a genesis that has a fault. Want of memory is no fault of a genesis, and has
+/// no line.
 pub fn tell_genesis_fault(text: &mut Vec<u8>, fault: GenesisFault) -> Result<(), NoMemory>
-    ensures line { OnOk result (text.new.items ≡ text.old.items ++ genesis_line (fault_numbers fault)) }
+    ensures line { OnOk result (text.new.items ≡ text.old.items
+        ++ genesis_line (fault_numbers fault)) }
     ensures memory { OnOk result (fault ≢ faults.NoMemory) }
 {
     let (number, detail) = match fault {

@@ -1,5 +1,5 @@
-//! Worked streams over an outside in memory. They show besides that runs succeed where there is memory, which no
-//! contract promises.
+//! Worked streams over an outside in memory. They show besides that runs succeed where there is
+//! memory, which no contract promises.
 use crate::{laws, run};
 use npos_base::{List, MemorySink, MemorySource, NoMemory};
 use scale_wire::Pen;
@@ -23,7 +23,8 @@ const PLAIN: [u8; 69] = [
     0, 0, 0, 0, 2, 0,
 ];
 
-// A Full genesis: account 1 has 100 units, the root is 9, eras of 3 blocks, chunks that wait for 40 eras.
+// A Full genesis: account 1 has 100 units, the root is 9, eras of 3 blocks, chunks that wait for 40
+// eras.
 const FULL: [&[u8]; 5] = [
     &[0x01, 0x04],
     &ONE,
@@ -50,8 +51,8 @@ const TRANSFERS: [&[u8]; 4] = [&PLAIN, &[0x01, 0x04], &CALLS, &[0x00]];
 const TRANSFERS_TEXT: &str =
     "block 1\ncall 0 ok\ncall 1 refused 1\nend free 100 active 0 unlocking 0 deposits 0 minted 0 burned 0 issuance 100\n";
 
-// Streams, as parts that stand one behind the other, and what they write. The last two bond 100, unbond 30 twice
-// and withdraw; then the very last rebonds 70.
+// Streams, as parts that stand one behind the other, and what they write. The last two bond 100,
+// unbond 30 twice and withdraw; then the very last rebonds 70.
 const SOUND: [(&[&[u8]], &str); 4] = [
     (
         &[&PLAIN, &[0x00]],
@@ -117,7 +118,8 @@ const DAMAGED: [(&[&[u8]], &str); 7] = [
     ),
 ];
 
-/// How many bytes a read gives and a write takes, and the numbers of the reads and writes that fail.
+/// How many bytes a read gives and a write takes, and the numbers of the reads and writes that
+/// fail.
 #[derive(Clone, Copy)]
 struct Outside {
     piece: usize,
@@ -134,8 +136,8 @@ fn calm(piece: usize) -> Outside {
     }
 }
 
-// Outsides that fail over the two transfers: the size of a piece and the numbers of the reads and writes that fail,
-// and then the status, what is written and how many bytes are left.
+// Outsides that fail over the two transfers: the size of a piece and the numbers of the reads and
+// writes that fail, and then the status, what is written and how many bytes are left.
 const FAILING: [(usize, &[u64], &[u64], u8, &str, usize); 6] = [
     (4096, &[0], &[], 4, "", 205),
     (100, &[2], &[], 4, "", 5),
@@ -303,6 +305,7 @@ fn an_account_has_at_most_32_chunks(rt: HostRuntime) -> Result<(), Fail> {
 
 #[test]
 fn laws_are_called() {
+    laws::replays_seat_sound_committees();
     laws::one_answer();
     laws::one_replay();
     laws::every_input_has_a_replay();

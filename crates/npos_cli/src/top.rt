@@ -93,7 +93,8 @@ fn bundle_due<S: Source>(alloc: Global, source: &mut S, task: Task) -> Result<Du
         (due_text due) (due_status due)) }
     ensures drained { IfOk result (λ due. IsJudged (due_status due)
         → IsDrained (S.left source.old) (S.left source.new)) }
-    ensures few { IfOk result (λ _. TakesAtMost (most_bundle + 1) (S.left source.old) (S.left source.new)) }
+    ensures few { IfOk result
+        (λ _. TakesAtMost (most_bundle + 1) (S.left source.old) (S.left source.new)) }
     ensures sound { IfOk result (λ due. due_status due ≡ statuses.Done
         → IfSome (S.left source.old) (IsSound task)) }
     ensures passes { task ≡ tasks.Mine miners.Fill
@@ -120,7 +121,8 @@ fn prepare<S: Source>(alloc: Global, words: &[String], source: &mut S) -> Result
         → IsDrained (S.left source.old) (S.left source.new)) }
     ensures few { ReadsBundle (job_of (map string_bytes words.now)) → IfOk result (λ _.
         TakesAtMost (most_bundle + 1) (S.left source.old) (S.left source.new)) }
-    ensures sound { (task : task_kind) → job_of (map string_bytes words.now) ≡ Some (jobs.OnBundle task)
+    ensures sound { (task : task_kind)
+        → job_of (map string_bytes words.now) ≡ Some (jobs.OnBundle task)
         → IfOk result (λ due. due_status due ≡ statuses.Done
         → IfSome (S.left source.old) (IsSound task)) }
     ensures passes { job_of (map string_bytes words.now)
@@ -170,7 +172,8 @@ pub fn run<S: Source, K: Sink>(
     ensures committees { IfSome (S.left source.old) SeatsAreSound }
     ensures few { ReadsBundle (job_of (map string_bytes words.now)) → IsAnswer result
         → TakesAtMost (most_bundle + 1) (S.left source.old) (S.left source.new) }
-    ensures accepted { (task : task_kind) → job_of (map string_bytes words.now) ≡ Some (jobs.OnBundle task)
+    ensures accepted { (task : task_kind)
+        → job_of (map string_bytes words.now) ≡ Some (jobs.OnBundle task)
         → result ≡ Status.Done → IfSome (S.left source.old) (IsSound task) }
     ensures passes { job_of (map string_bytes words.now)
         ≡ Some (jobs.OnBundle (tasks.Mine miners.Fill)) → result ≢ Status.No }

@@ -19,14 +19,16 @@ use stake_ledger::LedgerRefusal;
 use voter_lists::{Bags, Role};
 
 fn transfer(chain: &mut Chain, who: AccountId, to: AccountId, value: u64) -> Result<(), Stop>
-    ensures { Meets (transfer_stop chain.old who to value) (transfer_done chain.old who to value) chain.old chain.new result }
+    ensures { Meets (transfer_stop chain.old who to value)
+        (transfer_done chain.old who to value) chain.old chain.new result }
 {
     chain.book.transfer(who, to, value)?;
     Ok(())
 }
 
 fn bond(chain: &mut Chain, who: AccountId, value: u64) -> Result<(), Stop>
-    ensures { Meets (bond_stop chain.old who value) (bond_done chain.old who value) chain.old chain.new result }
+    ensures { Meets (bond_stop chain.old who value)
+        (bond_done chain.old who value) chain.old chain.new result }
 {
     let minimum = least_bond_of(&chain.params);
     chain.book.bond(who, value, minimum)?;
@@ -34,7 +36,8 @@ fn bond(chain: &mut Chain, who: AccountId, value: u64) -> Result<(), Stop>
 }
 
 fn bond_extra(chain: &mut Chain, who: AccountId, value: u64) -> Result<(), Stop>
-    ensures { Meets (bond_extra_stop chain.old who value) (bond_extra_done chain.old who value) chain.old chain.new result }
+    ensures { Meets (bond_extra_stop chain.old who value)
+        (bond_extra_done chain.old who value) chain.old chain.new result }
 {
     chain.book.bond_extra(who, value)?;
     follow(chain, who)?;
@@ -89,7 +92,8 @@ fn release(chain: &Chain) -> u32
 
 fn unbond(chain: &mut Chain, who: AccountId, value: u64) -> Result<(), Stop>
     requires { IsLive chain.old }
-    ensures { Meets (unbond_stop chain.old who value) (unbond_done chain.old who value) chain.old chain.new result }
+    ensures { Meets (unbond_stop chain.old who value)
+        (unbond_done chain.old who value) chain.old chain.new result }
 {
     let release = release(chain);
     let least = least_active(chain, who);
@@ -99,7 +103,8 @@ fn unbond(chain: &mut Chain, who: AccountId, value: u64) -> Result<(), Stop>
 }
 
 fn rebond(chain: &mut Chain, who: AccountId, value: u64) -> Result<(), Stop>
-    ensures { Meets (rebond_stop chain.old who value) (rebond_done chain.old who value) chain.old chain.new result }
+    ensures { Meets (rebond_stop chain.old who value)
+        (rebond_done chain.old who value) chain.old chain.new result }
 {
     chain.book.rebond(who, value)?;
     follow(chain, who)?;
@@ -108,7 +113,8 @@ fn rebond(chain: &mut Chain, who: AccountId, value: u64) -> Result<(), Stop>
 
 fn withdraw(chain: &mut Chain, who: AccountId) -> Result<(), Stop>
     requires { IsLive chain.old }
-    ensures { Meets (withdraw_stop chain.old who) (withdraw_done chain.old who) chain.old chain.new result }
+    ensures { Meets (withdraw_stop chain.old who)
+        (withdraw_done chain.old who) chain.old chain.new result }
 {
     let era = era_of(&chain.params, chain.due);
     chain.book.withdraw(who, era)?;
@@ -151,11 +157,13 @@ fn unlist(bags: &mut Bags, who: AccountId, listed: bool)
     }
 }
 
-/// The account goes to the tail of the bag of its active stake, and leaves its old place first, where it has one.
+/// The account goes to the tail of the bag of its active stake, and leaves its old place first,
+/// where it has one.
 #[tactic(auto, using(crate::proofs::ListLemmas::nowhere_unlisted))]
 fn list_anew(chain: &mut Chain, who: AccountId, listed: bool) -> Result<(), NoMemory>
     requires { is_listed chain.old.bags.order who ≡ listed }
-    ensures { OnOk result (chain.new ≡ record chain.old { bags = listed_anew chain.old.bags who (active_of chain.old who) }) }
+    ensures { OnOk result (chain.new
+        ≡ record chain.old { bags = listed_anew chain.old.bags who (active_of chain.old who) }) }
 {
     let score = chain.book.active(who);
     unlist(&mut chain.bags, who, listed);
@@ -165,7 +173,8 @@ fn list_anew(chain: &mut Chain, who: AccountId, listed: bool) -> Result<(), NoMe
 #[tactic(auto, using(crate::proofs::ListLemmas::role_listed))]
 fn nominate(chain: &mut Chain, who: AccountId, targets: List<AccountId>) -> Result<(), Stop>
     requires { IsJoined chain.old.roles chain.old.bags }
-    ensures { Meets (nominate_stop chain.old who targets) (nominate_done chain.old who targets) chain.old chain.new result }
+    ensures { Meets (nominate_stop chain.old who targets)
+        (nominate_done chain.old who targets) chain.old chain.new result }
 {
     check_stake(chain, who)?;
     let before = chain.roles.role(who);
@@ -179,7 +188,8 @@ fn nominate(chain: &mut Chain, who: AccountId, targets: List<AccountId>) -> Resu
 #[tactic(auto, using(crate::proofs::ListLemmas::role_listed))]
 fn validate(chain: &mut Chain, who: AccountId, commission: u32) -> Result<(), Stop>
     requires { IsJoined chain.old.roles chain.old.bags }
-    ensures { Meets (validate_stop chain.old who commission) (validate_done chain.old who commission) chain.old chain.new result }
+    ensures { Meets (validate_stop chain.old who commission)
+        (validate_done chain.old who commission) chain.old chain.new result }
 {
     check_stake(chain, who)?;
     let before = chain.roles.role(who);
@@ -192,7 +202,8 @@ fn validate(chain: &mut Chain, who: AccountId, commission: u32) -> Result<(), St
 
 fn chill(chain: &mut Chain, who: AccountId) -> Result<(), Stop>
     requires { IsJoined chain.old.roles chain.old.bags }
-    ensures { Meets (chill_stop chain.old who) (chill_done chain.old who) chain.old chain.new result }
+    ensures { Meets (chill_stop chain.old who)
+        (chill_done chain.old who) chain.old chain.new result }
 {
     chain.roles.chill(who)?;
     chain.bags.remove(who);
@@ -200,7 +211,8 @@ fn chill(chain: &mut Chain, who: AccountId) -> Result<(), Stop>
 }
 
 fn rebag(chain: &mut Chain, whom: AccountId) -> Result<(), Stop>
-    ensures { Meets (rebag_stop chain.old whom) (rebag_done chain.old whom) chain.old chain.new result }
+    ensures { Meets (rebag_stop chain.old whom)
+        (rebag_done chain.old whom) chain.old chain.new result }
 {
     let score = chain.book.active(whom);
     chain.bags.rebag(whom, score)?;
@@ -208,7 +220,8 @@ fn rebag(chain: &mut Chain, whom: AccountId) -> Result<(), Stop>
 }
 
 fn put_in_front(chain: &mut Chain, who: AccountId, lighter: AccountId) -> Result<(), Stop>
-    ensures { Meets (put_in_front_stop chain.old who lighter) (put_in_front_done chain.old who lighter) chain.old chain.new result }
+    ensures { Meets (put_in_front_stop chain.old who lighter)
+        (put_in_front_done chain.old who lighter) chain.old chain.new result }
 {
     let score = chain.book.active(who);
     let lighter_score = chain.book.active(lighter);
@@ -233,7 +246,8 @@ pub fn act(
 ) -> Result<(), Stop>
     requires live { IsLive chain.old }
     requires numbers { chain.old.next + 1 < 2 ^ 64 }
-    ensures meets { Meets (stop_of chain.old who kind) (done_of chain.old who kind) chain.old chain.new result }
+    ensures meets { Meets (stop_of chain.old who kind)
+        (done_of chain.old who kind) chain.old chain.new result }
     ensures told { OnOk result (more.new.items ≡ more.old.items ++ told_of chain.old who kind) }
 {
     match kind {

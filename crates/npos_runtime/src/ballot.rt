@@ -160,12 +160,13 @@ fn commissions(alloc: Global, roles: &Roles) -> Result<List<u32>, NoMemory>
     Ok(List::from_vec(noted))
 }
 
-/// Begins the round of this number with its snapshot. It is void where there are fewer targets than seats, or too
-/// little stake.
+/// Begins the round of this number with its snapshot. It is void where there are fewer targets than
+/// seats, or too little stake.
 #[tactic(auto, using(crate::proofs::VoidLemmas::few_void, crate::proofs::VoidLemmas::poor_void))]
 pub fn take_snapshot(alloc: Global, chain: &Chain, number: u32) -> Result<(Round, Line), NoMemory>
     requires { IsLive chain.now }
-    ensures { IfOk result (λ begun. (begun.0 ≡ round_now chain.now number) × (begun.1 ≡ round_line number (snapshot_of chain.now))) }
+    ensures { IfOk result (λ begun. (begun.0 ≡ round_now chain.now number)
+        × (begun.1 ≡ round_line number (snapshot_of chain.now))) }
 {
     match draft(alloc, chain)?.finish(seats_of(&chain.params)) {
         Ok(snapshot) => {

@@ -17,7 +17,8 @@ use submission_queue::Queue;
 use thiserror::Error;
 use voter_lists::{Bags, Roles};
 
-/// Why no chain starts from a genesis: its first fault, with the number or the place that is at fault.
+/// Why no chain starts from a genesis: its first fault, with the number or the place that is at
+/// fault.
 #[derive(Clone, Copy, Debug, PartialEq, Eq, Error)]
 pub enum GenesisFault {
     #[error("endowment {0} is of an account that was endowed before")]
@@ -90,7 +91,8 @@ impl From<NoMemory> for GenesisFault {
 /// Opens the endowment at this place.
 fn endow(book: &mut Book, place: u32, endowment: Endowment) -> Result<(), GenesisFault>
     requires { book.old.minted ≡ 0 }
-    ensures ok { OnOk result ((opening_fault book.old place endowment ≡ None) × (book.new ≡ endowed endowment.who endowment.value book.old)) }
+    ensures ok { OnOk result ((opening_fault book.old place endowment ≡ None)
+        × (book.new ≡ endowed endowment.who endowment.value book.old)) }
     ensures refused { IfErr result (IsFault (opening_fault book.old place endowment)) }
 {
     if book.knows(endowment.who) {
@@ -108,7 +110,8 @@ fn endow(book: &mut Book, place: u32, endowment: Endowment) -> Result<(), Genesi
 fn endow_all(book: &mut Book, endowments: &[Endowment]) -> Result<(), GenesisFault>
     requires unopened { book.old ≡ empty_ledger }
     requires few { length endowments.now ≤ 65536 }
-    ensures ok { OnOk result ((endowment_fault [] endowments.now ≡ None) × (book.new ≡ endowed_all endowments.now book.old)) }
+    ensures ok { OnOk result ((endowment_fault [] endowments.now ≡ None)
+        × (book.new ≡ endowed_all endowments.now book.old)) }
     ensures refused { IfErr result (IsFault (endowment_fault [] endowments.now)) }
 {
     for (place, endowment) in endowments.iter().enumerate() {
@@ -204,7 +207,8 @@ fn copy_thresholds(alloc: Global, params: &Option<Params>) -> Result<List<u64>, 
 fn empty_bags(alloc: Global, params: &Option<Params>) -> Result<Bags, NoMemory>
     requires sound { AreSound params.now }
     requires few { length (thresholds_in params.now) ≤ 200 }
-    ensures { IfOk result (λ bags. bags ≡ record { thresholds = thresholds_in params.now; order = [] }) }
+    ensures { IfOk result (λ bags. bags
+        ≡ record { thresholds = thresholds_in params.now; order = [] }) }
 {
     let thresholds = copy_thresholds(alloc, params)?;
     Bags::new(alloc, thresholds)
@@ -215,7 +219,8 @@ fn empty_bags(alloc: Global, params: &Option<Params>) -> Result<Bags, NoMemory>
 pub fn begin(alloc: Global, genesis: Genesis) -> Result<Chain, GenesisFault>
     requires few_endowments { length (endowments_of genesis) ≤ 65536 }
     requires few_thresholds { length (thresholds_of genesis) ≤ 200 }
-    ensures ok { IfOk result (λ chain. (genesis_fault genesis ≡ None) × (chain ≡ genesis_chain genesis)) }
+    ensures ok { IfOk result (λ chain. (genesis_fault genesis ≡ None)
+        × (chain ≡ genesis_chain genesis)) }
     ensures refused { IfErr result (IsFault (genesis_fault genesis)) }
 {
     let (endowments, params) = match genesis {

@@ -6,7 +6,8 @@ use stake_ledger::Book;
 use submission_queue::Queue;
 use voter_lists::{Bags, Roles};
 
-/// The state of a chain, between two blocks. Contracts see it as the record of what its parts stand for.
+/// The state of a chain, between two blocks. Contracts see it as the record of what its parts stand
+/// for.
 #[derive(Drop)]
 pub struct Chain {
     /// The params of a full genesis; a plain one has none, and then there are no eras.

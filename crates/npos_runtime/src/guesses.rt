@@ -1,5 +1,5 @@
-//! Guesses of the ranks of validators. They save most searches for a rank, and nothing rests on them: whoever takes a
-//! guess looks who stands there.
+//! Guesses of the ranks of validators. They save most searches for a rank, and nothing rests on
+//! them: whoever takes a guess looks who stands there.
 ghost use Rattle.std.specs.Prelude.{◌≡◌, Some, IfSome};
 ghost use Rattle.voter_lists.specs.Roles.{validators_of};
 ghost use Rattle.election_snapshot.specs.Draft.{place_of};
@@ -35,7 +35,8 @@ impl Guesses {
         Ok(Guesses { slots })
     }
 
-    /// The rank of a validator, which is its place among the targets of a snapshot. A wrong guess costs a search.
+    /// The rank of a validator, which is its place among the targets of a snapshot. A wrong guess
+    /// costs a search.
     pub(crate) fn rank(&self, roles: &Roles, who: AccountId) -> Option<u16>
         ensures { result ≡ place_of (validators_of roles.now) who }
     {

@@ -14,7 +14,8 @@ pub enum Line {
     Era {
         era: u32,
     },
-    /// A round begins with a snapshot of so many targets and voters, whose stakes sum to this total.
+    /// A round begins with a snapshot of so many targets and voters, whose stakes sum to this
+    /// total.
     Snapshot {
         round: u32,
         targets: u32,

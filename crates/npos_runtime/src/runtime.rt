@@ -88,8 +88,8 @@ impl Runtime {
         })
     }
 
-    /// Takes the block whose number is due, and tells what happened in it. A block with another number changes
-    /// nothing. After want of memory the runtime is spent.
+    /// Takes the block whose number is due, and tells what happened in it. A block with another
+    /// number changes nothing. After want of memory the runtime is spent.
     pub fn apply(&mut self, block: Block) -> Result<Receipt, BlockFault>
         requires { length block.calls < 2 ^ 32 }
         ensures ok { IfOk result (λ receipt. AppliesWell self.old self.new block receipt.lines) }
@@ -171,7 +171,8 @@ impl Runtime {
         }
     }
 
-    /// The sums over the books. All holdings equal genesis plus minted less burned, also where the runtime is spent.
+    /// The sums over the books. All holdings equal genesis plus minted less burned, also where the
+    /// runtime is spent.
     pub fn totals(&self) -> Totals
         ensures value { result ≡ totals_of self.now.state.book }
         ensures balanced { IsBalanced self.now.state.book }

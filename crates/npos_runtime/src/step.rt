@@ -50,7 +50,8 @@ fn take_call(
 ) -> Result<(), NoMemory>
     requires live { IsLive chain.old }
     requires numbers { chain.old.next + 1 < 2 ^ 64 }
-    ensures { OnOk result (Goes (call_outcome index call chain.old) chain.new lines.old.items lines.new.items) }
+    ensures { OnOk result (Goes
+        (call_outcome index call chain.old) chain.new lines.old.items lines.new.items) }
 {
     let Call { who, kind } = call;
     let mut more = Vec::new(alloc);
@@ -81,7 +82,8 @@ fn take_calls(
     requires live { IsLive chain.old }
     requires few { length calls.items < 2 ^ 32 }
     requires numbers { chain.old.next + length calls.items < 2 ^ 64 }
-    ensures goes { OnOk result (Goes (calls_outcome 0 calls.items chain.old) chain.new lines.old.items lines.new.items) }
+    ensures goes { OnOk result
+        (Goes (calls_outcome 0 calls.items chain.old) chain.new lines.old.items lines.new.items) }
     ensures live_after { OnOk result (IsLive chain.new) }
 {
     let mut index = 0;
@@ -103,7 +105,10 @@ pub fn take_block(
     requires ready { IsReady chain.old }
     requires few { length calls.items < 2 ^ 32 }
     requires due { number ≡ chain.old.due }
-    ensures goes { OnOk result (Goes (step chain.old (record { number = number; calls = calls.items })) chain.new lines.old.items lines.new.items) }
+    ensures goes { OnOk result
+        (Goes (step chain.old
+        (record { number = number; calls = calls.items })) chain.new lines.old.items
+        lines.new.items) }
     ensures ready_after { OnOk result (IsReady chain.new) }
 {
     lines.push(Line::Block { number })?;

@@ -86,7 +86,8 @@ fn draw_from(snapshot: &Snapshot, voter: u32, amount: u64, left: &mut [u64], bac
 fn lower_all(votes: &[u16], amount: u64, backings: &mut [u64])
     requires in_range { All (λ vote. vote < length backings.old) votes.now }
     requires distinct { IsDistinct nat_eq votes.now }
-    requires enough { (target : ℕ) → IsTrue (has votes.now target) → amount ≤ says backings.old target }
+    requires enough { (target : ℕ) → IsTrue (has votes.now target)
+        → amount ≤ says backings.old target }
     ensures { (target : ℕ) → target < length backings.old
         → says backings.new target ≡ if has votes.now target then says backings.old target - amount
         else says backings.old target }

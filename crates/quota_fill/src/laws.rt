@@ -2,8 +2,8 @@
 ghost use Rattle.quota_fill.specs.Laws.{EveryFillPasses, SeatsArePicks};
 
 /// There is no dead end: the fill of every well-formed snapshot passes the check. Either some pick
-/// found less than the price of a seat, and every target outside has less from then on; or each pick
-/// drew the price of its seat, and what is left in all is less than that.
+/// found less than the price of a seat, and every target outside has less from then on; or each
+/// pick drew the price of its seat, and what is left in all is less than that.
 pub fn every_fill_passes()
     ensures { EveryFillPasses }
 {}

@@ -123,7 +123,8 @@ fn list_nominators(snapshot: &Snapshot, lists: &mut [List<u32>]) -> Result<(), N
 fn note_voter(votes: &[u16], voter: u32, lists: &mut [List<u32>]) -> Result<(), NoMemory>
     requires in_range { All (λ vote. vote < length lists.old) votes.now }
     requires distinct { IsDistinct nat_eq votes.now }
-    ensures { OnOk result ((target : ℕ) → target < length lists.old → slice_index_or lists.new target []
+    ensures { OnOk result ((target : ℕ) → target < length lists.old
+        → slice_index_or lists.new target []
         ≡ if has votes.now target then slice_index_or lists.old target [] ++ voter ∷ []
         else slice_index_or lists.old target []) }
 {
