@@ -1,0 +1,14 @@
+pub mod EdgeLemmas
+pub mod FeasibleLemmas
+pub mod GiftLemmas
+pub mod InLemmas
+pub mod LoadLemmas
+pub mod NominatorLemmas
+pub mod OrderLemmas
+pub mod PartLemmas
+pub mod PickLemmas
+pub mod RaiseLemmas
+pub mod SeatLemmas
+pub mod SortLemmas
+pub mod SplitLemmas
+pub mod TableLemmas

@@ -1,0 +1,190 @@
+-- One seat more: the tables tell the next pick, and what it raises makes the tables after it.
+use Rattle.std.proofs.Common.{◌≡◌, ℕ, suc, ◌+◌, ◌*◌, ◌^◌, ◌<◌, ◌≤◌, ◌⊎◌, Bool, true, false, not, cond, ◌||◌, nat_eq, nat_lt, List, [], ◌∷◌, ◌++◌, length, get_or, set, map, filter, reverse, Option, Some, None, inl, inr, refl, ap, ap₂, sym, subst, ◌∙◌, arith}
+use Rattle.std.specs.List.{range_with_len, fold}
+use Rattle.std.proofs.lemmas.List.{length-set, get_or-set_same, get_or-set_other, reverse-append, reverse-reverse, length-reverse}
+use Rattle.std.proofs.lemmas.Bool.{cases_eq, cond_both, eq-eqb, ne_eqb}
+use Rattle.election_snapshot.specs.Snapshot.{Snapshot, IsWellFormed, has, nominates, total_stake}
+use Rattle.weight_book.specs.Passing.{nominators}
+use Rattle.weight_book.specs.Room.{WeightBook, KeepsRoom}
+use Rattle.seq_phragmen.specs.declared.race.Race.{Race}
+use Rattle.seq_phragmen.specs.declared.rise.Rise.{Rise}
+use Rattle.seq_phragmen.specs.Mined.{greatest_score, seat_load, shared_load, score, load_after, lighter, lightest, outside, next_pick, picked}
+use Rattle.seq_phragmen.specs.Kept.{says, lightest_by, rise_of, rises_after, with_next, AreBurdens, IsAfter, IsRunning}
+use Rattle.seq_phragmen.proofs.InLemmas.{In, from_filter, from_range}
+use Rattle.seq_phragmen.proofs.PickLemmas.{few_picks, all_picks}
+use Rattle.seq_phragmen.proofs.LoadLemmas.{burden_fits, load_most}
+
+-- ---- the search goes by values where the list has them
+module _ (f g : ℕ → ℕ) where
+  abbrev agree : Option ℕ → Type 0
+  agree None = Unit {0}
+  agree (Some best) = f best ≡ g best
+
+  same_lighter : (o : Option ℕ) (n : ℕ) → agree o → f n ≡ g n → lighter f o n ≡ lighter g o n
+  same_lighter None n a e = refl
+  same_lighter (Some best) n a e = ap₂ (λ x y. cond (nat_lt y x) (Some n) (Some best)) a e
+
+  still_agree : (o : Option ℕ) (n : ℕ) → agree o → f n ≡ g n → agree (lighter g o n)
+  still_agree None n a e = e
+  still_agree (Some best) n a e = cond_both (nat_lt (g n) (g best)) (Some n) (Some best) agree (λ _. e) (λ _. a)
+
+  lightest_agree : (numbers : List ℕ) (o : Option ℕ) → agree o → ((n : ℕ) → In numbers n → f n ≡ g n) → fold (lighter f) o numbers ≡ fold (lighter g) o numbers
+  lightest_agree [] o a h = refl
+  lightest_agree (n ∷ numbers) o a h = ap (λ p. fold (lighter f) p numbers) (same_lighter o n a (h n (inl refl)))
+      ∙ lightest_agree numbers (lighter g o n) (still_agree o n a (h n (inl refl))) (λ m i. h m (inr i))
+
+module _ (snapshot : Snapshot) (picks : List ℕ) (race : Race) (after : IsAfter snapshot picks race) where
+  loads_are : says race.loads.items ≡ load_after snapshot picks
+  loads_are = λ i voter. after.loads voter i
+
+  pub none_too_great : (voter : ℕ) → says race.loads.items voter ≤ greatest_score
+  none_too_great voter = omega (arith, after.loads voter, load_most snapshot picks voter)
+
+  pub carried_fits : total_stake snapshot < 2 ^ 64 → (target : ℕ) → target < length snapshot.targets → seat_load snapshot + says race.burdens.items target < 2 ^ 128
+  carried_fits total target h = omega (arith, total, after.burdens target h, burden_fits snapshot (says race.loads.items) none_too_great target)
+
+  module _ (scores : List ℕ) (size : length scores ≡ length race.scores.items) (are : (target : ℕ) → target < length race.scores.items
+      → says scores target ≡ shared_load (seat_load snapshot) (says race.burdens.items target) (says race.approvals.items target)) where
+    pub scores_are : (target : ℕ) → target < length snapshot.targets → says scores target ≡ score snapshot (load_after snapshot picks) target
+    scores_are target h = are target (omega (arith, h, after.scores_size))
+        ∙ ap₂ (λ b a. shared_load (seat_load snapshot) b a) (after.burdens target h) (after.approvals target h)
+        ∙ ap (λ (load : ℕ → ℕ). score snapshot load target) loads_are
+
+    pub lightest_is_next : lightest_by scores race.is_picked.items (length scores) ≡ next_pick snapshot picks
+    lightest_is_next =
+        ap (lightest_by scores race.is_picked.items) (size ∙ after.scores_size)
+        ∙ unfolded
+        ∙ lightest_agree (says scores) (score snapshot (load_after snapshot picks)) (outside snapshot picks) None tt (λ n i. scores_are n (in_targets n i))
+      where
+        unmarked : ℕ → Bool
+        unmarked n = not (get_or race.is_picked.items n false)
+
+        unpicked : ℕ → Bool
+        unpicked n = not (has picks n)
+
+        tests : unmarked ≡ unpicked
+        tests = λ i n. not (after.marks n i)
+
+        unfolded : lightest_by scores race.is_picked.items (length snapshot.targets) ≡ lightest (says scores) (outside snapshot picks)
+        unfolded = ap (λ (test : ℕ → Bool). lightest (says scores) (filter test (range_with_len 0 (length snapshot.targets)))) tests
+
+        in_targets : (n : ℕ) → In (outside snapshot picks) n → n < length snapshot.targets
+        in_targets n i = omega (arith, (from_range 0 (length snapshot.targets) n (from_filter (λ m. not (has picks m)) (range_with_len 0 (length snapshot.targets)) n i).0).1)
+
+-- scores that are made from the tables
+pub scores_by : (burdens approvals old scores : List ℕ) (seat whole : ℕ) (race : Race) → burdens ≡ race.burdens.items → approvals ≡ race.approvals.items → old ≡ race.scores.items → seat * 1048576 ≡ whole
+    → ((target : ℕ) → target < length old → says scores target ≡ shared_load (seat * 1048576) (says burdens target) (says approvals target))
+    → (target : ℕ) → target < length race.scores.items → says scores target ≡ shared_load whole (says race.burdens.items target) (says race.approvals.items target)
+scores_by burdens approvals old scores seat whole race burdens_are approvals_are old_is whole_is are target h = are target (subst (λ ns. target < length ns) (sym old_is) h)
+    ∙ ap (λ n. shared_load n (says burdens target) (says approvals target)) whole_is
+    ∙ ap₂ (λ (b a : List ℕ). shared_load whole (says b target) (says a target)) burdens_are approvals_are
+
+-- only the scores are others
+pub rescored : (snapshot : Snapshot) (picks : List ℕ) (race next : Race) → IsAfter snapshot picks race
+    → next.loads ≡ race.loads → next.lasts ≡ race.lasts → next.approvals ≡ race.approvals → next.burdens ≡ race.burdens → next.is_picked ≡ race.is_picked → next.nominators ≡ race.nominators
+    → length next.scores.items ≡ length race.scores.items → IsAfter snapshot picks next
+rescored snapshot picks race next after loads lasts approvals burdens marks nominators size = record {
+  loads = λ voter. ap (λ v. says v.items voter) loads ∙ after.loads voter;
+  loads_size = ap (λ v. length v.items) loads ∙ after.loads_size;
+  lasts = λ voter. ap (λ v. says v.items voter) lasts ∙ after.lasts voter;
+  lasts_size = ap (λ v. length v.items) lasts ∙ after.lasts_size;
+  approvals = λ target h. ap (λ v. says v.items target) approvals ∙ after.approvals target h;
+  approvals_size = ap (λ v. length v.items) approvals ∙ after.approvals_size;
+  burdens = subst (λ v. AreBurdens snapshot v.items next.burdens.items) (sym loads) (subst (λ v. AreBurdens snapshot race.loads.items v.items) (sym burdens) after.burdens);
+  burdens_size = ap (λ v. length v.items) burdens ∙ after.burdens_size;
+  scores_size = size ∙ after.scores_size;
+  marks = λ number. ap (λ v. get_or v.items number false) marks ∙ after.marks number;
+  marks_size = ap (λ v. length v.items) marks ∙ after.marks_size;
+  nominators_are = λ target h. ap (λ v. get_or v.items target []) nominators ∙ after.nominators_are target h;
+  nominators_size = ap (λ v. length v.items) nominators ∙ after.nominators_size;
+}
+
+-- ---- one seat more
+module _ (snapshot : Snapshot) (picks : List ℕ) (race : Race) (book : WeightBook) (rises : List Rise) (running : IsRunning snapshot picks race book rises)
+    (target : ℕ) (in_range : target < length snapshot.targets) where
+  marked : (number : ℕ) → get_or (set race.is_picked.items target true) number false ≡ (nat_eq target number || has picks number)
+  marked number = at (cases_eq target number) where
+    at : (target ≡ number) ⊎ (target ≡ number → ⊥) → get_or (set race.is_picked.items target true) number false ≡ (nat_eq target number || has picks number)
+    at (inl e) = ap (λ n. get_or (set race.is_picked.items n true) number false) e
+        ∙ get_or-set_same race.is_picked.items number true false (omega (arith, in_range, e, running.after.marks_size))
+        ∙ sym (ap (λ b. b || has picks number) (eq-eqb target number e))
+    at (inr d) = get_or-set_other race.is_picked.items target number true false (λ e. d (sym e))
+        ∙ running.after.marks number
+        ∙ sym (ap (λ b. b || has picks number) (ne_eqb target number d))
+
+  pub running_more : (next : Race) (new : WeightBook) (more : List Rise) (height : ℕ) (loads_now lasts_now burdens_now : List ℕ)
+      → height ≡ score snapshot (load_after snapshot picks) target
+      → next.loads.items ≡ loads_now
+      → next.lasts.items ≡ lasts_now
+      → next.burdens.items ≡ burdens_now
+      → ((voter : ℕ) → says loads_now voter ≡ cond (nominates snapshot voter target) height (says race.loads.items voter))
+      → length loads_now ≡ length race.loads.items
+      → ((voter : ℕ) → says lasts_now voter ≡ cond (nominates snapshot voter target) target (says race.lasts.items voter))
+      → length lasts_now ≡ length race.lasts.items
+      → AreBurdens snapshot loads_now burdens_now
+      → length burdens_now ≡ length race.burdens.items
+      → length next.scores.items ≡ length race.scores.items
+      → next.approvals.items ≡ race.approvals.items
+      → next.is_picked.items ≡ set race.is_picked.items target true
+      → next.nominators.items ≡ race.nominators.items
+      → new.plain.committee ≡ book.plain.committee ++ target ∷ []
+      → new.plain.edges ≡ book.plain.edges
+      → KeepsRoom book new
+      → more ≡ rises ++ map (rise_of (says race.loads.items) target height) (nominators snapshot target)
+      → IsRunning snapshot (target ∷ picks) next new more
+  running_more next new more height loads_now lasts_now burdens_now height_is loads_is lasts_is burdens_is loads loads_size lasts lasts_size burdens burdens_size scores_size approvals_same marks nominators_same members edges room noted = record {
+    after = record {
+      loads = λ voter. ap (λ ns. says ns voter) loads_is ∙ loads voter ∙ ap₂ (λ a b. cond (nominates snapshot voter target) a b) height_is (running.after.loads voter);
+      loads_size = ap length loads_is ∙ loads_size ∙ running.after.loads_size;
+      lasts = λ voter. ap (λ ns. says ns voter) lasts_is ∙ lasts voter ∙ ap (λ n. cond (nominates snapshot voter target) target n) (running.after.lasts voter);
+      lasts_size = ap length lasts_is ∙ lasts_size ∙ running.after.lasts_size;
+      approvals = λ other h. ap (λ ns. says ns other) approvals_same ∙ running.after.approvals other h;
+      approvals_size = ap length approvals_same ∙ running.after.approvals_size;
+      burdens = subst (λ ns. AreBurdens snapshot ns next.burdens.items) (sym loads_is) (subst (λ ns. AreBurdens snapshot loads_now ns) (sym burdens_is) burdens);
+      burdens_size = ap length burdens_is ∙ burdens_size ∙ running.after.burdens_size;
+      scores_size = scores_size ∙ running.after.scores_size;
+      marks = λ number. ap (λ ms. get_or ms number false) marks ∙ marked number;
+      marks_size = ap length marks ∙ length-set race.is_picked.items target true ∙ running.after.marks_size;
+      nominators_are = λ other h. ap (λ lists. get_or lists other []) nominators_same ∙ running.after.nominators_are other h;
+      nominators_size = ap length nominators_same ∙ running.after.nominators_size;
+    };
+    members = members ∙ ap (λ ms. ms ++ target ∷ []) running.members ∙ sym (reverse-append (target ∷ []) picks);
+    edges = edges ∙ running.edges;
+    rises_are = noted ∙ ap₂ (λ rs (f : ℕ → ℕ). rs ++ map (rise_of f target height) (nominators snapshot target)) running.rises_are (loads_are snapshot picks race running.after)
+        ∙ ap (λ n. rises_then n) height_is;
+    room = record {
+      members = omega (arith, running.room.members, room.members);
+      edges = omega (arith, running.room.edges, room.edges);
+    };
+  } where
+    rises_then : ℕ → List Rise
+    rises_then n = rises_after snapshot picks ++ map (rise_of (load_after snapshot picks) target n) (nominators snapshot target)
+
+-- ---- all seats
+pub picks_are : (snapshot : Snapshot) (picks : List ℕ) (race : Race) (book : WeightBook) (rises : List Rise) → IsRunning snapshot picks race book rises → picks ≡ reverse book.plain.committee
+picks_are snapshot picks race book rises running = sym (ap reverse running.members ∙ reverse-reverse picks)
+
+pub seats_more : (snapshot : Snapshot) (count : ℕ) (race next : Race) (book new : WeightBook) (rises more : List Rise) → IsRunning snapshot (picked snapshot count) race book rises
+    → IsRunning snapshot (with_next snapshot (reverse book.plain.committee)) next new more → IsRunning snapshot (picked snapshot (count + 1)) next new more
+seats_more snapshot count race next book new rises more running then = subst (λ n. IsRunning snapshot (picked snapshot n) next new more) (one count)
+    (subst (λ picks. IsRunning snapshot (with_next snapshot picks) next new more) (sym (picks_are snapshot (picked snapshot count) race book rises running)) then)
+  where
+    one : (n : ℕ) → suc n ≡ n + 1
+    one n = omega arith
+
+pub has_spare : (snapshot : Snapshot) (count : ℕ) (race : Race) (book : WeightBook) (rises : List Rise) → IsWellFormed snapshot → count < snapshot.seats
+    → IsRunning snapshot (picked snapshot count) race book rises → 0 < book.member_spare
+has_spare snapshot count race book rises formed h running = omega (
+  arith,
+  h,
+  formed.targets_enough,
+  running.room.members,
+  ap length running.members,
+  length-reverse (picked snapshot count),
+  few_picks snapshot count,
+)
+
+pub as_many : (snapshot : Snapshot) (count : ℕ) (race : Race) (book : WeightBook) (rises : List Rise) → IsWellFormed snapshot → count < snapshot.seats
+    → IsRunning snapshot (picked snapshot count) race book rises → count ≡ length book.plain.committee
+as_many snapshot count race book rises formed h running = sym (ap length running.members ∙ length-reverse (picked snapshot count)
+    ∙ all_picks snapshot count (omega (arith, h, formed.targets_enough)))

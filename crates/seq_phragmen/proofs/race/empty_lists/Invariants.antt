@@ -1,0 +1,6 @@
+use Rattle.std.proofs.Common.{◌≡◌, ℕ, [], length, get_or}
+use Rattle.seq_phragmen.proofs.race.empty_lists.Given as goal
+
+-- so many, all empty
+abbrev pub invariant-loop : goal.invariant-loop
+invariant-loop l = (length l.lists.items ≡ l.counter) × ((k : ℕ) → get_or l.lists.items k [] ≡ [])
