@@ -3,7 +3,7 @@ use Rattle.std.specs.List.{IsDistinct}
 use Rattle.weight_book.specs.Weights.{Weights}
 use Rattle.weight_book.proofs.tests.score_of_two.Goals as goal
 
-two_distinct : IsDistinct nat_eq (65535 ∷ 7 ∷ [])
+two_distinct : IsDistinct nat_eq (65535 ∷ 0 ∷ [])
 unfolding IsDistinct
 two_distinct = ((refl, tt), (tt, tt))
 
