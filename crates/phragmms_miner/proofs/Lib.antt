@@ -1,0 +1,4 @@
+pub mod NarrowLemmas
+pub mod PassLemmas
+pub mod RunLemmas
+pub mod ScoreLemmas

@@ -1,0 +1,38 @@
+use Rattle.std.proofs.Common.{rules, ◌≡◌, ◌<◌, length, get_or, ap, ◌∙◌}
+use Rattle.npos_base.specs.declared.figures.Edge.{Edge}
+use Rattle.weight_book.specs.Weights.{support}
+use Rattle.weight_book.specs.Passing.{pay}
+use Rattle.phragmms_miner.proofs.PassLemmas.{within_support, pay_left, paid_next}
+use Rattle.phragmms_miner.proofs.pass.fill_slacks.Goals as goal
+
+abbrev none : Edge
+none = record { voter = 0; target = 0; amount = 0 }
+
+pub pay-requires : goal.pay-requires
+pay-requires c =
+    let edges = c.args.edges.now in
+    let i = c.loop-edge.edge-index in
+    let h : i < length edges = search rules in
+    let is : get_or c.args.supports.now c.from.result 0 ≡ support edges (get_or edges i none).target =
+    c.requires.spare.sums c.from.result ∙ ap (support edges) c.from.ensures in
+    rw is (within_support edges i none h)
+
+pub overflow_sub-left : goal.overflow_sub-left
+overflow_sub-left c =
+    let edges = c.args.edges.now in
+    let i = c.loop-edge.edge-index in
+    let h : i < length edges = search rules in
+    let is : get_or c.args.supports.now c.from.result 0 ≡ support edges (get_or edges i none).target =
+    c.requires.spare.sums c.from.result ∙ ap (support edges) c.from.ensures in
+    let paid : c.pay.result ≡ pay c.args.price edges (get_or edges i none) = rw is at c.pay.ensures in
+    rw paid (pay_left c.args.price c.args.snapshot.now edges c.args.supports.now c.requires.spare i none h c.loop-edge.left c.loop-edge.invariant)
+
+pub loop-edge-preserved : goal.loop-edge-preserved
+loop-edge-preserved c =
+    let edges = c.args.edges.now in
+    let i = c.loop-edge.edge-index in
+    let h : i < length edges = search rules in
+    let is : get_or c.args.supports.now c.from.result 0 ≡ support edges (get_or edges i none).target =
+    c.requires.spare.sums c.from.result ∙ ap (support edges) c.from.ensures in
+    let paid : c.pay.result ≡ pay c.args.price edges (get_or edges i none) = rw is at c.pay.ensures in
+    rw paid (paid_next c.args.price c.args.snapshot.now edges c.args.supports.now c.requires.spare i none h c.loop-edge.left c.loop-edge.invariant)

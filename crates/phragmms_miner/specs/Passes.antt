@@ -1,0 +1,17 @@
+-- What a pass over edges and votes stands on.
+use Rattle.std.specs.Prelude.{◌≡◌, ℕ, ◌<◌, ◌≤◌, List, length, sum_by, slice_index_or, All}
+use Rattle.npos_base.specs.declared.figures.Edge.{Edge}
+use Rattle.election_snapshot.specs.Snapshot.{Snapshot, stake_of}
+use Rattle.weight_book.specs.Weights.{support, spent}
+use Rattle.weight_book.specs.Passing.{nominators}
+
+-- edges with the table of their supports, which spend no more than the stakes
+pub record AreSpare (snapshot : Snapshot) (edges : List Edge) (supports : List ℕ) : Type 0 where
+  pub voters : All (λ edge. edge.voter < length snapshot.voters) edges
+  pub targets : All (λ edge. edge.target < length supports) edges
+  pub sums : (target : ℕ) → slice_index_or supports target 0 ≡ support edges target
+  pub within : (voter : ℕ) → voter < length snapshot.voters → spent edges voter ≤ stake_of snapshot voter
+
+-- by what the table says, what the target's nominators have left
+abbrev pub left_of : List ℕ → Snapshot → ℕ → ℕ
+left_of slacks snapshot target = sum_by (λ voter. slice_index_or slacks voter 0) (nominators snapshot target)

@@ -1,0 +1,21 @@
+-- The best of the targets that may be picked.
+use Rattle.std.specs.Prelude.{◌≡◌, ℕ, ◌<◌, ◌≤◌, true, List, length, All}
+use Rattle.std.specs.List.{AllPairs}
+use Rattle.election_snapshot.specs.Snapshot.{Snapshot, has}
+
+-- the lowest of those with the greatest score
+pub record IsBestOf (score_of : ℕ → ℕ) (outside : List ℕ) (pick : ℕ) : Type 0 where
+  pub is_out : has outside pick ≡ true
+  pub greatest : (other : ℕ) → has outside other ≡ true → score_of other ≤ score_of pick
+  pub lowest : (other : ℕ) → has outside other ≡ true → other < pick → score_of other < score_of pick
+
+-- rising positions of targets
+pub record AreRising (targets : ℕ) (outside : List ℕ) : Type 0 where
+  pub rising : AllPairs (λ one other. one < other) outside
+  pub in_range : All (λ target. target < targets) outside
+
+-- by voter, by target, and by target once more
+pub record AreTables (snapshot : Snapshot) (left prescores outside : List ℕ) : Type 0 where
+  pub voters : length left ≡ length snapshot.voters
+  pub targets : length prescores ≡ length snapshot.targets
+  pub places : length outside ≡ length snapshot.targets

@@ -1,0 +1,12 @@
+//! The rule of Cevallos and Stewart as a miner: the target with the greatest score joins, then the
+//! supports are balanced, seat after seat.
+#![tactic(auto)]
+
+mod miner;
+mod pass;
+mod search;
+
+pub use miner::mine_mms;
+
+#[cfg(test)]
+mod tests;

@@ -1,0 +1,92 @@
+//! The search for the target outside with the greatest score.
+ghost use Rattle.std.specs.Prelude.{◌≡◌, ◌<◌, ◌≤◌, ℕ, true, nat_lt, length, take, filter, slice_index_or, All, IfSome, IfNone};
+ghost use Rattle.election_snapshot.specs.Snapshot.{has};
+ghost use Rattle.phragmms_miner.specs.Passes.{AreSpare};
+ghost use Rattle.phragmms_miner.specs.Scores.{score};
+ghost use Rattle.phragmms_miner.specs.Search.{IsBestOf, AreRising};
+
+use crate::pass::fill_prescores;
+use election_snapshot::Snapshot;
+use npos_base::Edge;
+
+/// The lowest of the targets outside with the greatest score. All of them are tested at one price
+/// in one pass. One whose prescore is not above a price that another reaches cannot be picked any
+/// more.
+pub(crate) fn best_outside(
+    snapshot: &Snapshot,
+    edges: &[Edge],
+    supports: &[u128],
+    outside: &mut [u16],
+    left: &mut [u64],
+    prescores: &mut [u64],
+) -> u16
+    requires spare { AreSpare snapshot.now edges.now supports.now }
+    requires stakes { length left.old ≡ length snapshot.now.voters }
+    requires targets { length prescores.old ≡ length snapshot.now.targets }
+    requires some { 1 ≤ length outside.old }
+    requires rising { AreRising (length snapshot.now.targets) outside.old }
+    ensures { IsBestOf (score snapshot.now edges.now) outside.old result }
+{
+    let mut count = outside.len();
+    let mut low = 0;
+    let mut top = snapshot.total();
+    let mut pick = outside[0];
+    while low < top && count > 0 {
+        let test = next_test(low, top);
+        fill_prescores(test, snapshot, edges, supports, left, prescores);
+        match lowest_reaching(test, &outside[..count], prescores) {
+            Some(target) => {
+                pick = target;
+                low = test;
+                count = keep_above(test, prescores, &mut outside[..count]);
+            }
+            None => top = test - 1,
+        }
+    }
+    pick
+}
+
+/// A price above `low` and at most `top`.
+fn next_test(low: u64, top: u64) -> u64
+    requires { low < top }
+    ensures above { low < result }
+    ensures within { result ≤ top }
+{
+    low + (top - low - 1) / 2 + 1
+}
+
+/// The first of the targets whose prescore is at least the price.
+fn lowest_reaching(test: u64, alive: &[u16], prescores: &[u64]) -> Option<u16>
+    requires { AreRising (length prescores.now) alive.now }
+    ensures found { IfSome result (λ target. (has alive.now target ≡ true)
+        × (test ≤ slice_index_or prescores.now target 0)
+        × ((other : ℕ) → has alive.now other ≡ true → test ≤ slice_index_or prescores.now other 0
+        → target ≤ other)) }
+    ensures none { IfNone result ((other : ℕ) → has alive.now other ≡ true
+        → slice_index_or prescores.now other 0 < test) }
+{
+    for target in alive {
+        if prescores[usize::from(*target)] >= test {
+            return Some(*target);
+        }
+    }
+    None
+}
+
+/// Keeps the targets whose prescore is above the price in front, and tells how many they are.
+fn keep_above(test: u64, prescores: &[u64], alive: &mut [u16]) -> usize
+    requires { All (λ target. target < length prescores.now) alive.old }
+    ensures count { result ≤ length alive.old }
+    ensures kept { take result alive.new
+        ≡ filter (λ target. nat_lt test (slice_index_or prescores.now target 0)) alive.old }
+{
+    let mut count = 0;
+    for i in 0..alive.len() {
+        let target = alive[i];
+        if prescores[usize::from(target)] > test {
+            alive[count] = target;
+            count += 1;
+        }
+    }
+    count
+}

@@ -1,0 +1,253 @@
+-- How a backing is kept.
+use Rattle.std.proofs.Common.{◌≡◌, ◌≢◌, ℕ, zero, suc, ◌^◌, ◌<◌, ◌≤◌, Bool, true, false, ◌&&◌, ◌||◌, nat_eq, List, [], ◌∷◌, ◌++◌, length, take, drop, append-nil, slice_index_or, replicate, filter, get_or, set, All, inl, inr, refl, ap, sym, subst, ◌∙◌, arith}
+use Rattle.std.specs.List.{AllPairs, IsDistinct}
+use Rattle.std.proofs.lemmas.List.{get_or-set_same, get_or-set_other, length-set, drop_all, take_all, get_or_past, get_or-replicate, length-replicate}
+use Rattle.support_balance.proofs.HandLemmas.{alike_self}
+use Rattle.std.proofs.lemmas.List.Elements.{All-append, All-cons, All-nil, All-filter, filter_passes, recursion_from_All}
+use Rattle.std.proofs.lemmas.List.Kept.{AllPairs-filter}
+use Rattle.std.proofs.lemmas.List.Quantifiers.{all_pairs_push}
+use Rattle.std.proofs.lemmas.List.Folds.{list_any-append, list_any_at}
+use Rattle.std.proofs.lemmas.Map.Made.{AllPairs-from_IsDistinct, IsDistinct-from_AllPairs}
+use Rattle.std.proofs.lemmas.Bool.{cases_Bool, cases_lt, cases_eq, ne_eqb, eq-eqb, eqb-true, true≢false}
+use Rattle.std.proofs.lemmas.Bool.Decides.{Decides-eqb}
+use Rattle.npos_base.specs.declared.figures.Edge.{Edge}
+use Rattle.election_snapshot.specs.Snapshot.{Snapshot, IsWellFormed, has, nominates}
+use Rattle.weight_book.specs.Weights.{edges_from, same_pair, support, Follows}
+use Rattle.support_balance.specs.Rounds.{IsBefore}
+use Rattle.support_balance.specs.Rows.{at, AreAlike}
+use Rattle.support_balance.specs.Laid.{targets_of, Covers, AreKept}
+use Rattle.support_balance.specs.Slots.{AreSlots, marked, has_pair, AreLaid}
+use Rattle.support_balance.specs.Backing.{IsKept}
+use Rattle.support_balance.proofs.AlikeLemmas.{from_alike, rising_before}
+use Rattle.support_balance.proofs.LayLemmas.{place_pair}
+use Rattle.support_balance.proofs.TurnLemmas.{filter_none}
+
+pub filter_le : {X : Type 0} (p : X → Bool) (xs : List X) → length (filter p xs) ≤ length xs
+filter_le p [] = omega arith
+filter_le p (x ∷ xs) = elim (cases_Bool (p x)) [
+  | inl t ↦ rw t (omega (arith, filter_le p xs))
+  | inr t ↦ rw t (omega (arith, filter_le p xs))
+]
+
+passing : {X : Type 0} (p : X → Bool) (x : X) (xs : List X) → p x ≡ true → filter p (x ∷ xs) ≡ x ∷ filter p xs
+passing p x xs t = rw t refl
+
+failing : {X : Type 0} (p : X → Bool) (x : X) (xs : List X) → p x ≡ false → filter p (x ∷ xs) ≡ filter p xs
+failing p x xs t = rw t refl
+
+filter_swap : {X : Type 0} (p q : X → Bool) (xs : List X) → filter p (filter q xs) ≡ filter q (filter p xs)
+filter_swap p q [] = refl
+filter_swap p q (x ∷ xs) =
+    let rest = filter_swap p q xs in
+    elim (cases_Bool (p x)) [
+      | inl t ↦ elim (cases_Bool (q x)) [
+        | inl u ↦ ap (filter p) (passing q x xs u) ∙ passing p x (filter q xs) t ∙ ap (λ ys. x ∷ ys) rest
+            ∙ sym (passing q x (filter p xs) u) ∙ ap (filter q) (sym (passing p x xs t))
+        | inr u ↦ ap (filter p) (failing q x xs u) ∙ rest ∙ sym (failing q x (filter p xs) u) ∙ ap (filter q) (sym (passing p x xs t))
+      ]
+      | inr t ↦ elim (cases_Bool (q x)) [
+        | inl u ↦ ap (filter p) (passing q x xs u) ∙ failing p x (filter q xs) t ∙ rest ∙ ap (filter q) (sym (failing p x xs t))
+        | inr u ↦ ap (filter p) (failing q x xs u) ∙ rest ∙ ap (filter q) (sym (failing p x xs t))
+      ]
+    ]
+
+has_marked : (marks : ℕ → Bool) (row : List Edge) (target : ℕ) → has (targets_of (marked marks row)) target ≡ marks target && has (targets_of row) target
+has_marked marks [] target = elim (cases_Bool (marks target)) [
+  | inl t ↦ rw t refl
+  | inr t ↦ rw t refl
+]
+has_marked marks (edge ∷ row) target =
+    let rest = has_marked marks row target in
+    elim (cases_Bool (nat_eq edge.target target)) [
+      | inl same ↦
+          let e = eqb-true edge.target target same in
+          elim (cases_Bool (marks target)) [
+            | inl t ↦ rw (ap marks e ∙ t, same, t) refl
+            | inr t ↦ rw (ap marks e ∙ t, same, t) (rest ∙ ap (λ b. b && has (targets_of row) target) t)
+          ]
+      | inr other ↦ elim (cases_Bool (marks edge.target)) [
+        | inl t ↦ rw (t, other) rest
+        | inr t ↦ rw (t, other) rest
+      ]
+    ]
+
+pub laid_covers : (snapshot : Snapshot) (members : List ℕ) (slots edges : List Edge) → AreSlots snapshot (length snapshot.voters) slots
+    → AreAlike (marked (has members) slots) edges → Covers snapshot members edges
+laid_covers snapshot members slots edges are alike voter target h =
+    ap (λ ns. has ns target) (from_alike voter (marked (has members) slots) edges alike)
+    ∙ ap (λ es. has (targets_of es) target) (filter_swap (λ (e : Edge). nat_eq e.voter voter) (λ (e : Edge). has members e.target) slots)
+    ∙ has_marked (has members) (edges_from slots voter) target
+    ∙ ap (λ b. has members target && b) (are.pairs voter target h)
+
+-- more marks, more slots
+more_marked : (fewer more : ℕ → Bool) → ((target : ℕ) → fewer target ≡ true → more target ≡ true) → (slots : List Edge) (edge : Edge)
+    → has_pair (marked fewer slots) edge ≡ true → has_pair (marked more slots) edge ≡ true
+more_marked fewer more grows [] edge some = some
+more_marked fewer more grows (slot ∷ slots) edge some = elim (cases_Bool (fewer slot.target)) [
+  | inl t ↦ elim (cases_Bool (same_pair slot edge)) [
+    | inl same ↦ rw (grows slot.target t, same) refl
+    | inr other ↦ rw (grows slot.target t, other) (more_marked fewer more grows slots edge (rw (t, other) at some))
+  ]
+  | inr t ↦
+      let rest = more_marked fewer more grows slots edge (rw t at some) in
+      elim (cases_Bool (more slot.target)) [
+        | inl u ↦ elim (cases_Bool (same_pair slot edge)) [
+          | inl same ↦ rw (u, same) refl
+          | inr other ↦ rw (u, other) rest
+        ]
+        | inr u ↦ rw u rest
+      ]
+]
+
+-- edges that were laid lead along the slots of more members
+pub still_along : (fewer more : ℕ → Bool) → ((target : ℕ) → fewer target ≡ true → more target ≡ true) → (slots edges : List Edge)
+    → AreAlike (marked fewer slots) edges → All (λ (e : Edge). has_pair (marked more slots) e ≡ true) edges
+still_along fewer more grows slots edges alike k d h =
+    let l : k < length (marked fewer slots) = omega (arith, h, alike.count) in
+    more_marked fewer more grows slots (get_or edges k d)
+    (place_pair (marked fewer slots) (get_or edges k d) k d l (sym (alike.voters k d l)) (sym (alike.targets k d l)))
+
+-- edges in order are of different pairs
+pub distinct_before : (edges : List Edge) → AllPairs IsBefore edges → IsDistinct same_pair edges
+unfolding IsDistinct
+distinct_before [] rising = tt
+distinct_before (edge ∷ edges) rising = (
+  recursion_from_All (λ (other : Edge). same_pair edge other ≡ false) edges (λ k d h. apart (get_or edges k d) (rising 0 (suc k) d (omega arith) (omega (arith, h)))),
+  distinct_before edges (λ i j d a b. rising (suc i) (suc j) d (omega (arith, a)) (omega (arith, b))),
+) where
+  apart : (other : Edge) → IsBefore edge other → same_pair edge other ≡ false
+  apart other before = elim before [
+    | inl l ↦ rw (ne_eqb edge.voter other.voter (λ e. omega (arith, l, e))) refl
+    | inr l ↦ rw (ne_eqb edge.target other.target (λ e. omega (arith, l.1, e)), eq-eqb edge.voter other.voter l.0) refl
+  ]
+
+stands_own : (edges : List Edge) (k : ℕ) (d : Edge) → k < length edges → has (targets_of (edges_from edges (get_or edges k d).voter)) (get_or edges k d).target ≡ true
+stands_own [] k d h = absurd (omega arith)
+stands_own (edge ∷ edges) zero d h = rw (eq-eqb edge.voter edge.voter refl) (rw (eq-eqb edge.target edge.target refl) refl)
+stands_own (edge ∷ edges) (suc k) d h =
+    let one = get_or edges k d in
+    let rest = stands_own edges k d (omega (arith, h)) in
+    elim (cases_Bool (nat_eq edge.voter one.voter)) [
+      | inl t ↦ rw t (elim (cases_Bool (nat_eq edge.target one.target)) [
+        | inl u ↦ rw u refl
+        | inr u ↦ rw u rest
+      ])
+      | inr t ↦ rw t rest
+    ]
+
+-- what holds of the slots holds of the edges laid along them
+pub laid_all : (P : ℕ → ℕ → Type 0) (xs ys : List Edge) → AreAlike xs ys → All (λ (e : Edge). P e.voter e.target) xs → All (λ (e : Edge). P e.voter e.target) ys
+laid_all P xs ys alike all k d h =
+    let l : k < length xs = omega (arith, h, alike.count) in
+    subst (λ n. P n (get_or ys k d).target) (sym (alike.voters k d l)) (subst (P (get_or xs k d).voter) (sym (alike.targets k d l)) (all k d l))
+
+module _ (snapshot : Snapshot) (slots : List Edge) (members : List ℕ) (is_member : List Bool) (edges : List Edge) (supports : List ℕ)
+    (so : IsKept snapshot slots members is_member edges supports) where
+  pub kept_follows : Follows snapshot (record { committee = members; edges = edges })
+  kept_follows = record {
+    members_in_range = so.in_range;
+    members_distinct = so.distinct;
+    pairs_distinct = distinct_before edges so.kept.rising;
+    voters_in_range = laid_all (λ v t. v < length snapshot.voters) (marked (has members) slots) edges so.laid
+        (All-filter (λ (e : Edge). has members e.target) (λ (e : Edge). e.voter < length snapshot.voters) slots so.slots_are.voters_in_range);
+    to_members = laid_all (λ v t. has members t ≡ true) (marked (has members) slots) edges so.laid (filter_passes (λ (e : Edge). has members e.target) slots);
+    nominated = laid_all (λ v t. nominates snapshot v t ≡ true) (marked (has members) slots) edges so.laid
+        (All-filter (λ (e : Edge). has members e.target) (λ (e : Edge). nominates snapshot e.voter e.target ≡ true) slots
+        (λ k d h. sym (so.slots_are.pairs (get_or slots k d).voter (get_or slots k d).target (so.slots_are.voters_in_range k d h)) ∙ stands_own slots k d h));
+  }
+
+  pub kept_covers : Covers snapshot members edges
+  kept_covers = laid_covers snapshot members slots edges so.slots_are so.laid
+
+-- what laying leaves
+pub laid_kept : (snapshot : Snapshot) (slots : List Edge) (marks : ℕ → Bool) (edges laid : List Edge) (supports : List ℕ) → IsWellFormed snapshot
+    → AreSlots snapshot (length snapshot.voters) slots → length supports ≡ length snapshot.targets → AreLaid marks slots edges laid
+    → ((target : ℕ) → at supports target ≡ support edges target) → AreKept supports laid
+laid_kept snapshot slots marks edges laid supports formed are count so table = record {
+  rising = rising_before (marked marks slots) laid so.alike (AllPairs-filter IsBefore (λ (e : Edge). marks e.target) slots are.rising);
+  few = omega (arith, so.alike.count, filter_le (λ (e : Edge). marks e.target) slots, are.few, formed.voters.voters_few);
+  small = so.small;
+  in_range = laid_all (λ v t. t < length supports) (marked marks slots) laid so.alike
+      (All-filter (λ (e : Edge). marks e.target) (λ (e : Edge). e.target < length supports) slots (λ k d h. omega (arith, are.targets_in_range k d h, count)));
+  table = λ target. table target ∙ sym (so.sums target);
+}
+
+-- all of a list is written over
+pub written : {X : Type 0} (count : ℕ) (new old : List X) → count ≡ length old → length new ≡ length old → take count (new ++ drop (length new) old) ≡ new
+written count new old c same = ap (λ ys. take count (new ++ ys)) (drop_all (length new) old (omega (arith, same))) ∙ ap (take count) (append-nil new) ∙ take_all count new (omega (arith, c, same))
+
+-- a member more
+module _ (snapshot : Snapshot) (slots : List Edge) (members : List ℕ) (is_member : List Bool) (edges : List Edge) (supports : List ℕ)
+    (so : IsKept snapshot slots members is_member edges supports) (target : ℕ) (in_range : target < length snapshot.targets) (outside : has members target ≡ false) where
+  abbrev after : List Bool
+  after = set is_member target true
+
+  abbrev more : List ℕ
+  more = members ++ target ∷ []
+
+  has_more : (other : ℕ) → has more other ≡ has members other || (nat_eq target other || false)
+  has_more other = list_any-append (λ n. nat_eq n other) members (target ∷ [])
+
+  marks_more : (other : ℕ) → slice_index_or after other false ≡ has more other
+  marks_more other = elim (cases_eq other target) [
+    | inl here ↦ ap (λ n. slice_index_or after n false) here ∙ get_or-set_same is_member target true false (omega (arith, in_range, so.marks_count))
+        ∙ sym (has_more other ∙ ap (λ b. has members other || (b || false)) (eq-eqb target other (sym here)) ∙ or_true (has members other))
+    | inr there ↦ get_or-set_other is_member target other true false there ∙ so.marks other
+        ∙ sym (has_more other ∙ ap (λ b. has members other || (b || false)) (ne_eqb target other (λ e. there (sym e))) ∙ or_false (has members other))
+  ] where
+    or_true : (b : Bool) → b || (true || false) ≡ true
+    or_true true = refl
+    or_true false = refl
+
+    or_false : (b : Bool) → b || (false || false) ≡ b
+    or_false true = refl
+    or_false false = refl
+
+  grows : (other : ℕ) → has members other ≡ true → slice_index_or after other false ≡ true
+  grows other t = marks_more other ∙ has_more other ∙ ap (λ b. b || (nat_eq target other || false)) t
+
+  pub along_more : All (λ (e : Edge). has_pair (marked (λ t. slice_index_or after t false) slots) e ≡ true) edges
+  along_more = still_along (has members) (λ t. slice_index_or after t false) grows slots edges so.laid
+
+  pub kept_more : (laid : List Edge) → AreLaid (λ t. slice_index_or after t false) slots edges laid → IsKept snapshot slots more after laid supports
+  kept_more laid lays = record {
+    formed = so.formed;
+    slots_are = so.slots_are;
+    in_range = All-append (λ member. member < length snapshot.targets) members (target ∷ []) so.in_range
+        (All-cons (λ member. member < length snapshot.targets) target [] in_range (All-nil (λ member. member < length snapshot.targets)));
+    distinct = IsDistinct-from_AllPairs Decides-eqb more (all_pairs_push (λ x y. x ≢ y) members target (AllPairs-from_IsDistinct Decides-eqb members so.distinct) apart);
+    marks = marks_more;
+    marks_count = length-set is_member target true ∙ so.marks_count;
+    laid = subst (λ (marks : ℕ → Bool). AreAlike (marked marks slots) laid) (λ i t. marks_more t i) lays.alike;
+    kept = laid_kept snapshot slots (λ t. slice_index_or after t false) edges laid supports so.formed so.slots_are so.count lays so.kept.table;
+    count = so.count;
+  } where
+    apart : (k d : ℕ) → k < length members → get_or members k d ≡ target → ⊥
+    apart k d h same = true≢false (sym (list_any_at (λ n. nat_eq n target) members k d h (eq-eqb (get_or members k d) target same)) ∙ outside)
+
+replicated : {X : Type 0} (count : ℕ) (x : X) (k : ℕ) → slice_index_or (replicate count x) k x ≡ x
+replicated count x k = elim (cases_lt k count) [
+  | inl l ↦ get_or-replicate count k x x l
+  | inr l ↦ get_or_past (replicate count x) k x (omega (arith, l, length-replicate count x))
+]
+
+-- no member yet
+pub kept_none : (snapshot : Snapshot) (slots : List Edge) → IsWellFormed snapshot → AreSlots snapshot (length snapshot.voters) slots
+    → IsKept snapshot slots [] (replicate (length snapshot.targets) false) [] (replicate (length snapshot.targets) 0)
+kept_none snapshot slots formed are = record {
+  formed = formed;
+  slots_are = are;
+  in_range = All-nil (λ member. member < length snapshot.targets);
+  distinct = IsDistinct-from_AllPairs Decides-eqb [] (λ i j d a b. absurd (omega (arith, b)));
+  marks = λ target. replicated (length snapshot.targets) false target;
+  marks_count = length-replicate (length snapshot.targets) false;
+  laid = subst (λ es. AreAlike es []) (sym (filter_none (λ (e : Edge). has [] e.target) slots (λ k d h. refl))) (alike_self []);
+  kept = record {
+    rising = λ i j d a b. absurd (omega (arith, b));
+    few = omega arith;
+    small = All-nil (λ (e : Edge). e.amount < 2 ^ 64);
+    in_range = All-nil (λ (e : Edge). e.target < length (replicate (length snapshot.targets) 0));
+    table = λ target. replicated (length snapshot.targets) 0 target;
+  };
+  count = length-replicate (length snapshot.targets) 0;
+}

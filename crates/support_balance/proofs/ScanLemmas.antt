@@ -1,0 +1,115 @@
+-- The pass that asks whether a row is level already.
+use Rattle.std.proofs.Common.{◌≡◌, ℕ, ◌+◌, ◌<◌, ◌≤◌, ◌⊎◌, List, length, get_or, inl, inr, ap, sym, subst, arith}
+use Rattle.std.proofs.lemmas.Bool.{cases_lt}
+use Rattle.npos_base.specs.declared.figures.Edge.{Edge}
+use Rattle.weight_book.specs.Weights.{amount_sum}
+use Rattle.support_balance.specs.Rows.{at, IsRow, IsEven}
+
+-- the least support of the first edges, with the first target that has it
+pub record IsLeast (supports : List ℕ) (row : List Edge) (i least least_at : ℕ) : Type 0 where
+  pub below : (k : ℕ) (d : Edge) → k < i → k < length row → least ≤ at supports (get_or row k d).target
+  pub first : (k : ℕ) (d : Edge) → k < i → k < length row → at supports (get_or row k d).target ≡ least → least_at ≤ (get_or row k d).target
+  pub ahead : (k : ℕ) (d : Edge) → i ≤ k → k < length row → least_at ≤ (get_or row k d).target
+
+-- the greatest support of those with an amount, with the last target that has it
+pub record IsTop (supports : List ℕ) (row : List Edge) (i top top_at : ℕ) : Type 0 where
+  pub above : (k : ℕ) (d : Edge) → k < i → k < length row → 0 < (get_or row k d).amount → at supports (get_or row k d).target ≤ top
+  pub last : (k : ℕ) (d : Edge) → k < i → k < length row → 0 < (get_or row k d).amount → at supports (get_or row k d).target ≡ top → (get_or row k d).target ≤ top_at
+
+module _ (supports : List ℕ) (row : List Edge) (sound : IsRow supports row) (i : ℕ) (edge : Edge) (h : i < length row) (is : (d : Edge) → edge ≡ get_or row i d) where
+  pub least_taken : (least least_at : ℕ) → IsLeast supports row i least least_at → at supports edge.target < least
+      → IsLeast supports row (i + 1) (at supports edge.target) edge.target
+  least_taken least least_at so l = record {
+    below = λ k d a b. elim (cases_lt k i) [
+      | inl c ↦ omega (arith, so.below k d c b, l)
+      | inr c ↦ here k d (omega (arith, a, c)) (λ t. at supports edge.target ≤ at supports t) (omega arith)
+    ];
+    first = λ k d a b e. elim (cases_lt k i) [
+      | inl c ↦ absurd (omega (arith, so.below k d c b, l, e))
+      | inr c ↦ here k d (omega (arith, a, c)) (λ t. edge.target ≤ t) (omega arith)
+    ];
+    ahead = λ k d a b. omega (arith, subst (λ (e : Edge). e.target < (get_or row k d).target) (sym (is d)) (sound.rising i k d (omega (arith, a)) b));
+  } where
+    here : (k : ℕ) (d : Edge) → k ≡ i → (P : ℕ → Type 0) → P edge.target → P (get_or row k d).target
+    here k d e P p = subst (λ n. P (get_or row n d).target) (sym e) (subst (λ (x : Edge). P x.target) (is d) p)
+
+  pub least_kept : (least least_at : ℕ) → IsLeast supports row i least least_at → least ≤ at supports edge.target
+      → IsLeast supports row (i + 1) least least_at
+  least_kept least least_at so l = record {
+    below = λ k d a b. elim (cases_lt k i) [
+      | inl c ↦ so.below k d c b
+      | inr c ↦ here k d (omega (arith, a, c)) (λ t. least ≤ at supports t) l
+    ];
+    first = λ k d a b e. elim (cases_lt k i) [
+      | inl c ↦ so.first k d c b e
+      | inr c ↦ so.ahead k d (omega (arith, c)) b
+    ];
+    ahead = λ k d a b. so.ahead k d (omega (arith, a)) b;
+  } where
+    here : (k : ℕ) (d : Edge) → k ≡ i → (P : ℕ → Type 0) → P edge.target → P (get_or row k d).target
+    here k d e P p = subst (λ n. P (get_or row n d).target) (sym e) (subst (λ (x : Edge). P x.target) (is d) p)
+
+  pub top_taken : (top top_at : ℕ) → IsTop supports row i top top_at → top ≤ at supports edge.target
+      → IsTop supports row (i + 1) (at supports edge.target) edge.target
+  top_taken top top_at so l = record {
+    above = λ k d a b p. elim (cases_lt k i) [
+      | inl c ↦ omega (arith, so.above k d c b p, l)
+      | inr c ↦ here k d (omega (arith, a, c)) (λ t. at supports t ≤ at supports edge.target) (omega arith)
+    ];
+    last = λ k d a b p e. elim (cases_lt k i) [
+      | inl c ↦ omega (arith, subst (λ (x : Edge). (get_or row k d).target < x.target) (sym (is d)) (sound.rising k i d c h))
+      | inr c ↦ here k d (omega (arith, a, c)) (λ t. t ≤ edge.target) (omega arith)
+    ];
+  } where
+    here : (k : ℕ) (d : Edge) → k ≡ i → (P : ℕ → Type 0) → P edge.target → P (get_or row k d).target
+    here k d e P p = subst (λ n. P (get_or row n d).target) (sym e) (subst (λ (x : Edge). P x.target) (is d) p)
+
+  pub top_kept : (top top_at : ℕ) → IsTop supports row i top top_at → (edge.amount ≤ 0) ⊎ (at supports edge.target < top)
+      → IsTop supports row (i + 1) top top_at
+  top_kept top top_at so l = record {
+    above = λ k d a b p. elim (cases_lt k i) [
+      | inl c ↦ so.above k d c b p
+      | inr c ↦ elim l [
+        | inl none ↦ absurd (omega (arith, none, p, ap (λ (x : Edge). x.amount) (is d), ap (λ n. (get_or row n d).amount) (both k a c)))
+        | inr lower ↦ here k d (both k a c) (λ t. at supports t ≤ top) (omega (arith, lower))
+      ]
+    ];
+    last = λ k d a b p e. elim (cases_lt k i) [
+      | inl c ↦ so.last k d c b p e
+      | inr c ↦ elim l [
+        | inl none ↦ absurd (omega (arith, none, p, ap (λ (x : Edge). x.amount) (is d), ap (λ n. (get_or row n d).amount) (both k a c)))
+        | inr lower ↦ absurd (omega (arith, lower, e, here k d (both k a c) (λ t. at supports t < top) lower))
+      ]
+    ];
+  } where
+    both : (k : ℕ) → k < i + 1 → i ≤ k → k ≡ i
+    both k a c = omega (arith, a, c)
+
+    here : (k : ℕ) (d : Edge) → k ≡ i → (P : ℕ → Type 0) → P edge.target → P (get_or row k d).target
+    here k d e P p = subst (λ n. P (get_or row n d).target) (sym e) (subst (λ (x : Edge). P x.target) (is d) p)
+
+-- a row is level where its top is not above its least, or a unit above and before it
+pub level_found : (stake : ℕ) (supports : List ℕ) (row : List Edge) (least least_at top top_at : ℕ)
+    → IsLeast supports row (length row) least least_at → IsTop supports row (length row) top top_at → amount_sum row ≡ stake
+    → (top ≤ least) ⊎ ((top ≡ least + 1) × (top_at < least_at)) → IsEven stake row supports
+level_found stake supports row least least_at top top_at lows tops whole so = record {
+  whole = whole;
+  level = λ i j d a b ne some. elim so [
+    | inl flat ↦ inl (omega (arith, tops.above i d a a some, lows.below j d b b, flat))
+    | inr step ↦ elim (cases_lt (at supports (get_or row j d).target) (at supports (get_or row i d).target)) [
+      | inl higher ↦
+          let high = tops.above i d a a some in
+          let deep = lows.below j d b b in
+          inr (
+            omega (arith, high, deep, higher, step.0),
+            omega (
+              arith,
+              tops.last i d a a some (omega (arith, high, deep, higher, step.0)),
+              lows.first j d b b (omega (arith, high, deep, higher, step.0)),
+              step.1,
+            ),
+          )
+      | inr lower ↦ inl lower
+    ]
+  ];
+}

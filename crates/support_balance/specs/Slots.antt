@@ -1,0 +1,53 @@
+-- An edge of amount 0 along each nomination, in order, and edges laid along those of members.
+use Rattle.std.specs.Prelude.{◌≡◌, ℕ, ◌*◌, ◌^◌, ◌<◌, ◌≤◌, ◌+◌, Bool, false, List, length, filter, All, slice_index_or}
+use Rattle.std.specs.List.{AllPairs, list_any}
+use Rattle.npos_base.specs.declared.figures.Edge.{Edge}
+use Rattle.election_snapshot.specs.Snapshot.{Snapshot, has, nominates}
+use Rattle.weight_book.specs.Weights.{edges_from, same_pair, support}
+use Rattle.support_balance.specs.Rounds.{IsBefore, GiveSame}
+use Rattle.support_balance.specs.Rows.{AreAlike}
+use Rattle.support_balance.specs.Laid.{targets_of}
+
+-- the slots of the first voters
+pub record AreSlots (snapshot : Snapshot) (voters : ℕ) (slots : List Edge) : Type 0 where
+  pub rising : AllPairs IsBefore slots
+  pub few : length slots ≤ voters * 16
+  pub voters_in_range : All (λ slot. slot.voter < voters) slots
+  pub targets_in_range : All (λ slot. slot.target < length snapshot.targets) slots
+  pub pairs : (voter target : ℕ) → voter < voters
+      → has (targets_of (edges_from slots voter)) target ≡ nominates snapshot voter target
+
+-- the slots whose targets are marked
+abbrev pub marked : (ℕ → Bool) → List Edge → List Edge
+marked marks slots = filter (λ slot. marks slot.target) slots
+
+-- some edge of the list leads from the same voter to the same target
+abbrev pub has_pair : List Edge → Edge → Bool
+has_pair edges edge = list_any (λ other. same_pair other edge) edges
+
+-- the edges, laid along the marked slots
+pub record AreLaid (marks : ℕ → Bool) (slots edges laid : List Edge) : Type 0 where
+  pub alike : AreAlike (marked marks slots) laid
+  pub same : GiveSame edges laid
+  pub sums : (target : ℕ) → support laid target ≡ support edges target
+  pub small : All (λ edge. edge.amount < 2 ^ 64) laid
+
+abbrev pub slot_of : ℕ → ℕ → Edge
+slot_of voter target = record { voter = voter; target = target; amount = 0 }
+
+-- The edge at the place leads along the slot and its amount is taken, or there is none that does.
+pub record IsTaken (slot : Edge) (edges : List Edge) (at after amount : ℕ) : Type 0 where
+  pub inside : at < length edges
+  pub moved : after ≡ at + 1
+  pub voter : (d : Edge) → (slice_index_or edges at d).voter ≡ slot.voter
+  pub target : (d : Edge) → (slice_index_or edges at d).target ≡ slot.target
+  pub amount_is : (d : Edge) → (slice_index_or edges at d).amount ≡ amount
+
+pub record IsPassed (slot : Edge) (edges : List Edge) (at after amount : ℕ) : Type 0 where
+  pub stays : after ≡ at
+  pub none : amount ≡ 0
+  pub other : (d : Edge) → at < length edges → same_pair (slice_index_or edges at d) slot ≡ false
+
+-- a number that rises with the voter, then with the target
+abbrev pub place_of : Edge → ℕ
+place_of edge = edge.voter * 65536 + edge.target

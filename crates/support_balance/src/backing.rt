@@ -1,0 +1,252 @@
+//! A committee whose voters hand out their stake, kept so that turns are fast.
+ghost use Rattle.std.specs.Prelude.{◌≡◌, ◌<◌, ◌≤◌, ◌++◌, ◌∷◌, [], ℕ, false, IsFalse, length, slice_index_or, IfOk, OnOk, OnErr, vec_len};
+ghost use Rattle.std.specs.Vec.{vec_capacity};
+ghost use Rattle.election_snapshot.specs.Snapshot.{has, stake_of};
+ghost use Rattle.weight_book.specs.Weights.{no_weights, Follows, support, spent};
+ghost use Rattle.weight_book.specs.Room.{KeepsRoom};
+ghost use Rattle.support_balance.specs.Rounds.{GiveSame, IsBalanced, AreListed};
+ghost use Rattle.support_balance.specs.Backing.{above_zero, IsKept};
+ghost use Rattle.support_balance.specs.Slots.{AreSlots};
+
+use crate::laying::{all_slots, in_order, lay, mark, supports_of};
+use crate::rounds::rounds;
+use election_snapshot::Snapshot;
+use npos_base::{Edge, NoMemory};
+use std::alloc::Global;
+use std::marker::Model;
+use weight_book::Weights;
+
+/// A committee of a snapshot with what each voter gives to each member that it nominates, in units
+/// of stake. Contracts see the snapshot, and weights that have an edge for each of these pairs, be
+/// its amount 0. It is public because the miner of Cevallos and Stewart balances after each pick
+/// and should not read the edges anew each time.
+#[derive(Drop)]
+pub struct Backing<'a> {
+    alloc: Global,
+    snapshot: &'a Snapshot,
+    /// An edge of amount 0 along each nomination, by rising voter, then rising target.
+    slots: Vec<Edge>,
+    members: Vec<u16>,
+    is_member: Vec<bool>,
+    /// The slots of members with their amounts.
+    edges: Vec<Edge>,
+    /// By target, what the edges to it sum to.
+    supports: Vec<u128>,
+}
+
+impl<'a> Model for Backing<'a> {
+    ghost use Rattle.support_balance.specs.Backing.{Backing, IsKept};
+
+    ghost Value = { Backing };
+
+    ghost view = { λ b. record {
+      snapshot = b.snapshot.now;
+      weights = record { committee = b.members.items; edges = b.edges.items };
+    } };
+
+    ghost invariant = { λ b. IsKept b.snapshot.now b.slots.items b.members.items b.is_member.items
+        b.edges.items b.supports.items };
+}
+
+impl<'a> Backing<'a> {
+    /// No member yet, and so no edge. The error is want of memory alone; then nothing is kept. It
+    /// takes room for an edge along each nomination of the snapshot.
+    pub fn new(alloc: Global, snapshot: &'a Snapshot) -> Result<Backing<'a>, NoMemory>
+        ensures { IfOk result (λ backing. backing
+            ≡ record { snapshot = snapshot.now; weights = no_weights }) }
+    {
+        let slots = all_slots(alloc, snapshot)?;
+        let is_member = vec![in alloc; false; snapshot.target_count()]?;
+        let supports = vec![in alloc; 0; snapshot.target_count()]?;
+        Ok(Backing {
+            alloc,
+            snapshot,
+            slots,
+            members: Vec::new(alloc),
+            is_member,
+            edges: Vec::new(alloc),
+            supports,
+        })
+    }
+
+    /// The committee of these weights in its order, and what they give: a voter gives each target
+    /// the same as there. The weights follow the nominations to members, no pair twice, in whatever
+    /// order. The error is want of memory alone.
+    pub fn over(
+        alloc: Global,
+        snapshot: &'a Snapshot,
+        weights: &Weights,
+    ) -> Result<Backing<'a>, NoMemory>
+        requires { Follows snapshot.now weights.now.plain }
+        ensures snapshot { IfOk result (λ backing. backing.snapshot ≡ snapshot.now) }
+        ensures committee { IfOk result (λ backing. backing.weights.committee
+            ≡ weights.now.plain.committee) }
+        ensures same { IfOk result (λ backing.
+            GiveSame weights.now.plain.edges backing.weights.edges) }
+    {
+        let slots = all_slots(alloc, snapshot)?;
+        let members = Vec::from_slice(alloc, weights.committee())?;
+        let mut is_member = vec![in alloc; false; snapshot.target_count()]?;
+        mark(&members, &mut is_member);
+        let (edges, supports) = lay_weights(alloc, snapshot, &slots, &is_member, weights)?;
+        Ok(Backing {
+            alloc,
+            snapshot,
+            slots,
+            members,
+            is_member,
+            edges,
+            supports,
+        })
+    }
+
+    /// A target that is outside joins as the last member, by its position in the snapshot. Nobody
+    /// gives it anything yet, and what others get stays. The error is want of memory alone, and
+    /// then nothing has changed.
+    pub fn add_member(&mut self, target: u16) -> Result<(), NoMemory>
+        requires in_range { target < length self.old.snapshot.targets }
+        requires outside { IsFalse (has self.old.weights.committee target) }
+        ensures snapshot { self.new.snapshot ≡ self.old.snapshot }
+        ensures committee { OnOk result (self.new.weights.committee
+            ≡ self.old.weights.committee ++ target ∷ []) }
+        ensures same { OnOk result (GiveSame self.old.weights.edges self.new.weights.edges) }
+        ensures err { OnErr result (self.new ≡ self.old) }
+    {
+        self.members.reserve(1)?;
+        self.is_member[usize::from(target)] = true;
+        match lay(self.alloc, &self.slots, &self.is_member, &self.edges) {
+            Ok(laid) => {
+                self.edges = laid;
+                push_within(&mut self.members, target);
+                Ok(())
+            }
+            Err(NoMemory) => {
+                self.is_member[usize::from(target)] = false;
+                Err(NoMemory)
+            }
+        }
+    }
+
+    /// Makes rounds of turns, one at each voter by rising position, until one changes nothing or
+    /// the asked number is made. It tells how many were made, the one that changed nothing among
+    /// them. The committee stays. Where at least one is asked, no voter then gives more than its
+    /// stake. It takes no memory, and so it cannot fail.
+    pub fn balance(&mut self, asked: u32) -> u32
+        ensures snapshot { self.new.snapshot ≡ self.old.snapshot }
+        ensures committee { self.new.weights.committee ≡ self.old.weights.committee }
+        ensures balanced { IsBalanced self.old.snapshot self.old.weights.committee asked result
+            self.old.weights.edges self.new.weights.edges }
+        ensures spends { 1 ≤ asked → (voter : ℕ) → voter < length self.new.snapshot.voters
+            → spent self.new.weights.edges voter ≤ stake_of self.new.snapshot voter }
+    {
+        rounds(asked, self.snapshot, &mut self.edges, &mut self.supports)
+    }
+
+    /// The edges, by rising voter, then rising target, those of amount 0 among them. They lead
+    /// along nominations to members, no pair twice.
+    pub fn edges(&self) -> &[Edge]
+        ensures edges { result.now ≡ self.now.weights.edges }
+        ensures follows { Follows self.now.snapshot self.now.weights }
+    {
+        self.edges.as_slice()
+    }
+
+    /// By target of the snapshot, be it a member or not, what it gets from all voters, in units of
+    /// stake. It is read from a table, and nothing is summed here.
+    pub fn supports(&self) -> &[u128]
+        ensures supports { (target : ℕ) → slice_index_or result.now target 0
+            ≡ support self.now.weights.edges target }
+        ensures count { length result.now ≡ length self.now.snapshot.targets }
+    {
+        self.supports.as_slice()
+    }
+
+    /// Whether the target, by its position in the snapshot, is a member.
+    pub fn is_member(&self, target: u16) -> bool
+        requires { target < length self.now.snapshot.targets }
+        ensures { result ≡ has self.now.weights.committee target }
+    {
+        self.is_member[usize::from(target)]
+    }
+
+    /// Puts the committee and the edges above 0 in place of what the weights hold, the edges by
+    /// rising voter, then rising target. The error is want of memory alone; it comes before
+    /// anything changes, and the room of the weights does not shrink either way.
+    pub fn put_into(&self, weights: &mut Weights) -> Result<(), NoMemory>
+        ensures committee { OnOk result (weights.new.plain.committee
+            ≡ self.now.weights.committee) }
+        ensures same { OnOk result (GiveSame self.now.weights.edges weights.new.plain.edges) }
+        ensures listed { OnOk result (AreListed weights.new.plain.edges) }
+        ensures follows { OnOk result (Follows self.now.snapshot weights.new.plain) }
+        ensures room { KeepsRoom weights.old weights.new }
+        ensures err { OnErr result (weights.new.plain ≡ weights.old.plain) }
+    {
+        weights.reserve(self.members.len(), self.edges.len())?;
+        weights.clear();
+        put_members(&self.members, weights);
+        put_edges(&self.edges, weights);
+        Ok(())
+    }
+}
+
+/// The edges of the weights, laid along the slots, and what the targets get.
+fn lay_weights(
+    alloc: Global,
+    snapshot: &Snapshot,
+    slots: &[Edge],
+    is_member: &[bool],
+    weights: &Weights,
+) -> Result<(Vec<Edge>, Vec<u128>), NoMemory>
+    requires follows { Follows snapshot.now weights.now.plain }
+    requires slots { AreSlots snapshot.now (length snapshot.now.voters) slots.now }
+    requires marks { (target : ℕ) → slice_index_or is_member.now target false
+        ≡ has weights.now.plain.committee target }
+    requires count { length is_member.now ≡ length snapshot.now.targets }
+    ensures kept { IfOk result (λ laid. IsKept snapshot.now slots.now weights.now.plain.committee
+        is_member.now laid.0.items laid.1.items) }
+    ensures same { IfOk result (λ laid. GiveSame weights.now.plain.edges laid.0.items) }
+{
+    let targets = snapshot.target_count();
+    let sorted = in_order(alloc, weights.edges())?;
+    let laid = lay(alloc, slots, is_member, &sorted)?;
+    let supports = supports_of(alloc, targets, &laid)?;
+    Ok((laid, supports))
+}
+
+/// Appends an item to a vector with room.
+fn push_within(items: &mut Vec<u16>, item: u16)
+    requires { vec_len items.old < vec_capacity items.old }
+    ensures { items.new.items ≡ items.old.items ++ item ∷ [] }
+{
+    match items.push(item) {
+        Ok(()) => {}
+        Err(_) => unreachable!(),
+    }
+}
+
+/// Appends the members.
+fn put_members(members: &[u16], weights: &mut Weights)
+    requires { length members.now ≤ weights.old.member_spare }
+    ensures members { weights.new.plain.committee ≡ weights.old.plain.committee ++ members.now }
+    ensures edges { weights.new.plain.edges ≡ weights.old.plain.edges }
+    ensures spare { weights.new.edge_spare ≡ weights.old.edge_spare }
+    ensures room { KeepsRoom weights.old weights.new }
+{
+    for member in members {
+        weights.push_member(*member);
+    }
+}
+
+/// Appends the edges whose amounts are above 0.
+fn put_edges(edges: &[Edge], weights: &mut Weights)
+    requires { length edges.now ≤ weights.old.edge_spare }
+    ensures edges { weights.new.plain.edges ≡ weights.old.plain.edges ++ above_zero edges.now }
+    ensures members { weights.new.plain.committee ≡ weights.old.plain.committee }
+    ensures room { KeepsRoom weights.old weights.new }
+{
+    for edge in edges {
+        if edge.amount > 0 {
+            weights.push_edge(*edge);
+        }
+    }
+}

@@ -1,0 +1,145 @@
+//! The layout of what each voter gives: an edge for each member that it nominates, by rising voter,
+//! then rising target, be its amount 0.
+ghost use Rattle.std.specs.Prelude.{◌≡◌, ◌<◌, ◌≤◌, ◌^◌, ◌++◌, ◌⊎◌, ℕ, false, length, map, All, IfOk, OnOk, IsTrue, IsPermutation, slice_index_or};
+ghost use Rattle.std.specs.List.{AllPairs};
+ghost use Rattle.std.specs.List.Sorted.{IsNonDecreasing, IsNonDecreasingBy};
+ghost use Rattle.support_balance.specs.Rounds.{IsBefore, GiveSame};
+ghost use Rattle.support_balance.specs.Slots.{AreSlots, marked, has_pair, AreLaid, slot_of, IsTaken, IsPassed, place_of};
+ghost use Rattle.election_snapshot.specs.Snapshot.{has};
+ghost use Rattle.weight_book.specs.Weights.{support};
+
+use election_snapshot::Snapshot;
+use npos_base::{Edge, NoMemory};
+use std::alloc::Global;
+
+/// An edge of amount 0 along each nomination, in order.
+pub(crate) fn all_slots(alloc: Global, snapshot: &Snapshot) -> Result<Vec<Edge>, NoMemory>
+    ensures { IfOk result (λ slots. AreSlots snapshot.now
+        (length snapshot.now.voters) slots.items) }
+{
+    let mut slots = Vec::new(alloc);
+    for voter in 0..snapshot.voter_count() {
+        let votes = sorted(alloc, snapshot.votes(voter as u32))?;
+        put_slots(voter as u32, &votes, &mut slots)?;
+    }
+    Ok(slots)
+}
+
+/// The numbers in rising order.
+fn sorted(alloc: Global, votes: &[u16]) -> Result<Vec<u16>, NoMemory>
+    ensures rising { IfOk result (λ sorted. IsNonDecreasing sorted.items) }
+    ensures same { IfOk result (λ sorted. IsPermutation votes.now sorted.items) }
+{
+    let mut sorted = Vec::from_slice(alloc, votes)?;
+    sorted.sort_unstable();
+    Ok(sorted)
+}
+
+/// Appends the slots of one voter.
+fn put_slots(voter: u32, votes: &[u16], slots: &mut Vec<Edge>) -> Result<(), NoMemory>
+    ensures { OnOk result (slots.new.items ≡ slots.old.items ++ map (slot_of voter) votes.now) }
+{
+    for vote in votes {
+        slots.push(Edge {
+            voter,
+            target: *vote,
+            amount: 0,
+        })?;
+    }
+    Ok(())
+}
+
+/// Lays the edges, which stand in order, along the slots of members: each with its amount, and
+/// those that have none with 0.
+pub(crate) fn lay(
+    alloc: Global,
+    slots: &[Edge],
+    is_member: &[bool],
+    edges: &[Edge],
+) -> Result<Vec<Edge>, NoMemory>
+    requires slots { AllPairs IsBefore slots.now }
+    requires in_table { All (λ slot. slot.target < length is_member.now) slots.now }
+    requires edges { AllPairs IsBefore edges.now }
+    requires along { All (λ edge. IsTrue (has_pair
+        (marked (λ target. slice_index_or is_member.now target false) slots.now) edge)) edges.now }
+    ensures { IfOk result (λ laid. AreLaid (λ target. slice_index_or is_member.now target false)
+        slots.now edges.now laid.items) }
+{
+    let mut laid = Vec::with_capacity(alloc, edges.len())?;
+    let mut at = 0;
+    for slot in slots {
+        if is_member[usize::from(slot.target)] {
+            let amount = amount_along(*slot, edges, &mut at);
+            laid.push(Edge {
+                voter: slot.voter,
+                target: slot.target,
+                amount,
+            })?;
+        }
+    }
+    Ok(laid)
+}
+
+/// The amount of the edge that stands at the place, if it leads along the slot; then the place
+/// moves behind it.
+fn amount_along(slot: Edge, edges: &[Edge], at: &mut usize) -> u64
+    ensures { IsTaken slot edges.now at.old at.new result
+        ⊎ IsPassed slot edges.now at.old at.new result }
+{
+    if *at < edges.len() && edges[*at].voter == slot.voter && edges[*at].target == slot.target {
+        *at += 1;
+        edges[*at - 1].amount
+    } else {
+        0
+    }
+}
+
+/// The edges in order.
+pub(crate) fn in_order(alloc: Global, edges: &[Edge]) -> Result<Vec<Edge>, NoMemory>
+    ensures rising { IfOk result (λ sorted. IsNonDecreasingBy place_of sorted.items) }
+    ensures same { IfOk result (λ sorted. IsPermutation edges.now sorted.items) }
+{
+    let mut sorted = Vec::from_slice(alloc, edges)?;
+    sorted.sort_unstable_by_key(|edge| place_of(edge));
+    Ok(sorted)
+}
+
+/// A number that rises with the voter, then with the target.
+fn place_of(edge: &Edge) -> u64
+    ensures { result ≡ place_of edge.now }
+{
+    u64::from(edge.voter) * 65_536 + u64::from(edge.target)
+}
+
+/// Marks the members alone.
+pub(crate) fn mark(members: &[u16], is_member: &mut [bool])
+    requires { All (λ member. member < length is_member.old) members.now }
+    ensures marks { (target : ℕ)
+        → slice_index_or is_member.new target false ≡ has members.now target }
+    ensures count { length is_member.new ≡ length is_member.old }
+{
+    is_member.fill(false);
+    for member in members {
+        is_member[usize::from(*member)] = true;
+    }
+}
+
+/// By target, what the edges to it sum to.
+pub(crate) fn supports_of(
+    alloc: Global,
+    targets: usize,
+    edges: &[Edge],
+) -> Result<Vec<u128>, NoMemory>
+    requires few { length edges.now ≤ 2 ^ 20 }
+    requires in_range { All (λ edge. edge.target < targets) edges.now }
+    requires small { All (λ edge. edge.amount < 2 ^ 64) edges.now }
+    ensures count { IfOk result (λ supports. length supports.items ≡ targets) }
+    ensures sums { IfOk result (λ supports. (target : ℕ)
+        → slice_index_or supports.items target 0 ≡ support edges.now target) }
+{
+    let mut supports = vec![in alloc; 0; targets]?;
+    for edge in edges {
+        supports[usize::from(edge.target)] += u128::from(edge.amount);
+    }
+    Ok(supports)
+}
