@@ -33,9 +33,10 @@ use Rattle.npos_runtime.specs.Outcome.{Outcome, quiet}
 use Rattle.npos_runtime.specs.Step.{era_phase, call_after, call_outcome, calls_outcome, step, after_blocks, told_by}
 use Rattle.npos_runtime.specs.Genesis.{genesis_fault, genesis_chain}
 use Rattle.npos_runtime.specs.Live.{IsLive}
+use Rattle.npos_runtime.specs.Offers.{before_calls}
 use Rattle.npos_runtime.specs.Fates.{settles, fate, waiting_with, issued}
 use Rattle.npos_runtime.proofs.OfferLemmas.{taken}
-use Rattle.npos_runtime.proofs.LiveLemmas.{offer_free, second_none, live_era, live_round, live_decision, live_before, live_call, live_step, due_step, before_calls}
+use Rattle.npos_runtime.proofs.LiveLemmas.{offer_free, second_none, live_era, live_round, live_decision, live_before, live_call, live_step, due_step}
 use Rattle.npos_runtime.proofs.BeginLemmas.{live_begun}
 
 module _ (number : ℕ) where

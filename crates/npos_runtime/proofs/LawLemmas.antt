@@ -31,7 +31,8 @@ use Rattle.npos_runtime.specs.Live.{IsLive, IsSoundRound, AreSound}
 use Rattle.npos_runtime.specs.Laws.{IsSound, SoundStepLaw, SoundLaw, SeatsLaw, HeldLaw}
 use Rattle.npos_runtime.proofs.VerdictLemmas.{decided_passes}
 use Rattle.npos_runtime.proofs.BeginLemmas.{live_begun}
-use Rattle.npos_runtime.proofs.LiveLemmas.{live_era, live_round, live_step, live_blocks, due_step, before_calls}
+use Rattle.npos_runtime.specs.Offers.{before_calls}
+use Rattle.npos_runtime.proofs.LiveLemmas.{live_era, live_round, live_step, live_blocks, due_step}
 
 -- ## Calls seat nobody, and leave who waits
 
@@ -73,7 +74,7 @@ waits_calls index (call ∷ calls) chain =
     waits_calls (index + 1) calls (call_outcome index call chain).state ∙ waits_after (stop_of chain call.who call.kind) index call chain
 
 -- what the step seats is what its decision seats
-abbrev undecided : Chain → Chain
+abbrev pub undecided : Chain → Chain
 undecided chain = (round_phase (era_phase chain).state).state
 
 seats_step : (chain : Chain) (block : Block) → (step chain block).seated ≡ (decision_phase (undecided chain)).seated
@@ -130,33 +131,43 @@ second_passed true b x y rest e = absurd (cc)
 second_passed false true x y rest e = absurd (cc)
 second_passed false false x y rest e = refl
 
-signed_some : (params : Params) → params_fault params ≡ None → 1 ≤ params.signed
-signed_some params sound =
-    at (nat_le 1 params.offset) (nat_le 1 params.signed) (nat_lt (params.offset + params.signed) params.era_blocks) refl
+-- the signed blocks and the decision lie within the era
+pub phases_sound : (params : Params) → params_fault params ≡ None
+    → (1 ≤ params.signed) × (params.offset + params.signed < params.era_blocks)
+phases_sound params sound =
+    at (nat_le 1 params.offset) (nat_le 1 params.signed) (nat_lt (params.offset + params.signed) params.era_blocks) refl refl
     (second_passed (not (is_within 1 512 params.seats)) (not (phases_fit params)) _ _ _
     (first_of_two (numbers_fault params) (option_or (threshold_fault 0 0 params.thresholds) (limits_fault params)) sound)) where
-      at : (a b c : Bool) → nat_le 1 params.signed ≡ b → not (a && b && c) ≡ false → 1 ≤ params.signed
-      at true true c e f = grind (arith, nat_tests)
-      at true false c e f = cc
-      at false b c e f = cc
+      at : (a b c : Bool) → nat_le 1 params.signed ≡ b → nat_lt (params.offset + params.signed) params.era_blocks ≡ c
+          → not (a && b && c) ≡ false → (1 ≤ params.signed) × (params.offset + params.signed < params.era_blocks)
+      at true true true e g f = (grind (arith, nat_tests), grind (arith, nat_tests))
+      at true true false e g f = cc
+      at true false c e g f = cc
+      at false b c e g f = cc
 
 -- no round begins in the block of a decision
-not_begun : (params : Option Params) (number : ℕ) → AreSound params → is_decision params number ≡ true → begun_round params number ≡ None
+pub not_begun : (params : Option Params) (number : ℕ) → AreSound params → is_decision params number ≡ true → begun_round params number ≡ None
 not_begun None number sound is = refl
 not_begun (Some params) number sound is = at (place_of params number == params.offset) refl where
   at : (b : Bool) → (place_of params number == params.offset) ≡ b → (if b then Some (era_of (Some params) number + 1) else None) ≡ None
-  at true e = absurd (let some = signed_some params sound in grind (arith, nat_tests))
+  at true e = absurd (let some = (phases_sound params sound).0 in grind (arith, nat_tests))
   at false e = refl
+
+-- the decision of a round that is not void
+pub decides : (chain : Chain) (number : ℕ) (snapshot : Snapshot) (commissions : List ℕ) → IsLive chain
+    → is_decision chain.params chain.due ≡ true → chain.round ≡ Some (rounds.Open number snapshot commissions)
+    → decision_phase (undecided chain) ≡ decision_of (Some (rounds.Open number snapshot commissions)) (undecided chain)
+decides chain number snapshot commissions live is stands =
+    let last : (undecided chain).round ≡ Some (rounds.Open number snapshot commissions) =
+    ap (round_after (era_phase chain).state) (not_begun chain.params chain.due live.params is) ∙ stands in
+    (λ i. if is i then decision_of (undecided chain).round (undecided chain) else quiet (undecided chain))
+    ∙ ap (λ round. decision_of round (undecided chain)) last
 
 pub seats : SeatsLaw
 seats chain block number snapshot commissions live is stands =
-    let last : (undecided chain).round ≡ Some (rounds.Open number snapshot commissions) =
-    ap (round_after (era_phase chain).state) (not_begun chain.params chain.due live.params is) ∙ stands in
-    let decides : decision_phase (undecided chain) ≡ decision_of (Some (rounds.Open number snapshot commissions)) (undecided chain) =
-    (λ i. if is i then decision_of (undecided chain).round (undecided chain) else quiet (undecided chain))
-    ∙ ap (λ round. decision_of round (undecided chain)) last in (
-      waits_calls 0 block.calls (before_calls chain) ∙ ap (λ (o : Outcome). o.state.waiting) decides,
-      seats_step chain block ∙ ap (λ (o : Outcome). o.seated) decides,
+    let phase = decides chain number snapshot commissions live is stands in (
+      waits_calls 0 block.calls (before_calls chain) ∙ ap (λ (o : Outcome). o.state.waiting) phase,
+      seats_step chain block ∙ ap (λ (o : Outcome). o.seated) phase,
     )
 
 pub held_after : HeldLaw

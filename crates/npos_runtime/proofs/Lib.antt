@@ -22,3 +22,4 @@ pub mod VerdictLemmas
 pub mod SubmitLemmas
 pub mod FateLemmas
 pub mod LawLemmas
+pub mod CrowdingLemmas

@@ -55,6 +55,7 @@ use Rattle.npos_runtime.specs.Rules.{least_bond_of, era_of, begun_era, reward_of
 use Rattle.npos_runtime.specs.Calls.{era_now, release_now, least_active, role_refusal, stop_of, done_of}
 use Rattle.npos_runtime.specs.declared.refusal.Refusal.{Refusal}
 use Rattle.block_wire.specs.declared.call.Call.{Call}
+use Rattle.npos_runtime.specs.Offers.{before_calls}
 use Rattle.npos_runtime.specs.Step.{waiting_after, era_phase, call_after, call_outcome, calls_outcome, closed, step, after_blocks}
 use Rattle.block_wire.specs.declared.block.Block.{Block}
 use Rattle.block_wire.specs.declared.genesis.Params.{Params}
@@ -453,10 +454,6 @@ same_decision chain = at (is_decision chain.params chain.due) where
       × ((if b then decision_of chain.round chain else quiet chain).state.next ≡ chain.next)
   at true = same_of chain.round chain
   at false = (refl, refl)
-
--- the chain as it is when the calls of its block begin
-abbrev pub before_calls : Chain → Chain
-before_calls chain = (decision_phase (round_phase (era_phase chain).state).state).state
 
 pub live_before : (chain : Chain) → IsLive chain → IsLive (before_calls chain)
 live_before chain live = live_decision (round_phase (era_phase chain).state).state (live_round (era_phase chain).state (live_era chain live))

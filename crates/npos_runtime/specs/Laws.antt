@@ -17,6 +17,7 @@ use Rattle.npos_runtime.specs.Live.{IsLive}
 use Rattle.npos_runtime.specs.Step.{step, after_blocks, told_by, seated_by}
 use Rattle.npos_runtime.specs.Deposits.{deposits_of}
 use Rattle.npos_runtime.specs.Fates.{fate, waiting_with, issued}
+use Rattle.npos_runtime.specs.Offers.{IsNoneCrowdedOut}
 use Rattle.npos_base.specs.declared.account.AccountId.{AccountId}
 
 -- The committee has a member for each seat, follows nominations, spends no voter beyond its stake,
@@ -70,3 +71,10 @@ FateLaw = (genesis : Genesis) (blocks : List Block) (number : ℕ)
     → fate number (told_by (genesis_chain genesis) blocks)
     + waiting_with number (after_blocks (genesis_chain genesis) blocks).queue.items
     ≡ issued number (after_blocks (genesis_chain genesis) blocks).next
+
+-- Nothing valid is crowded out for free: whatever valid was offered to a round is passed over only
+-- for a claim that is no less, or at the cost of as many deposits as the queue has places.
+abbrev pub CrowdingLaw : Type 0
+CrowdingLaw = (genesis : Genesis) (blocks : List Block) (block : Block)
+    → genesis_fault genesis ≡ None → FitsBehind genesis blocks
+    → IsNoneCrowdedOut (genesis_chain genesis) blocks block

@@ -16,4 +16,5 @@ pub mod Live
 pub mod Life
 pub mod Polling
 pub mod Fates
+pub mod Offers
 pub mod Laws

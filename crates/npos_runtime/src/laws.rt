@@ -4,7 +4,7 @@ ghost use Rattle.std.specs.Prelude.{◌≡◌, ◌+◌, ◌≤◌, ◌^◌, fals
 ghost use Rattle.block_wire.specs.declared.block.Block.{Block as ABlock};
 ghost use Rattle.stake_ledger.specs.Ledger.{IsBalanced};
 ghost use Rattle.npos_runtime.specs.Step.{after_blocks};
-ghost use Rattle.npos_runtime.specs.Laws.{SoundStepLaw, SoundLaw, SeatsLaw, HeldLaw, FateLaw};
+ghost use Rattle.npos_runtime.specs.Laws.{SoundStepLaw, SoundLaw, SeatsLaw, HeldLaw, FateLaw, CrowdingLaw};
 
 use crate::Runtime;
 use election_check::laws::{a_packed_yes_is_a_plain_yes, a_plain_yes_is_passing};
@@ -48,3 +48,13 @@ pub fn deposits_are_held()
 pub fn each_deposit_has_one_fate()
     ensures { FateLaw }
 {}
+
+/// Nothing valid is crowded out for free. A submission is offered to a round where its call is
+/// accepted, or refused for want of a better claim. Each valid one that was offered to a round that
+/// is decided either claims no more than the winner, whose claim is the score of the committee that
+/// is seated; or the fill is seated, and as many deposits are burned as the queue has places.
+pub fn nothing_valid_is_crowded_out_for_free()
+    ensures { CrowdingLaw }
+{
+    a_packed_yes_is_a_plain_yes();
+}
