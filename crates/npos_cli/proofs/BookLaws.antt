@@ -16,7 +16,7 @@ pub live_turn : (p : Spot Chain) (block : Block) (rest : List ℕ) → IsTurn np
     → IsLive (behind npos_machine p block rest).state
 live_turn p block rest turns live = live_step p.state block live (subst (λ (number : ℕ). number < 2 ^ 32) turns.numbered turns.in_range.0)
 
-live_passes : (blocks : List Block) (p q : Spot Chain) (text : List ℕ) → Passes npos_machine blocks p q text → IsLive p.state → IsLive q.state
+pub live_passes : (blocks : List Block) (p q : Spot Chain) (text : List ℕ) → Passes npos_machine blocks p q text → IsLive p.state → IsLive q.state
 live_passes [] p q text passes live = subst (λ (s : Spot Chain). IsLive s.state) (sym passes.0) live
 live_passes (block ∷ blocks) p q text passes live =
     live_passes blocks (behind npos_machine p block passes.0) q passes.2 passes.3 (live_turn p block passes.0 passes.1 live)

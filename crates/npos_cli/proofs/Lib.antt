@@ -14,3 +14,4 @@ pub mod PromiseLaws
 pub mod WholeLaws
 pub mod FaultLaws
 pub mod SeatLaws
+pub mod CrowdingLaws

@@ -18,3 +18,4 @@ pub mod Turning
 pub mod Answer
 pub mod Due
 pub mod Laws
+pub mod Crowding

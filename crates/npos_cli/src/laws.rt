@@ -5,10 +5,11 @@ ghost use Rattle.quota_fill.specs.Filled.{filled};
 ghost use Rattle.election_check.specs.Seats.{IsReordered};
 ghost use Rattle.npos_cli.specs.Chain.{npos_machine};
 ghost use Rattle.npos_cli.specs.Headline.{SeatsAreSound};
+ghost use Rattle.npos_cli.specs.Crowding.{NoneIsCrowdedOut};
 ghost use Rattle.npos_cli.specs.Laws.{OwesOnce, OwesAlways, IsReplayedOnce, IsAlwaysReplayed, IsWholeOnce, IsAlwaysWhole, BeginsWithWhole, WholeGrows, FaultsStand};
 
 use election_check::{Checker, Elected};
-use npos_runtime::laws::every_seated_committee_is_sound;
+use npos_runtime::laws::{every_seated_committee_is_sound, nothing_valid_is_crowded_out_for_free};
 use weight_book::Weights;
 
 /// Every committee that a replay seats, from a signed solution or from the fill, has a member for
@@ -18,6 +19,15 @@ pub fn replays_seat_sound_committees()
     ensures { (bytes : List ℕ) → SeatsAreSound bytes }
 {
     every_seated_committee_is_sound();
+}
+
+/// Nothing valid is crowded out for free of a round that a replay decides: it is passed over only
+/// for a claim that is no less, or at the cost of as many deposits as the queue has places.
+#[tactic(auto, using(crate::proofs::CrowdingLaws::none_crowded))]
+pub fn replays_crowd_nothing_out()
+    ensures { (bytes : List ℕ) → NoneIsCrowdedOut bytes }
+{
+    nothing_valid_is_crowded_out_for_free();
 }
 
 /// All words owe something for all bytes, and nothing else: a text and a status.

@@ -46,14 +46,15 @@ const BONDS: [Call; 6] = [
 /// A solution in which each of the first two voters elects its own target.
 const TWO_VOTES: [u8; 20] = [8, 0, 0, 4, 4, 0, 0, 0, 0, 0, 0, 0, 0, 0, 0, 0, 0, 0, 0, 0];
 
-/// What each of the accounts 1 to 5 is endowed with, the least bond, the calls of each block, and
-/// what a replay writes. There are two seats, eras of six blocks with the snapshot in the third,
+/// What each of the accounts 1 to 5 is endowed with, the least bond, the places of the queue, the
+/// calls of each block, and what a replay writes. There are two seats, eras of six blocks with the snapshot in the third,
 /// one era of bonding, and the thresholds 50 and 80.
-const STREAMS: [(u64, u64, &[&[Call]], &str); 13] = [
+const STREAMS: [(u64, u64, u64, &[&[Call]], &str); 15] = [
     // a chunk is not free before its era
     (
         100,
         10,
+        3,
         &[
             &[(1, BOND, &[60], &[]), (1, UNBOND, &[20], &[])],
             &[],
@@ -68,6 +69,7 @@ const STREAMS: [(u64, u64, &[&[Call]], &str); 13] = [
     (
         100,
         10,
+        3,
         &[
             &[(1, BOND, &[60], &[]), (1, UNBOND, &[20], &[])],
             &[],
@@ -83,6 +85,7 @@ const STREAMS: [(u64, u64, &[&[Call]], &str); 13] = [
     (
         100,
         10,
+        3,
         &[&[
             (1, BOND, &[0], &[]),
             (1, BOND, &[5], &[]),
@@ -96,6 +99,7 @@ const STREAMS: [(u64, u64, &[&[Call]], &str); 13] = [
     (
         100,
         10,
+        3,
         &[
             &[(1, BOND, &[100], &[]), (1, UNBOND, &[30], &[])],
             &[],
@@ -115,6 +119,7 @@ const STREAMS: [(u64, u64, &[&[Call]], &str); 13] = [
     (
         2,
         1,
+        3,
         &[
             &[
                 (1, BOND, &[2], &[]),
@@ -131,6 +136,7 @@ const STREAMS: [(u64, u64, &[&[Call]], &str); 13] = [
     (
         2,
         1,
+        3,
         &[
             &[
                 (1, BOND, &[2], &[]),
@@ -147,6 +153,7 @@ const STREAMS: [(u64, u64, &[&[Call]], &str); 13] = [
     (
         100,
         10,
+        3,
         &[&[
             (1, BOND, &[40], &[]),
             (1, VALIDATE, &[0], &[]),
@@ -165,6 +172,7 @@ const STREAMS: [(u64, u64, &[&[Call]], &str); 13] = [
     (
         100,
         10,
+        3,
         &[
             &[
                 (1, BOND, &[40], &[]),
@@ -187,6 +195,7 @@ const STREAMS: [(u64, u64, &[&[Call]], &str); 13] = [
     (
         100,
         10,
+        3,
         &[
             &[
                 (1, BOND, &[40], &[]),
@@ -210,6 +219,7 @@ const STREAMS: [(u64, u64, &[&[Call]], &str); 13] = [
     (
         100,
         10,
+        3,
         &[
             &BONDS,
             &[],
@@ -229,6 +239,7 @@ const STREAMS: [(u64, u64, &[&[Call]], &str); 13] = [
     (
         100,
         10,
+        3,
         &[
             &BONDS,
             &[],
@@ -243,6 +254,7 @@ const STREAMS: [(u64, u64, &[&[Call]], &str); 13] = [
     (
         100,
         10,
+        3,
         &[
             &BONDS,
             &[(4, SUBMIT, &[1, 40, 100, 5200, 0], &[])],
@@ -269,6 +281,7 @@ const STREAMS: [(u64, u64, &[&[Call]], &str); 13] = [
     (
         12,
         10,
+        3,
         &[
             &[
                 (1, BOND, &[12], &[]),
@@ -288,11 +301,69 @@ const STREAMS: [(u64, u64, &[&[Call]], &str); 13] = [
         ],
         "block 1\ncall 0 ok\ncall 1 ok\ncall 2 ok\ncall 3 ok\nblock 2\nblock 3\nsnapshot 1 targets 2 voters 2 total 22\ncall 0 refused 1\ncall 1 refused 1\ncall 2 ok\ncall 3 refused 1\nblock 4\nblock 5\nforfeit 1 12 verdict 9 10 22 244\nseat 1 fill\nmember 0000000000000000000000000000000000000000000000000000000000000001 11\nmember 0000000000000000000000000000000000000000000000000000000000000002 10\nend free 26 active 22 unlocking 0 deposits 0 minted 0 burned 12 issuance 48\n",
     ),
+    // the reasons of calls on roles in their order, with the number of each
+    (
+        100,
+        10,
+        3,
+        &[&[
+            (1, BOND, &[60], &[]),
+            (1, VALIDATE, &[0], &[]),
+            (2, EXTRA, &[5], &[]),
+            (3, NOMINATE, &[], &[1]),
+            (3, BOND, &[30], &[]),
+            (3, NOMINATE, &[], &[]),
+            (3, NOMINATE, &[], &[1; 17]),
+            (3, NOMINATE, &[], &[1, 1]),
+            (3, NOMINATE, &[], &[2]),
+            (3, NOMINATE, &[], &[3]),
+            (3, NOMINATE, &[], &[1]),
+            (3, VALIDATE, &[1_000_000_001], &[]),
+            (4, CHILL, &[], &[]),
+            (1, UNBOND, &[60], &[]),
+        ]],
+        "block 1\ncall 0 ok\ncall 1 ok\ncall 2 refused 2\ncall 3 refused 2\ncall 4 ok\ncall 5 refused 10\ncall 6 refused 11\ncall 7 refused 12\ncall 8 refused 13\ncall 9 refused 13\ncall 10 ok\ncall 11 refused 15\ncall 12 refused 16\ncall 13 refused 4\nend free 410 active 90 unlocking 0 deposits 0 minted 0 burned 0 issuance 500\n",
+    ),
+    // a queue of sixteen places, full of equal claims: an equal one is refused, a better one ejects
+    // the last, and the first is judged right behind it
+    (
+        100,
+        10,
+        16,
+        &[
+            &BONDS,
+            &[],
+            &[
+                (4, SUBMIT, &[1, 40, 100, 5200, 0], &[]),
+                (4, SUBMIT, &[1, 40, 100, 5200, 0], &[]),
+                (4, SUBMIT, &[1, 40, 100, 5200, 0], &[]),
+                (4, SUBMIT, &[1, 40, 100, 5200, 0], &[]),
+                (4, SUBMIT, &[1, 40, 100, 5200, 0], &[]),
+                (4, SUBMIT, &[1, 40, 100, 5200, 0], &[]),
+                (4, SUBMIT, &[1, 40, 100, 5200, 0], &[]),
+                (4, SUBMIT, &[1, 40, 100, 5200, 0], &[]),
+                (5, SUBMIT, &[1, 40, 100, 5200, 0], &[]),
+                (5, SUBMIT, &[1, 40, 100, 5200, 0], &[]),
+                (5, SUBMIT, &[1, 40, 100, 5200, 0], &[]),
+                (5, SUBMIT, &[1, 40, 100, 5200, 0], &[]),
+                (5, SUBMIT, &[1, 40, 100, 5200, 0], &[]),
+                (5, SUBMIT, &[1, 40, 100, 5200, 0], &[]),
+                (5, SUBMIT, &[1, 40, 100, 5200, 0], &[]),
+                (5, SUBMIT, &[1, 40, 100, 5200, 0], &[]),
+                (3, SUBMIT, &[1, 40, 100, 5200, 0], &[]),
+                (3, SUBMIT, &[1, 41, 100, 5200, 0], &[]),
+                (3, SUBMIT, &[1, 40, 100, 5200, 0], &[]),
+            ],
+            &[],
+            &[],
+        ],
+        "block 1\ncall 0 ok\ncall 1 ok\ncall 2 ok\ncall 3 ok\ncall 4 ok\ncall 5 ok\nblock 2\nblock 3\nsnapshot 1 targets 3 voters 3 total 130\ncall 0 ok\ncall 1 ok\ncall 2 ok\ncall 3 ok\ncall 4 ok\ncall 5 ok\ncall 6 ok\ncall 7 ok\ncall 8 ok\ncall 9 ok\ncall 10 ok\ncall 11 ok\ncall 12 ok\ncall 13 ok\ncall 14 ok\ncall 15 ok\ncall 16 refused 20\ncall 17 ok\nreturn 16 12\ncall 18 refused 20\nblock 4\nblock 5\nforfeit 17 12 verdict 9 40 100 5200\nreturn 1 12\nreward 1 5\nreturn 2 12\nreturn 3 12\nreturn 4 12\nreturn 5 12\nreturn 6 12\nreturn 7 12\nreturn 8 12\nreturn 9 12\nreturn 10 12\nreturn 11 12\nreturn 12 12\nreturn 13 12\nreturn 14 12\nreturn 15 12\nseat 1 signed 1\nmember 0000000000000000000000000000000000000000000000000000000000000001 60\nmember 0000000000000000000000000000000000000000000000000000000000000002 40\nend free 363 active 130 unlocking 0 deposits 0 minted 5 burned 12 issuance 493\n",
+    ),
 ];
 
-/// What stands behind the least bond in the genesis: the thresholds 50 and 80, a queue of 3,
-/// solutions of 1,000 bytes, a deposit of 12, a reward of 5, and 1,000 an era.
-const REST: [u64; 8] = [2, 50, 80, 3, 1000, 12, 5, 1000];
+/// What stands behind the places of the queue in the genesis: solutions of 1,000 bytes, a deposit of
+/// 12, a reward of 5, and 1,000 an era.
+const REST: [u64; 4] = [1000, 12, 5, 1000];
 
 fn put_account(pen: &mut Pen, number: u64) -> Result<(), NoMemory> {
     pen.put_account(AccountId {
@@ -308,7 +379,12 @@ fn put_numbers(pen: &mut Pen, numbers: &[u64]) -> Result<(), NoMemory> {
     Ok(())
 }
 
-fn put_genesis(pen: &mut Pen, endowment: u64, least_bond: u64) -> Result<(), NoMemory> {
+fn put_genesis(
+    pen: &mut Pen,
+    endowment: u64,
+    least_bond: u64,
+    places: u64,
+) -> Result<(), NoMemory> {
     pen.put_u8(1)?;
     pen.put_compact(5)?;
     for number in 1..6u64 {
@@ -316,7 +392,7 @@ fn put_genesis(pen: &mut Pen, endowment: u64, least_bond: u64) -> Result<(), NoM
         pen.put_compact(endowment)?;
     }
     put_account(pen, 9)?;
-    put_numbers(pen, &[2, 6, 2, 2, 1, least_bond])?;
+    put_numbers(pen, &[2, 6, 2, 2, 1, least_bond, 2, 50, 80, places])?;
     put_numbers(pen, &REST)
 }
 
@@ -364,10 +440,11 @@ fn stream_of(
     alloc: Global,
     endowment: u64,
     least_bond: u64,
+    places: u64,
     blocks: &[&[Call]],
 ) -> Result<List<u8>, NoMemory> {
     let mut pen = Pen::new(alloc);
-    put_genesis(&mut pen, endowment, least_bond)?;
+    put_genesis(&mut pen, endowment, least_bond, places)?;
     for (place, calls) in blocks.iter().enumerate() {
         put_block(&mut pen, place as u64 + 1, calls)?;
     }
@@ -389,8 +466,8 @@ fn replay(alloc: Global, bytes: List<u8>) -> Result<(Vec<u8>, u8), NoMemory> {
 
 #[test]
 fn worked_streams_write_their_texts(rt: HostRuntime) -> Result<(), Fail> {
-    for (endowment, least_bond, blocks, text) in STREAMS {
-        let bytes = stream_of(rt.alloc(), endowment, least_bond, blocks)?;
+    for (endowment, least_bond, places, blocks, text) in STREAMS {
+        let bytes = stream_of(rt.alloc(), endowment, least_bond, places, blocks)?;
         let (written, status) = replay(rt.alloc(), bytes)?;
         assert_eq!(rt; written.as_slice(), text.as_bytes());
         assert_eq!(rt; status, 0);

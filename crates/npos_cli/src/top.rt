@@ -9,6 +9,7 @@ ghost use Rattle.npos_cli.specs.Words.{job_of};
 ghost use Rattle.npos_cli.specs.Report.{ReadsInput, ReadsBundle, IsAnswer, IsJudged, replay_status};
 ghost use Rattle.npos_cli.specs.Books.{BooksBalance};
 ghost use Rattle.npos_cli.specs.Headline.{SeatsAreSound};
+ghost use Rattle.npos_cli.specs.Crowding.{NoneIsCrowdedOut};
 ghost use Rattle.npos_cli.specs.Verdicts.{most_bundle};
 ghost use Rattle.npos_cli.specs.Tasks.{IsSound};
 ghost use Rattle.npos_cli.specs.declared.status.Status.TheVariants as statuses;
@@ -20,7 +21,7 @@ use crate::answers::Answer;
 use crate::edges::deliver;
 use crate::input::read_up_to;
 use crate::job::{Job, Task, job_of};
-use crate::laws::replays_seat_sound_committees;
+use crate::laws::{replays_crowd_nothing_out, replays_seat_sound_committees};
 use crate::reading::MOST_BUNDLE;
 use crate::replaying::replay;
 use crate::tasks::answer_bytes;
@@ -140,7 +141,7 @@ fn prepare<S: Source>(alloc: Global, words: &[String], source: &mut S) -> Result
 /// Does all that the program does: finds the job that the words ask for, reads its input from the
 /// source, writes to the sink what is due, flushes it, and says how it ended. `words[0]` is the
 /// program's name and is not looked at.
-#[tactic(auto, using(crate::proofs::BookLaws::books_told, crate::proofs::SeatLaws::told_sound, crate::proofs::RunLaws::front_delivered, crate::proofs::RunLaws::front_found))]
+#[tactic(auto, using(crate::proofs::BookLaws::books_told, crate::proofs::SeatLaws::told_sound, crate::proofs::CrowdingLaws::told_crowded, crate::proofs::RunLaws::front_delivered, crate::proofs::RunLaws::front_found))]
 pub fn run<S: Source, K: Sink>(
     alloc: Global,
     words: &[String],
@@ -170,6 +171,7 @@ pub fn run<S: Source, K: Sink>(
         → IsDrained (S.left source.old) (S.left source.new) }
     ensures books { IfSome (S.left source.old) BooksBalance }
     ensures committees { IfSome (S.left source.old) SeatsAreSound }
+    ensures crowding { IfSome (S.left source.old) NoneIsCrowdedOut }
     ensures few { ReadsBundle (job_of (map string_bytes words.now)) → IsAnswer result
         → TakesAtMost (most_bundle + 1) (S.left source.old) (S.left source.new) }
     ensures accepted { (task : task_kind)
@@ -178,7 +180,9 @@ pub fn run<S: Source, K: Sink>(
     ensures passes { job_of (map string_bytes words.now)
         ≡ Some (jobs.OnBundle (tasks.Mine miners.Fill)) → result ≢ Status.No }
 {
-    replays_seat_sound_committees(); // a law, which does nothing
+    // two laws, which do nothing
+    replays_seat_sound_committees();
+    replays_crowd_nothing_out();
     let due = match prepare(alloc, words, source) {
         Ok(due) => due,
         Err(status) => return status,

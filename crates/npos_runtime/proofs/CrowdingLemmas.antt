@@ -53,7 +53,7 @@ use Rattle.npos_runtime.specs.Genesis.{params_fault, phases_fit, numbers_fault, 
 use Rattle.npos_runtime.specs.Live.{IsLive, AreSound}
 use Rattle.npos_runtime.specs.Offers.{is_offered, offer_of, offers_in, offers_by, before_calls, LosesTo, FillsAfter, IsNoneCrowdedOut}
 use Rattle.npos_runtime.specs.Laws.{CrowdingLaw as RoundsLaw}
-use Rattle.npos_runtime.proofs.DecisionLemmas.{winner_holds}
+use Rattle.npos_runtime.proofs.DecisionLemmas.{winner_holds, fails_first, holds_first}
 use Rattle.npos_runtime.proofs.LiveLemmas.{live_before, due_before, live_call, live_step, live_blocks, due_step, due_calls}
 use Rattle.npos_runtime.proofs.BeginLemmas.{live_begun}
 use Rattle.npos_runtime.proofs.LawLemmas.{undecided, phases_sound, decides}
@@ -157,13 +157,13 @@ module _ (params : Params) (sound : params_fault params ≡ None) (number : ℕ)
       → IsTimed (first_place + 1) (end_place + 1) due round queue offers → place due ≡ first_place → queue ≡ empty_queue params.queue
   empty_before due None queue offers timed e = timed
   empty_before due (Some (rounds.Void round)) queue offers timed e = timed
-  empty_before due (Some (rounds.Open round snapshot commissions)) queue offers timed e = absurd (omega (arith, timed.1.0, e))
+  empty_before due (Some (rounds.Open round snapshot commissions)) queue offers timed e = absurd (omega (arith, timed.1, e))
 
   wider : (due : ℕ) (round : Option Round) (queue : Ranking) (offers : List Submission)
       → IsTimed (first_place + 1) (end_place + 1) due round queue offers → IsTimed first_place (end_place + 1) due round queue offers
   wider due None queue offers timed = timed
   wider due (Some (rounds.Void round)) queue offers timed = timed
-  wider due (Some (rounds.Open round snapshot commissions)) queue offers timed = (timed.0, omega (arith, timed.1.0), timed.1.1.0, timed.1.1.1)
+  wider due (Some (rounds.Open round snapshot commissions)) queue offers timed = (timed.0, omega (arith, timed.1), timed.2, timed.3)
 
   -- the round begins
   begins : (chain : Chain) (offers : List Submission) → IsAt (first_place + 1) (end_place + 1) chain offers → IsAt first_place (end_place + 1) (undecided chain) offers
@@ -221,7 +221,7 @@ module _ (params : Params) (sound : params_fault params ≡ None) (number : ℕ)
         before None timed e = timed
         before (Some (rounds.Void round)) timed e = timed
         before (Some (rounds.Open round snapshot commissions)) timed e =
-            (timed.0, timed.1.0, (let below = timed.1.1.0 in grind (arith, nat_tests)), timed.1.1.1)
+            (timed.0, timed.1, (let below = timed.2 in grind (arith, nat_tests)), timed.3)
 
         at : (b : Bool) → (place chain.due == end_place) ≡ b → IsAt first_place end_place (if b then decision_of chain.round chain else quiet chain).state offers
         at true e = over chain.round refl
@@ -290,12 +290,12 @@ module _ (params : Params) (sound : params_fault params ≡ None) (number : ℕ)
     goes all holds None o timed = absurd (true≢false (sym o))
     goes all holds (Some (rounds.Void n)) o timed = absurd (true≢false (sym o))
     goes all holds (Some (rounds.Open n snapshot commissions)) o timed =
-        (timed.0, timed.1.0, timed.1.1.0, λ e. holds (now ∙ (sym timed.0 ∙ e)) (timed.1.1.1 e))
+        (timed.0, timed.1, timed.2, λ e. holds (now ∙ (sym timed.0 ∙ e)) (timed.3 e))
 
     begun : (r : Option Round) → is_open r ≡ true → IsTimed first_place end_place chain.due r chain.queue offers → first_place ≤ place chain.due
     begun None o timed = absurd (true≢false (sym o))
     begun (Some (rounds.Void n)) o timed = absurd (true≢false (sym o))
-    begun (Some (rounds.Open n snapshot commissions)) o timed = timed.1.0
+    begun (Some (rounds.Open n snapshot commissions)) o timed = timed.1
 
     whole : (all : List Submission) → ((round ≡ number) → Holds chain.queue offers → Holds new.queue all)
         → (era chain.due + 1 < number → all ≡ []) → IsNow new all
@@ -352,11 +352,11 @@ module _ (params : Params) (sound : params_fault params ≡ None) (number : ℕ)
               → IsNow (done_of chain call.who call.kind) (offers ++ offer_if (round == number) true item)
           taken form =
               subst (λ (kind : CallKind). IsNow (done_of chain call.who kind) (offers ++ offer_if (round == number) true item)) (sym is)
-              (joined chain (submitted chain item) offers item round h form.0 form.1.0 refl refl refl refl)
+              (joined chain (submitted chain item) offers item round h form.0 form.1 refl refl refl refl)
     at (Some refusals.NotBetter) e =
         let form = formed chain round bytes (offer_refusal chain item) (ap is_offered e) in
-        let full = worse (nat_lt (row_at chain.book item.who).free item.deposit) (is_err (offer_answer chain.queue item)) (sym form.1.1 ∙ e) in
-        joined chain chain offers item round h form.0 form.1.0 refl refl (sym (queue_refused chain.queue item live.queue full)) refl
+        let full = worse (nat_lt (row_at chain.book item.who).free item.deposit) (is_err (offer_answer chain.queue item)) (sym form.2 ∙ e) in
+        joined chain chain offers item round h form.0 form.1 refl refl (sym (queue_refused chain.queue item live.queue full)) refl
     at (Some (refusals.Ledger refusal)) e = out (refusals.Ledger refusal) refl
     at (Some (refusals.List refusal)) e = out (refusals.List refusal) refl
     at (Some refusals.WrongPhase) e = out refusals.WrongPhase refl
@@ -442,8 +442,8 @@ module _ (params : Params) (sound : params_fault params ≡ None) (number : ℕ)
       by : ((place (chain.due + 1) ≡ place chain.due + 1) × (era (chain.due + 1) ≡ era chain.due))
           ⊎ ((place chain.due + 1 ≡ params.era_blocks) × (era (chain.due + 1) ≡ era chain.due + 1))
           → (round ≡ era (chain.due + 1) + 1) × (first_place + 1 ≤ place (chain.due + 1)) × (place (chain.due + 1) < end_place + 1) × (round ≡ number → Holds chain.queue offers)
-      by (inl (on, in_era)) = (omega (arith, t.0, in_era), omega (arith, t.1.0, on), omega (arith, t.1.1.0, on), t.1.1.1)
-      by (inr (over, past)) = absurd (omega (arith, over, t.1.1.0, within))
+      by (inl (on, in_era)) = (omega (arith, t.0, in_era), omega (arith, t.1, on), omega (arith, t.2, on), t.3)
+      by (inr (over, past)) = absurd (omega (arith, over, t.2, within))
 
     later : era (chain.due + 1) + 1 < number → offers ≡ []
     later below = by next where
@@ -485,29 +485,29 @@ module _ (params : Params) (sound : params_fault params ≡ None) (number : ℕ)
   round_holds : (chain : Chain) (offers : List Submission) (snapshot : Snapshot) (commissions : List ℕ) → IsBetween chain offers
       → chain.round ≡ Some (rounds.Open number snapshot commissions) → Holds chain.queue offers
   round_holds chain offers snapshot commissions h is =
-      (subst (λ (r : Option Round). IsTimed (first_place + 1) (end_place + 1) chain.due r chain.queue offers) is h.timed).1.1.1 refl
+      (subst (λ (r : Option Round). IsTimed (first_place + 1) (end_place + 1) chain.due r chain.queue offers) is h.timed).3 refl
 
 -- ## What the decision tells
 
-valid : Snapshot → Submission → Bool
+abbrev valid : Snapshot → Submission → Bool
 valid snapshot item = is_yes (judged snapshot item)
 
 -- whether somebody won
-found_others : (snapshot : Snapshot) (items : List Submission) (found : Option Submission) → find (λ item. is_yes (judged snapshot item)) items ≡ found
+found_others : (snapshot : Snapshot) (items : List Submission) (found : Option Submission) → find (valid snapshot) items ≡ found
     → MatchOption found (others snapshot items ≡ []) (λ winner. (rest : List Submission) × (others snapshot items ≡ winner ∷ rest))
 found_others snapshot [] found is = subst (λ (f : Option Submission). MatchOption f (others snapshot [] ≡ []) (λ winner. (rest : List Submission) × (others snapshot [] ≡ winner ∷ rest))) is refl
 found_others snapshot (item ∷ items) found is = at (is_yes (judged snapshot item)) refl (found_others snapshot items) is where
   at : (b : Bool) → is_yes (judged snapshot item) ≡ b
-      → ((f : Option Submission) → find (λ item. is_yes (judged snapshot item)) items ≡ f
+      → ((f : Option Submission) → find (valid snapshot) items ≡ f
       → MatchOption f (others snapshot items ≡ []) (λ winner. (rest : List Submission) × (others snapshot items ≡ winner ∷ rest)))
-      → cond b (Some item) (find (λ item. is_yes (judged snapshot item)) items) ≡ found
+      → cond b (Some item) (find (valid snapshot) items) ≡ found
       → MatchOption found (others snapshot (item ∷ items) ≡ []) (λ winner. (rest : List Submission) × (others snapshot (item ∷ items) ≡ winner ∷ rest))
   at true e more here =
-      let first : others snapshot (item ∷ items) ≡ item ∷ items = rw e refl in
+      let first : others snapshot (item ∷ items) ≡ item ∷ items = (holds_first snapshot item items (ap not e)).1 in
       subst (λ (f : Option Submission). MatchOption f (others snapshot (item ∷ items) ≡ []) (λ winner. (rest : List Submission) × (others snapshot (item ∷ items) ≡ winner ∷ rest)))
       here (items, first)
   at false e more here =
-      let later : others snapshot (item ∷ items) ≡ others snapshot items = rw e refl in
+      let later : others snapshot (item ∷ items) ≡ others snapshot items = (fails_first snapshot item items (ap not e)).1 in
       subst (λ (xs : List Submission). MatchOption found (xs ≡ []) (λ winner. (rest : List Submission) × (xs ≡ winner ∷ rest))) (sym later) (more found here)
 
 -- the lines of the decision stand among those of its block
@@ -527,23 +527,23 @@ all_mapped f (x ∷ xs) =
 
 module _ (packed : PackedYesIsAccepting) (chain : Chain) (block : Block) (round : ℕ) (snapshot : Snapshot) (commissions : List ℕ) (live : IsLive chain)
     (is : is_decision chain.params chain.due ≡ true) (stands : chain.round ≡ Some (rounds.Open round snapshot commissions)) where
-  items : List Submission
+  abbrev items : List Submission
   items = chain.queue.items
 
-  told : List Line
+  abbrev told : List Line
   told = (step chain block).lines
 
   parted : losers snapshot items ++ others snapshot items ≡ items
   parted = take-append-drop (prefix_len (fails snapshot) items) items
 
   -- the lines of this decision
-  book : Ledger
+  abbrev book : Ledger
   book = all_burned (losers snapshot items) chain.book
 
-  lost_lines : List Line
+  abbrev lost_lines : List Line
   lost_lines = map (forfeit_line snapshot) (losers snapshot items)
 
-  rest_lines : List Line
+  abbrev rest_lines : List Line
   rest_lines = paid_lines (reward_of chain.params) (others snapshot items) book ++ seat_line round (others snapshot items) ∷ []
 
   seen : (line : Line) → Contains (lost_lines ++ rest_lines) line → Contains told line
@@ -572,23 +572,23 @@ module _ (packed : PackedYesIsAccepting) (chain : Chain) (block : Block) (round 
   loses : (item winner : Submission) (rest : List Submission) → others snapshot items ≡ winner ∷ rest → outranks item winner ≡ false
       → LosesTo round snapshot item items told winner
   loses item winner rest won worse =
-      let yes = packed snapshot winner.score winner.bytes (winner_holds snapshot items winner rest won) in
+      let won_by = packed snapshot winner.score winner.bytes (winner_holds snapshot items winner rest won) in
       record {
         waited = subst (λ (xs : List Submission). Contains xs winner) (ap (λ xs. losers snapshot items ++ xs) (sym won) ∙ parted)
             (Contains-append_right (losers snapshot items) (winner ∷ rest) winner (0, omega arith, refl));
         seated = subst (λ (xs : List Submission). Contains told (seat_line round xs)) won seat_seen;
         no_better = worse;
-        earned = ap score_of yes.given_are ∙ yes.claimed;
+        earned = ap score_of won_by.given_are ∙ won_by.claimed;
       }
 
   answered : (item : Submission) (places : ℕ) (offers : List Submission) → chain.queue.places ≡ places → chain.queue ≡ after_offers (empty_queue places) offers
       → Contains offers item → judged snapshot item ≡ verdicts.Yes
       → ((winner : Submission) × LosesTo round snapshot item items told winner) ⊎ FillsAfter round snapshot chain.queue told
-  answered item places offers many holds offered yes =
+  answered item places offers many holds among holds_up =
       at (find (valid snapshot) items) refl
       (subst (λ (q : Ranking). MatchOption (find (valid snapshot) q.items) ((length q.items ≡ places) × All (λ other. valid snapshot other ≡ false) q.items)
       (λ winner. outranks item winner ≡ false)) (sym holds)
-      (crowding (valid snapshot) places offers item offered (ap is_yes yes)))
+      (crowding (valid snapshot) places offers item among (ap is_yes holds_up)))
       (found_others snapshot items (find (valid snapshot) items) refl) where
         at : (found : Option Submission) → find (valid snapshot) items ≡ found
             → MatchOption found ((length items ≡ places) × All (λ other. valid snapshot other ≡ false) items) (λ winner. outranks item winner ≡ false)
@@ -613,7 +613,7 @@ params_done chain who kinds.Chill = refl
 params_done chain who (kinds.Rebag whom) = refl
 params_done chain who (kinds.PutInFront lighter) = refl
 params_done chain who (kinds.Submit round claim bytes) = refl
-params_done chain who (kinds.Points items) = refl
+params_done chain who (kinds.Points given) = refl
 params_done chain who (kinds.Payout era validator) = refl
 params_done chain who (kinds.Offence era validator fraction) = refl
 
@@ -644,10 +644,10 @@ params_blocks chain (block ∷ more) =
     ∙ (params_calls 0 block.calls (before_calls chain) ∙ params_decision (undecided chain))
 
 pub none_crowded_out : PackedYesIsAccepting → RoundsLaw
-none_crowded_out packed (geneses.Plain endowments) blocks block sound fit round snapshot commissions item is stands offered yes =
+none_crowded_out packed (geneses.Plain endowments) blocks block sound fit round snapshot commissions item is stands among holds_up =
     let none = params_blocks (genesis_chain (geneses.Plain endowments)) blocks in
     absurd (true≢false (sym is ∙ ap (λ (ps : Option Params). is_decision ps (after_blocks (genesis_chain (geneses.Plain endowments)) blocks).due) none))
-none_crowded_out packed (geneses.Full endowments params) blocks block sound fit round snapshot commissions item is stands offered yes =
+none_crowded_out packed (geneses.Full endowments params) blocks block sound fit round snapshot commissions item is stands among holds_up =
     let first : Chain = genesis_chain (geneses.Full endowments params) in
     let live_first : IsLive first = live_begun (geneses.Full endowments params) sound in
     let between = behind params live_first.params round first blocks [] (record {
@@ -659,4 +659,4 @@ none_crowded_out packed (geneses.Full endowments params) blocks block sound fit 
     }) live_first fit in
     answered packed (after_blocks first blocks) block round snapshot commissions (live_blocks first blocks live_first fit) is stands
     item params.queue (offers_by round first blocks) between.places
-    (round_holds params live_first.params round (after_blocks first blocks) (offers_by round first blocks) snapshot commissions between stands) offered yes
+    (round_holds params live_first.params round (after_blocks first blocks) (offers_by round first blocks) snapshot commissions between stands) among holds_up
