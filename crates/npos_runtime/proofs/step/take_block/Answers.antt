@@ -1,10 +1,11 @@
 use Rattle.std.proofs.Common.{◌≡◌, ◌+◌, ◌-◌, ◌*◌, ◌≤◌, ◌<◌, ◌^◌, ℕ, length, arith, ap, sym, subst, ◌∙◌}
+use Rattle.npos_runtime.specs.Offers.{before_calls}
 use Rattle.npos_runtime.specs.declared.chain.Chain.{Chain}
 use Rattle.npos_runtime.specs.Step.{era_phase}
 use Rattle.npos_runtime.specs.Rounds.{round_phase}
 use Rattle.npos_runtime.specs.Decision.{decision_phase}
 use Rattle.npos_runtime.specs.Live.{IsLive, IsReady, most_calls}
-use Rattle.npos_runtime.proofs.LiveLemmas.{live_era, live_round, live_before, live_closed, before_calls, due_before, next_before, due_calls, next_calls}
+use Rattle.npos_runtime.proofs.LiveLemmas.{live_era, live_round, live_before, live_closed, due_before, next_before, due_calls, next_calls}
 use Rattle.npos_runtime.proofs.step.take_block.Goals as goal
 
 -- the chain when its calls begin
