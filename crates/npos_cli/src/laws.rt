@@ -23,7 +23,6 @@ pub fn replays_seat_sound_committees()
 
 /// Nothing valid is crowded out for free of a round that a replay decides: it is passed over only
 /// for a claim that is no less, or at the cost of as many deposits as the queue has places.
-#[tactic(auto, using(crate::proofs::CrowdingLaws::none_crowded))]
 pub fn replays_crowd_nothing_out()
     ensures { (bytes : List ℕ) → NoneIsCrowdedOut bytes }
 {
