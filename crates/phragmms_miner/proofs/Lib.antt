@@ -2,3 +2,5 @@ pub mod NarrowLemmas
 pub mod PassLemmas
 pub mod RunLemmas
 pub mod ScoreLemmas
+pub mod SameLemmas
+pub mod OneLemmas
