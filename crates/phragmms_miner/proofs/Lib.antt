@@ -4,3 +4,4 @@ pub mod RunLemmas
 pub mod ScoreLemmas
 pub mod SameLemmas
 pub mod OneLemmas
+pub mod AnyLemmas

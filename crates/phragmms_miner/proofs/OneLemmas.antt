@@ -207,19 +207,19 @@ seated_same snapshot rounds picks others (suc seat) edges result few less (befor
 
 -- ## Lists of edges
 
-given-cons : (edge : Edge) (edges : List Edge) (voter target : ℕ) → given (edge ∷ edges) voter target ≡ pair_weight voter target edge + given edges voter target
+pub given-cons : (edge : Edge) (edges : List Edge) (voter target : ℕ) → given (edge ∷ edges) voter target ≡ pair_weight voter target edge + given edges voter target
 given-cons edge edges voter target =
     given_weight (edge ∷ edges) voter target
     ∙ (sum_by-cons (pair_weight voter target) edge edges ∙ ap (λ n. pair_weight voter target edge + n) (sym (given_weight edges voter target)))
 
-given_none : (edges : List Edge) (voter target : ℕ) → All (IsApart voter target) edges → given edges voter target ≡ 0
+pub given_none : (edges : List Edge) (voter target : ℕ) → All (IsApart voter target) edges → given edges voter target ≡ 0
 given_none edges voter target all = given_weight edges voter target ∙ apart_none edges voter target all
 
 before_apart : (one other : Edge) → IsBefore one other → IsApart one.voter one.target other
 before_apart one other (inl v) = inl (λ same. omega (arith, v, same))
 before_apart one other (inr t) = inr (λ same. omega (arith, t.1, same))
 
-then_before : (a b c : Edge) → IsBefore a b → IsBefore b c → IsBefore a c
+pub then_before : (a b c : Edge) → IsBefore a b → IsBefore b c → IsBefore a c
 then_before a b c (inl v) (inl w) = inl (omega (arith, v, w))
 then_before a b c (inl v) (inr t) = inl (omega (arith, v, t.0))
 then_before a b c (inr s) (inl w) = inl (omega (arith, s.0, w))

@@ -10,5 +10,5 @@ OneRun = (snapshot : Snapshot) (rounds : ℕ) (one other : Weights) → IsRun sn
 
 -- it has one whose weights are feasible, where there are enough targets
 abbrev pub AnyRun : Type 0
-AnyRun = (snapshot : Snapshot) (rounds : ℕ) → snapshot.seats ≤ length snapshot.targets
+AnyRun = (snapshot : Snapshot) (rounds : ℕ) → 1 ≤ rounds → snapshot.seats ≤ length snapshot.targets
     → (weights : Weights) × IsRun snapshot rounds weights × IsFeasible snapshot weights
