@@ -8,3 +8,5 @@ pub mod EdgeLemmas
 pub mod SpendLemmas
 pub mod SoundLemmas
 pub mod TakingLemmas
+pub mod KeptLemmas
+pub mod PackingLemmas

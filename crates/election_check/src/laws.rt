@@ -1,5 +1,5 @@
 //! What verdicts say. Each law is the contract of a function that does nothing.
-ghost use Rattle.election_check.specs.Laws.{PlainYesIsPassing, PackedYesIsAccepting};
+ghost use Rattle.election_check.specs.Laws.{PlainYesIsPassing, PackedYesIsAccepting, FeasibleIsPackable, PackedExpands};
 
 /// The verdict on plain weights is Yes exactly where they are feasible and no target outside
 /// outweighs.
@@ -11,4 +11,17 @@ pub fn a_plain_yes_is_passing()
 /// weights that it expands to is Yes, and their score is the claimed one.
 pub fn a_packed_yes_is_a_plain_yes()
     ensures { PackedYesIsAccepting }
+{}
+
+/// Feasible weights can be packed, where each edge gives something: each voter nominates at most 16
+/// targets, and has at most one edge to each.
+pub fn feasible_weights_are_packable()
+    ensures { FeasibleIsPackable }
+{}
+
+/// Where feasible weights pack without losing a member, the solution expands to a Yes: its entries
+/// have no fault, and its targets fill the seats. Whether some target outside outweighs is another
+/// question, since the packed amounts are not those that were packed.
+pub fn packed_weights_expand()
+    ensures { PackedExpands }
 {}

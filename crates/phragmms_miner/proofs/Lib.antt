@@ -2,3 +2,6 @@ pub mod NarrowLemmas
 pub mod PassLemmas
 pub mod RunLemmas
 pub mod ScoreLemmas
+pub mod SameLemmas
+pub mod OneLemmas
+pub mod AnyLemmas
