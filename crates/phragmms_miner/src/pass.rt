@@ -45,6 +45,9 @@ fn pay(price: u64, amount: u64, support: u128) -> u64
     requires { amount ≤ support }
     ensures { result ≡ amount * min price support / support }
 {
+    if amount == 0 {
+        return 0;
+    }
     if support <= u128::from(price) {
         return amount;
     }
@@ -52,7 +55,7 @@ fn pay(price: u64, amount: u64, support: u128) -> u64
 }
 
 /// By target, what its nominators have left.
-fn fill_votes(snapshot: &Snapshot, slacks: &[u64], prescores: &mut [u64])
+pub(crate) fn fill_votes(snapshot: &Snapshot, slacks: &[u64], prescores: &mut [u64])
     requires voters { length slacks.now ≡ length snapshot.now.voters }
     requires within { (voter : ℕ)
         → slice_index_or slacks.now voter 0 ≤ stake_of snapshot.now voter }
