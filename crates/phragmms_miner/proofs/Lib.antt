@@ -1,4 +1,5 @@
 pub mod NarrowLemmas
 pub mod PassLemmas
+pub mod RateLemmas
 pub mod RunLemmas
 pub mod ScoreLemmas

@@ -14,8 +14,9 @@ pub record AreRising (targets : ℕ) (outside : List ℕ) : Type 0 where
   pub rising : AllPairs (λ one other. one < other) outside
   pub in_range : All (λ target. target < targets) outside
 
--- by voter, and thrice by target
-pub record AreTables (snapshot : Snapshot) (left prescores outside approvals : List ℕ) : Type 0 where
+-- by voter, and four times by target
+pub record AreTables (snapshot : Snapshot) (rates left prescores outside approvals : List ℕ) : Type 0 where
+  pub rated : length rates ≡ length snapshot.targets
   pub voters : length left ≡ length snapshot.voters
   pub targets : length prescores ≡ length snapshot.targets
   pub places : length outside ≡ length snapshot.targets

@@ -18,6 +18,8 @@ use weight_book::Weights;
 /// What searches look up.
 #[derive(Drop)]
 struct Tables {
+    /// By target, what part of its support is paid.
+    rates: Vec<u64>,
     /// By voter, what it has left.
     left: Vec<u64>,
     /// By target, what its nominators have left.
@@ -53,15 +55,17 @@ impl Tables {
     /// Tables for the searches of this snapshot.
     fn new(alloc: Global, snapshot: &Snapshot) -> Result<Tables, NoMemory>
         ensures { IfOk result (λ tables. AreTables snapshot.now
-            tables.left.items tables.prescores.items tables.outside.items
+            tables.rates.items tables.left.items tables.prescores.items tables.outside.items
             tables.approvals.items) }
     {
+        let rates = vec![in alloc; 0; snapshot.target_count()]?;
         let left = vec![in alloc; 0; snapshot.voter_count()]?;
         let prescores = vec![in alloc; 0; snapshot.target_count()]?;
         let outside = vec![in alloc; 0; snapshot.target_count()]?;
         let mut approvals = vec![in alloc; 0; snapshot.target_count()]?;
         fill_votes(snapshot, snapshot.stakes(), &mut approvals);
         Ok(Tables {
+            rates,
             left,
             prescores,
             outside,
@@ -84,7 +88,7 @@ fn seat_one(
     requires within { (voter : ℕ) → voter < length snapshot.now.voters
         → spent backing.old.weights.edges voter ≤ stake_of snapshot.now voter }
     requires tables { AreTables snapshot.now
-        tables.old.left.items tables.old.prescores.items tables.old.outside.items
+        tables.old.rates.items tables.old.left.items tables.old.prescores.items tables.old.outside.items
         tables.old.approvals.items }
     ensures snapshot { backing.new.snapshot ≡ snapshot.now }
     ensures next { OnOk result
@@ -92,7 +96,7 @@ fn seat_one(
     ensures within { OnOk result ((voter : ℕ) → voter < length snapshot.now.voters
         → spent backing.new.weights.edges voter ≤ stake_of snapshot.now voter) }
     ensures tables { AreTables snapshot.now
-        tables.new.left.items tables.new.prescores.items tables.new.outside.items
+        tables.new.rates.items tables.new.left.items tables.new.prescores.items tables.new.outside.items
         tables.new.approvals.items }
 {
     let pick = pick_next(
@@ -100,6 +104,7 @@ fn seat_one(
         backing,
         &tables.approvals,
         &mut tables.outside,
+        &mut tables.rates,
         &mut tables.left,
         &mut tables.prescores,
         &mut tables.hint,
@@ -115,6 +120,7 @@ fn pick_next(
     backing: &Backing<'_>,
     approvals: &[u64],
     outside: &mut [u16],
+    rates: &mut [u64],
     left: &mut [u64],
     prescores: &mut [u64],
     hint: &mut u64,
@@ -123,7 +129,8 @@ fn pick_next(
     requires seats { length backing.now.weights.committee < length snapshot.now.targets }
     requires within { (voter : ℕ) → voter < length snapshot.now.voters
         → spent backing.now.weights.edges voter ≤ stake_of snapshot.now voter }
-    requires tables { AreTables snapshot.now left.old prescores.old outside.old approvals.now }
+    requires tables { AreTables snapshot.now rates.old left.old prescores.old outside.old
+        approvals.now }
     ensures best { IsBest snapshot.now backing.now.weights.committee backing.now.weights.edges
         result }
     ensures follows { Follows snapshot.now backing.now.weights }
@@ -136,6 +143,7 @@ fn pick_next(
         backing.supports(),
         approvals,
         &mut outside[..count],
+        rates,
         left,
         prescores,
         hint,

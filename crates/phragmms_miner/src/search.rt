@@ -21,11 +21,13 @@ pub(crate) fn best_outside(
     supports: &[u128],
     approvals: &[u64],
     outside: &mut [u16],
+    rates: &mut [u64],
     left: &mut [u64],
     prescores: &mut [u64],
     hint: &mut u64,
 ) -> u16
     requires spare { AreSpare snapshot.now edges.now supports.now }
+    requires rates { length rates.old ≡ length supports.now }
     requires stakes { length left.old ≡ length snapshot.now.voters }
     requires targets { length prescores.old ≡ length snapshot.now.targets }
     requires approvals { length approvals.now ≡ length snapshot.now.targets }
@@ -40,7 +42,7 @@ pub(crate) fn best_outside(
     let mut pointed = 0;
     while low < top && count > 0 {
         let test = next_test(low, top, *hint, &mut pointed);
-        fill_prescores(test, snapshot, edges, supports, left, prescores);
+        fill_prescores(test, snapshot, edges, supports, rates, left, prescores);
         *hint = pointed_price(test, &outside[..count], approvals, prescores);
         match lowest_reaching(test, &outside[..count], prescores) {
             Some(target) => {
