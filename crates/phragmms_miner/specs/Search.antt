@@ -14,8 +14,10 @@ pub record AreRising (targets : ℕ) (outside : List ℕ) : Type 0 where
   pub rising : AllPairs (λ one other. one < other) outside
   pub in_range : All (λ target. target < targets) outside
 
--- by voter, by target, and by target once more
-pub record AreTables (snapshot : Snapshot) (left prescores outside : List ℕ) : Type 0 where
+-- by voter, and four times by target
+pub record AreTables (snapshot : Snapshot) (rates left prescores outside approvals : List ℕ) : Type 0 where
+  pub rated : length rates ≡ length snapshot.targets
   pub voters : length left ≡ length snapshot.voters
   pub targets : length prescores ≡ length snapshot.targets
   pub places : length outside ≡ length snapshot.targets
+  pub approved : length approvals ≡ length snapshot.targets

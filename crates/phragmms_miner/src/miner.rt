@@ -7,6 +7,7 @@ ghost use Rattle.phragmms_miner.specs.Scores.{IsBest};
 ghost use Rattle.phragmms_miner.specs.Search.{AreTables};
 ghost use Rattle.phragmms_miner.specs.Run.{IsRun, IsNext};
 
+use crate::pass::fill_votes;
 use crate::search::best_outside;
 use election_snapshot::Snapshot;
 use npos_base::NoMemory;
@@ -17,12 +18,18 @@ use weight_book::Weights;
 /// What searches look up.
 #[derive(Drop)]
 struct Tables {
+    /// By target, what part of its support is paid.
+    rates: Vec<u64>,
     /// By voter, what it has left.
     left: Vec<u64>,
     /// By target, what its nominators have left.
     prescores: Vec<u64>,
     /// The targets that may still be picked, in front.
     outside: Vec<u16>,
+    /// By target, what its nominators have in all.
+    approvals: Vec<u64>,
+    /// About where the next greatest score lies.
+    hint: u64,
 }
 
 /// Mines a committee with weights by the rule of Cevallos and Stewart: seat by seat the target
@@ -48,15 +55,22 @@ impl Tables {
     /// Tables for the searches of this snapshot.
     fn new(alloc: Global, snapshot: &Snapshot) -> Result<Tables, NoMemory>
         ensures { IfOk result (λ tables. AreTables snapshot.now
-            tables.left.items tables.prescores.items tables.outside.items) }
+            tables.rates.items tables.left.items tables.prescores.items tables.outside.items
+            tables.approvals.items) }
     {
+        let rates = vec![in alloc; 0; snapshot.target_count()]?;
         let left = vec![in alloc; 0; snapshot.voter_count()]?;
         let prescores = vec![in alloc; 0; snapshot.target_count()]?;
         let outside = vec![in alloc; 0; snapshot.target_count()]?;
+        let mut approvals = vec![in alloc; 0; snapshot.target_count()]?;
+        fill_votes(snapshot, snapshot.stakes(), &mut approvals);
         Ok(Tables {
+            rates,
             left,
             prescores,
             outside,
+            approvals,
+            hint: snapshot.total(),
         })
     }
 }
@@ -74,21 +88,26 @@ fn seat_one(
     requires within { (voter : ℕ) → voter < length snapshot.now.voters
         → spent backing.old.weights.edges voter ≤ stake_of snapshot.now voter }
     requires tables { AreTables snapshot.now
-        tables.old.left.items tables.old.prescores.items tables.old.outside.items }
+        tables.old.rates.items tables.old.left.items tables.old.prescores.items tables.old.outside.items
+        tables.old.approvals.items }
     ensures snapshot { backing.new.snapshot ≡ snapshot.now }
     ensures next { OnOk result
         (IsNext snapshot.now rounds backing.old.weights backing.new.weights) }
     ensures within { OnOk result ((voter : ℕ) → voter < length snapshot.now.voters
         → spent backing.new.weights.edges voter ≤ stake_of snapshot.now voter) }
     ensures tables { AreTables snapshot.now
-        tables.new.left.items tables.new.prescores.items tables.new.outside.items }
+        tables.new.rates.items tables.new.left.items tables.new.prescores.items tables.new.outside.items
+        tables.new.approvals.items }
 {
     let pick = pick_next(
         snapshot,
         backing,
+        &tables.approvals,
         &mut tables.outside,
+        &mut tables.rates,
         &mut tables.left,
         &mut tables.prescores,
+        &mut tables.hint,
     );
     backing.add_member(pick)?;
     let _made = backing.balance(rounds);
@@ -99,15 +118,19 @@ fn seat_one(
 fn pick_next(
     snapshot: &Snapshot,
     backing: &Backing<'_>,
+    approvals: &[u64],
     outside: &mut [u16],
+    rates: &mut [u64],
     left: &mut [u64],
     prescores: &mut [u64],
+    hint: &mut u64,
 ) -> u16
     requires snapshot { backing.now.snapshot ≡ snapshot.now }
     requires seats { length backing.now.weights.committee < length snapshot.now.targets }
     requires within { (voter : ℕ) → voter < length snapshot.now.voters
         → spent backing.now.weights.edges voter ≤ stake_of snapshot.now voter }
-    requires tables { AreTables snapshot.now left.old prescores.old outside.old }
+    requires tables { AreTables snapshot.now rates.old left.old prescores.old outside.old
+        approvals.now }
     ensures best { IsBest snapshot.now backing.now.weights.committee backing.now.weights.edges
         result }
     ensures follows { Follows snapshot.now backing.now.weights }
@@ -118,9 +141,12 @@ fn pick_next(
         snapshot,
         edges,
         backing.supports(),
+        approvals,
         &mut outside[..count],
+        rates,
         left,
         prescores,
+        hint,
     )
 }
 

@@ -1,12 +1,16 @@
 //! Prescores of all targets at one price of a seat: one pass over the edges and one over the votes.
+//! There is one division for each target, and none for the edges.
 ghost use Rattle.std.specs.Prelude.{◌≡◌, ◌<◌, ◌≤◌, ◌+◌, ◌*◌, ◌/◌, ◌^◌, ℕ, min, cond, length, nat_eq, slice_index_or, All};
 ghost use Rattle.std.specs.List.{IsDistinct};
 ghost use Rattle.election_snapshot.specs.Snapshot.{has, stake_of};
 ghost use Rattle.weight_book.specs.Passing.{slack, prescore};
-ghost use Rattle.phragmms_miner.specs.Passes.{AreSpare, left_of};
+ghost use Rattle.phragmms_miner.specs.Passes.{AreSpare, IsRate, left_of};
 
 use election_snapshot::Snapshot;
 use npos_base::Edge;
+
+/// Rates are in so many parts of one: `2^64`.
+const WHOLE: u128 = 18_446_744_073_709_551_616;
 
 /// By target, what its nominators have left where a seat costs at most `price`.
 pub(crate) fn fill_prescores(
@@ -14,45 +18,89 @@ pub(crate) fn fill_prescores(
     snapshot: &Snapshot,
     edges: &[Edge],
     supports: &[u128],
+    rates: &mut [u64],
     left: &mut [u64],
     prescores: &mut [u64],
 )
     requires spare { AreSpare snapshot.now edges.now supports.now }
+    requires rates { length rates.old ≡ length supports.now }
     requires stakes { length left.old ≡ length snapshot.now.voters }
     requires targets { length prescores.old ≡ length snapshot.now.targets }
     ensures { (target : ℕ) → target < length snapshot.now.targets
         → slice_index_or prescores.new target 0 ≡ prescore price snapshot.now edges.now target }
 {
-    fill_slacks(price, snapshot, edges, supports, left);
+    fill_rates(price, supports, rates);
+    fill_slacks(price, snapshot, edges, supports, rates, left);
     fill_votes(snapshot, left, prescores);
 }
 
+/// By target, what part of its support is paid.
+fn fill_rates(price: u64, supports: &[u128], rates: &mut [u64])
+    requires { length rates.old ≡ length supports.now }
+    ensures count { length rates.new ≡ length supports.now }
+    ensures rates { (target : ℕ) → target < length supports.now
+        → IsRate price (slice_index_or supports.now target 0) (slice_index_or rates.new target 0) }
+{
+    for target in 0..supports.len() {
+        rates[target] = rate_of(price, supports[target]);
+    }
+}
+
+/// What part of a support above the price the price is, in units of a `WHOLE`-th, rounded down.
+fn rate_of(price: u64, support: u128) -> u64
+    ensures { IsRate price support result }
+{
+    if support <= u128::from(price) {
+        return 0;
+    }
+    (u128::from(price) * WHOLE / support) as u64
+}
+
 /// By voter, its stake less what its edges pay.
-fn fill_slacks(price: u64, snapshot: &Snapshot, edges: &[Edge], supports: &[u128], left: &mut [u64])
+fn fill_slacks(
+    price: u64,
+    snapshot: &Snapshot,
+    edges: &[Edge],
+    supports: &[u128],
+    rates: &[u64],
+    left: &mut [u64],
+)
     requires spare { AreSpare snapshot.now edges.now supports.now }
+    requires places { length rates.now ≡ length supports.now }
+    requires rates { (target : ℕ) → target < length supports.now
+        → IsRate price (slice_index_or supports.now target 0) (slice_index_or rates.now target 0) }
     requires stakes { length left.old ≡ length snapshot.now.voters }
     ensures { (voter : ℕ) → voter < length snapshot.now.voters
         → slice_index_or left.new voter 0 ≡ slack price snapshot.now edges.now voter }
 {
     left.copy_from_slice(snapshot.stakes());
     for edge in edges {
-        left[edge.voter as usize] -= pay(price, edge.amount, supports[usize::from(edge.target)]);
+        let place = usize::from(edge.target);
+        left[edge.voter as usize] -= pay(price, edge.amount, supports[place], rates[place]);
     }
 }
 
-/// The part of the price of a seat that falls to the amount, rounded down.
-fn pay(price: u64, amount: u64, support: u128) -> u64
-    requires { amount ≤ support }
+/// The part of the price of a seat that falls to the amount, rounded down. By the rate it is found
+/// or missed by one unit.
+fn pay(price: u64, amount: u64, support: u128, rate: u64) -> u64
+    requires within { amount ≤ support }
+    requires rate { IsRate price support rate }
     ensures { result ≡ amount * min price support / support }
 {
     if support <= u128::from(price) {
         return amount;
     }
-    (u128::from(amount) * u128::from(price) / support) as u64
+    let part = u128::from(amount) * u128::from(rate) / WHOLE;
+    let rest = u128::from(amount) * u128::from(price) - part * support;
+    if rest < support {
+        part as u64
+    } else {
+        part as u64 + 1
+    }
 }
 
 /// By target, what its nominators have left.
-fn fill_votes(snapshot: &Snapshot, slacks: &[u64], prescores: &mut [u64])
+pub(crate) fn fill_votes(snapshot: &Snapshot, slacks: &[u64], prescores: &mut [u64])
     requires voters { length slacks.now ≡ length snapshot.now.voters }
     requires within { (voter : ℕ)
         → slice_index_or slacks.now voter 0 ≤ stake_of snapshot.now voter }

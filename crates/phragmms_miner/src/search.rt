@@ -9,20 +9,28 @@ use crate::pass::fill_prescores;
 use election_snapshot::Snapshot;
 use npos_base::Edge;
 
+/// So many tests of a search go where the prescores point, before one halves what is left.
+const POINTED_TESTS: u8 = 4;
+
 /// The lowest of the targets outside with the greatest score. All of them are tested at one price
 /// in one pass. One whose prescore is not above a price that another reaches cannot be picked any
-/// more.
+/// more. The first price is the hint, and the score of the pick is left there as the next one.
 pub(crate) fn best_outside(
     snapshot: &Snapshot,
     edges: &[Edge],
     supports: &[u128],
+    approvals: &[u64],
     outside: &mut [u16],
+    rates: &mut [u64],
     left: &mut [u64],
     prescores: &mut [u64],
+    hint: &mut u64,
 ) -> u16
     requires spare { AreSpare snapshot.now edges.now supports.now }
+    requires rates { length rates.old ≡ length supports.now }
     requires stakes { length left.old ≡ length snapshot.now.voters }
     requires targets { length prescores.old ≡ length snapshot.now.targets }
+    requires approvals { length approvals.now ≡ length snapshot.now.targets }
     requires some { 1 ≤ length outside.old }
     requires rising { AreRising (length snapshot.now.targets) outside.old }
     ensures { IsBestOf (score snapshot.now edges.now) outside.old result }
@@ -31,9 +39,11 @@ pub(crate) fn best_outside(
     let mut low = 0;
     let mut top = snapshot.total();
     let mut pick = outside[0];
+    let mut pointed = 0;
     while low < top && count > 0 {
-        let test = next_test(low, top);
-        fill_prescores(test, snapshot, edges, supports, left, prescores);
+        let test = next_test(low, top, *hint, &mut pointed);
+        fill_prescores(test, snapshot, edges, supports, rates, left, prescores);
+        *hint = pointed_price(test, &outside[..count], approvals, prescores);
         match lowest_reaching(test, &outside[..count], prescores) {
             Some(target) => {
                 pick = target;
@@ -43,16 +53,52 @@ pub(crate) fn best_outside(
             None => top = test - 1,
         }
     }
+    *hint = low;
     pick
 }
 
-/// A price above `low` and at most `top`.
-fn next_test(low: u64, top: u64) -> u64
+/// A price above `low` and at most `top`: the hint or what is nearest to it, and now and then the
+/// middle, so that no election makes a search long.
+fn next_test(low: u64, top: u64, hint: u64, pointed: &mut u8) -> u64
     requires { low < top }
     ensures above { low < result }
     ensures within { result ≤ top }
 {
-    low + (top - low - 1) / 2 + 1
+    if *pointed >= POINTED_TESTS {
+        *pointed = 0;
+        return low + (top - low - 1) / 2 + 1;
+    }
+    *pointed += 1;
+    hint.min(top).max(low + 1)
+}
+
+/// The price at which the target with the highest prescore is expected to meet it.
+fn pointed_price(test: u64, alive: &[u16], approvals: &[u64], prescores: &[u64]) -> u64
+    requires some { 0 < test }
+    requires prescores { All (λ target. target < length prescores.now) alive.now }
+    requires approvals { All (λ target. target < length approvals.now) alive.now }
+{
+    let mut highest = 0;
+    let mut approval = 0;
+    for target in alive {
+        let prescore = prescores[usize::from(*target)];
+        if prescore > highest {
+            highest = prescore;
+            approval = approvals[usize::from(*target)];
+        }
+    }
+    meeting_price(test, approval, highest)
+}
+
+/// Where a prescore meets the price, if it falls evenly from the approval at price 0 to what it is
+/// at the tested price. It does, but for rounding, as long as no member's support is below the
+/// price.
+fn meeting_price(test: u64, approval: u64, prescore: u64) -> u64
+    requires { 0 < test }
+{
+    let fall = approval.saturating_sub(prescore);
+    let price = u128::from(approval) * u128::from(test) / (u128::from(test) + u128::from(fall));
+    price.min(u128::from(u64::MAX)) as u64
 }
 
 /// The first of the targets whose prescore is at least the price.

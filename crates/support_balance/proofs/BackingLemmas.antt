@@ -20,6 +20,7 @@ use Rattle.support_balance.specs.Slots.{AreSlots, marked, has_pair, AreLaid}
 use Rattle.support_balance.specs.Backing.{IsKept}
 use Rattle.support_balance.proofs.AlikeLemmas.{from_alike, rising_before}
 use Rattle.support_balance.proofs.LayLemmas.{place_pair}
+use Rattle.support_balance.proofs.SplitLemmas.{filter_swap}
 use Rattle.support_balance.proofs.TurnLemmas.{filter_none}
 
 pub filter_le : {X : Type 0} (p : X → Bool) (xs : List X) → length (filter p xs) ≤ length xs
@@ -28,28 +29,6 @@ filter_le p (x ∷ xs) = elim (cases_Bool (p x)) [
   | inl t ↦ rw t (omega (arith, filter_le p xs))
   | inr t ↦ rw t (omega (arith, filter_le p xs))
 ]
-
-passing : {X : Type 0} (p : X → Bool) (x : X) (xs : List X) → p x ≡ true → filter p (x ∷ xs) ≡ x ∷ filter p xs
-passing p x xs t = rw t refl
-
-failing : {X : Type 0} (p : X → Bool) (x : X) (xs : List X) → p x ≡ false → filter p (x ∷ xs) ≡ filter p xs
-failing p x xs t = rw t refl
-
-filter_swap : {X : Type 0} (p q : X → Bool) (xs : List X) → filter p (filter q xs) ≡ filter q (filter p xs)
-filter_swap p q [] = refl
-filter_swap p q (x ∷ xs) =
-    let rest = filter_swap p q xs in
-    elim (cases_Bool (p x)) [
-      | inl t ↦ elim (cases_Bool (q x)) [
-        | inl u ↦ ap (filter p) (passing q x xs u) ∙ passing p x (filter q xs) t ∙ ap (λ ys. x ∷ ys) rest
-            ∙ sym (passing q x (filter p xs) u) ∙ ap (filter q) (sym (passing p x xs t))
-        | inr u ↦ ap (filter p) (failing q x xs u) ∙ rest ∙ sym (failing q x (filter p xs) u) ∙ ap (filter q) (sym (passing p x xs t))
-      ]
-      | inr t ↦ elim (cases_Bool (q x)) [
-        | inl u ↦ ap (filter p) (passing q x xs u) ∙ failing p x (filter q xs) t ∙ rest ∙ ap (filter q) (sym (failing p x xs t))
-        | inr u ↦ ap (filter p) (failing q x xs u) ∙ rest ∙ ap (filter q) (sym (failing p x xs t))
-      ]
-    ]
 
 has_marked : (marks : ℕ → Bool) (row : List Edge) (target : ℕ) → has (targets_of (marked marks row)) target ≡ marks target && has (targets_of row) target
 has_marked marks [] target = elim (cases_Bool (marks target)) [

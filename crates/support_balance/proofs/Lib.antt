@@ -1,5 +1,6 @@
 pub mod AlikeLemmas
 pub mod BackingLemmas
+pub mod FallLemmas
 pub mod GivenLemmas
 pub mod HandLemmas
 pub mod LayLemmas

@@ -1,13 +1,13 @@
 -- Supports and spending, split by what a voter gives.
-use Rattle.std.proofs.Common.{◌≡◌, ◌≢◌, ℕ, zero, suc, ◌+◌, ◌<◌, ◌≤◌, true, false, not, cond, nat_eq, List, [], ◌∷◌, sum_by, get_or, All, inl, inr, refl, ap, ap₂, sym, ◌∙◌, arith}
+use Rattle.std.proofs.Common.{◌≡◌, ◌≢◌, ℕ, zero, suc, ◌+◌, ◌<◌, ◌≤◌, Bool, true, false, not, cond, filter, nat_eq, List, [], ◌∷◌, sum_by, get_or, All, inl, inr, refl, ap, ap₂, sym, ◌∙◌, arith}
 use Rattle.std.specs.List.{IsDistinct, AllByRecursion, range_with_len}
 use Rattle.std.proofs.lemmas.List.Sums.{sum_by-cons}
 use Rattle.std.proofs.lemmas.List.Elements.{All-filter, All-head, All-tail}
 use Rattle.std.proofs.lemmas.Bool.{cases_Bool, cond-true, eqb-true, ne_eqb}
 use Rattle.npos_base.specs.declared.figures.Edge.{Edge}
 use Rattle.election_snapshot.specs.Snapshot.{has}
-use Rattle.weight_book.specs.Weights.{edges_from, amount_sum, support, spent}
-use Rattle.weight_book.proofs.SumLemmas.{sum_among, at_least, at_most, has_range}
+use Rattle.weight_book.specs.Weights.{edges_from, edges_to, amount_sum, support, spent}
+use Rattle.weight_book.proofs.SumLemmas.{sum_among, sum_same, at_least, at_most, has_range}
 use Rattle.support_balance.specs.Turns.{given, edges_but}
 use Rattle.support_balance.proofs.RowLemmas.{weight, to_weight}
 use Rattle.support_balance.proofs.GivenLemmas.{pair_weight, given_weight, sum_passing}
@@ -67,15 +67,15 @@ range_distinct low (suc count) = (apart (range_with_len (low + 1) count) (range_
   apart (x ∷ xs) all = (ne_eqb low x (λ same. omega (arith, all.0, same)), apart xs all.1)
 
 -- where all keys stand among the numbers, the items sum to the parts of the numbers
-among_all : (numbers : List ℕ) (edges : List Edge) → All (λ (e : Edge). has numbers e.target ≡ true) edges
-    → sum_among (λ (e : Edge). e.target) (λ (e : Edge). e.amount) edges numbers ≡ amount_sum edges
-among_all numbers [] all = refl
-among_all numbers (edge ∷ edges) all = omega (
+among_all : (key : Edge → ℕ) (numbers : List ℕ) (edges : List Edge) → All (λ (e : Edge). has numbers (key e) ≡ true) edges
+    → sum_among key (λ (e : Edge). e.amount) edges numbers ≡ amount_sum edges
+among_all key numbers [] all = refl
+among_all key numbers (edge ∷ edges) all = omega (
   arith,
-  sum_by-cons (λ (e : Edge). cond (has numbers e.target) e.amount 0) edge edges,
+  sum_by-cons (λ (e : Edge). cond (has numbers (key e)) e.amount 0) edge edges,
   sum_by-cons (λ (e : Edge). e.amount) edge edges,
-  cond-true (has numbers edge.target) edge.amount 0 (All-head (λ (e : Edge). has numbers e.target ≡ true) edge edges all),
-  among_all numbers edges (All-tail (λ (e : Edge). has numbers e.target ≡ true) edge edges all),
+  cond-true (has numbers (key edge)) edge.amount 0 (All-head (λ (e : Edge). has numbers (key e) ≡ true) edge edges all),
+  among_all key numbers edges (All-tail (λ (e : Edge). has numbers (key e) ≡ true) edge edges all),
 )
 
 -- what a voter spends is what it gives to all targets
@@ -86,6 +86,42 @@ spent_given edges voter bound small =
     let numbers = range_with_len 0 bound in
     let key = λ (e : Edge). e.target in
     let f = λ (e : Edge). e.amount in
-    let all = among_all numbers own (λ k d h. has_range 0 bound (get_or own k d).target (omega arith)
+    let all = among_all key numbers own (λ k d h. has_range 0 bound (get_or own k d).target (omega arith)
     (omega (arith, All-filter (λ (e : Edge). nat_eq e.voter voter) (λ (e : Edge). e.target < bound) edges small k d h))) in
     omega (arith, at_least key f own numbers, at_most key f own numbers (range_distinct 0 bound), all)
+
+passing : {X : Type 0} (p : X → Bool) (x : X) (xs : List X) → p x ≡ true → filter p (x ∷ xs) ≡ x ∷ filter p xs
+passing p x xs t = rw t refl
+
+failing : {X : Type 0} (p : X → Bool) (x : X) (xs : List X) → p x ≡ false → filter p (x ∷ xs) ≡ filter p xs
+failing p x xs t = rw t refl
+
+pub filter_swap : {X : Type 0} (p q : X → Bool) (xs : List X) → filter p (filter q xs) ≡ filter q (filter p xs)
+filter_swap p q [] = refl
+filter_swap p q (x ∷ xs) =
+    let rest = filter_swap p q xs in
+    elim (cases_Bool (p x)) [
+      | inl t ↦ elim (cases_Bool (q x)) [
+        | inl u ↦ ap (filter p) (passing q x xs u) ∙ passing p x (filter q xs) t ∙ ap (λ ys. x ∷ ys) rest
+            ∙ sym (passing q x (filter p xs) u) ∙ ap (filter q) (sym (passing p x xs t))
+        | inr u ↦ ap (filter p) (failing q x xs u) ∙ rest ∙ sym (failing q x (filter p xs) u) ∙ ap (filter q) (sym (passing p x xs t))
+      ]
+      | inr t ↦ elim (cases_Bool (q x)) [
+        | inl u ↦ ap (filter p) (passing q x xs u) ∙ failing p x (filter q xs) t ∙ rest ∙ ap (filter q) (sym (failing p x xs t))
+        | inr u ↦ ap (filter p) (failing q x xs u) ∙ rest ∙ ap (filter q) (sym (failing p x xs t))
+      ]
+    ]
+
+-- what a target gets is what all voters give to it
+pub support_given : (edges : List Edge) (target bound : ℕ) → All (λ (e : Edge). e.voter < bound) edges
+    → sum_by (λ voter. given edges voter target) (range_with_len 0 bound) ≡ support edges target
+support_given edges target bound small =
+    let own = edges_to edges target in
+    let numbers = range_with_len 0 bound in
+    let key = λ (e : Edge). e.voter in
+    let f = λ (e : Edge). e.amount in
+    let all = among_all key numbers own (λ k d h. has_range 0 bound (get_or own k d).voter (omega arith)
+    (omega (arith, All-filter (λ (e : Edge). nat_eq e.target target) (λ (e : Edge). e.voter < bound) edges small k d h))) in
+    let swapped = sum_same (λ voter. given edges voter target) (λ voter. amount_sum (edges_from own voter))
+    (λ voter. ap amount_sum (filter_swap (λ (e : Edge). nat_eq e.target target) (λ (e : Edge). nat_eq e.voter voter) edges)) numbers in
+    omega (arith, swapped, at_least key f own numbers, at_most key f own numbers (range_distinct 0 bound), all)

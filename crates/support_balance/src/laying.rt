@@ -65,7 +65,7 @@ pub(crate) fn lay(
     ensures { IfOk result (λ laid. AreLaid (λ target. slice_index_or is_member.now target false)
         slots.now edges.now laid.items) }
 {
-    let mut laid = Vec::with_capacity(alloc, edges.len())?;
+    let mut laid = Vec::with_capacity(alloc, slots.len())?;
     let mut at = 0;
     for slot in slots {
         if is_member[usize::from(slot.target)] {

@@ -8,22 +8,27 @@ use Rattle.phragmms_miner.proofs.pass.fill_slacks.Goals as goal
 abbrev none : Edge
 none = record { voter = 0; target = 0; amount = 0 }
 
-pub pay-requires : goal.pay-requires
-pay-requires c =
+pub pay-requires-clause-within : goal.pay-requires-clause-within
+pay-requires-clause-within c =
     let edges = c.args.edges.now in
     let i = c.loop-edge.edge-index in
     let h : i < length edges = search rules in
-    let is : get_or c.args.supports.now c.from.result 0 ≡ support edges (get_or edges i none).target =
-    c.requires.spare.sums c.from.result ∙ ap (support edges) c.from.ensures in
+    let is : get_or c.args.supports.now c.from-place.result 0 ≡ support edges (get_or edges i none).target =
+    c.requires.spare.sums c.from-place.result ∙ ap (support edges) c.from-place.ensures in
     rw is (within_support edges i none h)
+
+pub pay-requires-clause-rate : goal.pay-requires-clause-rate
+pay-requires-clause-rate c =
+    let h : c.loop-edge.edge-index < length c.args.edges.now = search rules in
+    c.requires.rates c.from-place.result (rw c.from-place.ensures (c.requires.spare.targets c.loop-edge.edge-index none h))
 
 pub overflow_sub-left : goal.overflow_sub-left
 overflow_sub-left c =
     let edges = c.args.edges.now in
     let i = c.loop-edge.edge-index in
     let h : i < length edges = search rules in
-    let is : get_or c.args.supports.now c.from.result 0 ≡ support edges (get_or edges i none).target =
-    c.requires.spare.sums c.from.result ∙ ap (support edges) c.from.ensures in
+    let is : get_or c.args.supports.now c.from-place.result 0 ≡ support edges (get_or edges i none).target =
+    c.requires.spare.sums c.from-place.result ∙ ap (support edges) c.from-place.ensures in
     let paid : c.pay.result ≡ pay c.args.price edges (get_or edges i none) = rw is at c.pay.ensures in
     rw paid (pay_left c.args.price c.args.snapshot.now edges c.args.supports.now c.requires.spare i none h c.loop-edge.left c.loop-edge.invariant)
 
@@ -32,7 +37,7 @@ loop-edge-preserved c =
     let edges = c.args.edges.now in
     let i = c.loop-edge.edge-index in
     let h : i < length edges = search rules in
-    let is : get_or c.args.supports.now c.from.result 0 ≡ support edges (get_or edges i none).target =
-    c.requires.spare.sums c.from.result ∙ ap (support edges) c.from.ensures in
+    let is : get_or c.args.supports.now c.from-place.result 0 ≡ support edges (get_or edges i none).target =
+    c.requires.spare.sums c.from-place.result ∙ ap (support edges) c.from-place.ensures in
     let paid : c.pay.result ≡ pay c.args.price edges (get_or edges i none) = rw is at c.pay.ensures in
     rw paid (paid_next c.args.price c.args.snapshot.now edges c.args.supports.now c.requires.spare i none h c.loop-edge.left c.loop-edge.invariant)

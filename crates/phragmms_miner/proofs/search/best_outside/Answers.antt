@@ -14,11 +14,11 @@ loop-low-init c =
     let all = take_all (length outside) outside (omega arith) in
     let start = narrow_start outside (λ price target. prescore price c.args.snapshot.now c.args.edges.now target) (total_stake c.args.snapshot.now)
     (prescore_falls c.args.snapshot.now c.args.edges.now) (get_or outside 0 0) first.0 first.1 in
-    rw (all, c.total-top.ensures.total) (start, omega arith, omega arith, refl, c.requires.rising, c.requires.stakes, c.requires.targets)
+    rw (all, c.total-top.ensures.total) (start, omega arith, omega arith, refl, c.requires.rising, c.requires.rates, c.requires.stakes, c.requires.targets)
 
 pub loop-low-preserved-in-Some : goal.loop-low-preserved-in-Some
 loop-low-preserved-in-Some c =
-    let (narrow, most, count, long, up, stakes, targets) = c.loop-low.invariant in
+    let (narrow, most, count, long, up, rates, stakes, targets) = c.loop-low.invariant in
     let (there, reaches, first) = c.in-Some.ensures.found in
     let found = table_found c.args.outside.now (λ price target. prescore price c.args.snapshot.now c.args.edges.now target) (total_stake c.args.snapshot.now)
     (prescore_falls c.args.snapshot.now c.args.edges.now) (length c.args.snapshot.now.targets) c.loop-low.low c.loop-low.top c.loop-low.pick
@@ -40,13 +40,14 @@ loop-low-preserved-in-Some c =
           (take c.loop-low.count c.loop-low.outside) up,
       search rules,
       search rules,
+      search rules,
     )
 
 pub loop-low-preserved : goal.loop-low-preserved
 loop-low-preserved c =
-    let (narrow, most, count, long, up, stakes, targets) = c.loop-low.invariant in
+    let (narrow, most, count, long, up, rates, stakes, targets) = c.loop-low.invariant in
     let none = table_none c.args.outside.now (λ price target. prescore price c.args.snapshot.now c.args.edges.now target) (total_stake c.args.snapshot.now)
     (prescore_falls c.args.snapshot.now c.args.edges.now) (length c.args.snapshot.now.targets) c.loop-low.low c.loop-low.top c.loop-low.pick
     (take c.loop-low.count c.loop-low.outside) narrow c.next_test-test.result c.next_test-test.ensures.above c.next_test-test.ensures.within most up
     c.fill_prescores.new.prescores c.fill_prescores.ensures c.in-None.ensures.none in
-    (none, omega (arith, c.next_test-test.ensures.within, most), count, long, up, search rules, search rules)
+    (none, omega (arith, c.next_test-test.ensures.within, most), count, long, up, search rules, search rules, search rules)

@@ -13,7 +13,7 @@ invariant-loop-low l =
     l.low l.top l.pick (take l.count l.outside)
     × (l.top ≤ total_stake l.snapshot) × (l.count ≤ length l.outside) × (length l.outside ≡ length l.fn.outside)
     × AreRising (length l.snapshot.targets) (take l.count l.outside)
-    × (length l.left ≡ length l.snapshot.voters) × (length l.prescores ≡ length l.snapshot.targets)
+    × (length l.rates ≡ length l.supports) × (length l.left ≡ length l.snapshot.voters) × (length l.prescores ≡ length l.snapshot.targets)
 
 abbrev pub decreases-loop-low : goal.decreases-loop-low
 decreases-loop-low l = l.top - l.low
