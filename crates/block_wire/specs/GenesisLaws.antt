@@ -10,8 +10,6 @@ use Rattle.scale_wire.specs.FormLaws.{pair_laws, triple_laws, seen_laws, list_la
 use Rattle.scale_wire.specs.AccountLaws.{account_laws}
 use Rattle.block_wire.specs.Genesis.{endowment_form, head_form, tail_form, params_form, params_fields, endowments_form, geneses, genesis_choice, genesis_form}
 use Rattle.npos_base.specs.declared.limits.TheConstants.{MOST_THRESHOLDS, MOST_ENDOWMENTS}
-use Rattle.block_wire.specs.declared.genesis.Endowment.{Endowment}
-use Rattle.block_wire.specs.declared.genesis.Params.{Params}
 use Rattle.block_wire.specs.declared.genesis.Genesis.{Genesis}
 use Rattle.block_wire.specs.declared.genesis.Genesis.TheVariants.{Plain, Full}
 

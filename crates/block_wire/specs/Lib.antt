@@ -4,3 +4,5 @@ pub mod Calls
 pub mod CallLaws
 pub mod Bundles
 pub mod BundleLaws
+pub mod Begun
+pub mod Stream

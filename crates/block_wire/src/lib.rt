@@ -2,12 +2,14 @@
 //! its one spelling in SCALE.
 #![tactic(auto)]
 
+mod begun;
 mod block;
 mod bundle;
 mod call;
 mod genesis;
 pub mod laws;
 mod limits;
+mod stream;
 #[cfg(test)]
 mod tests;
 mod writing;
@@ -16,3 +18,4 @@ pub use block::Block;
 pub use bundle::{Bundle, BundleVoter, Work};
 pub use call::{Call, CallKind};
 pub use genesis::{Endowment, Genesis, Params};
+pub use stream::{Next, StreamReader};

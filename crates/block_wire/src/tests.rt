@@ -1,4 +1,4 @@
-use crate::{Block, Bundle, CallKind, Endowment, Genesis, Params, laws};
+use crate::{Block, Bundle, CallKind, Endowment, Genesis, Next, Params, StreamReader, laws};
 use npos_base::{AccountId, List};
 use scale_wire::fault::{ReadFault, Why, WireFault};
 use scale_wire::{Pen, Wire, read_whole};
@@ -235,6 +235,79 @@ const PLAIN_WORK: [u8; 11] = [
     0x04, 0x04, // the committee
     0x04, 0x08, 0x04, 0x91, 0x01, // the edge
 ];
+
+// Takes what is whole: the places behind the genesis, of a block's number and behind the None.
+fn take_whole(reader: &mut StreamReader, places: &mut Vec<u64>) -> Result<(), ReadFault> {
+    if places.is_empty() {
+        if reader.take_genesis(false)?.is_some() {
+            places.push(reader.at())?;
+        }
+        return Ok(());
+    }
+    match reader.take_block(false)? {
+        Next::More => {}
+        Next::Block { at, .. } => places.push(at)?,
+        Next::End => places.push(reader.at())?,
+    }
+    Ok(())
+}
+
+// A genesis, a block of two transfers and the None, by pieces.
+#[test]
+fn a_stream_by_pieces(rt: HostRuntime) -> Result<(), Fail> {
+    let mut stream = PLAIN.to_vec(rt.alloc())?;
+    stream.extend_from_slice(&BLOCK)?;
+    stream.push(0)?;
+    for size in [1, 7, 65_536] {
+        let mut reader = StreamReader::new(rt.alloc());
+        let mut places = Vec::new(rt.alloc());
+        for piece in stream.chunks(size) {
+            assert!(rt; reader.at() < 300 && reader.held().len() < 300 && piece.len() < 300);
+            reader.feed(piece)?;
+            for _ in 0..3 {
+                take_whole(&mut reader, &mut places)?;
+            }
+        }
+        assert_eq!(rt; places.as_slice(), [69, 70, 205].as_slice());
+    }
+    Ok(())
+}
+
+// Bytes that no genesis or a cut one stands at, and whether the input has ended.
+const CUT: [(&[u8], bool, Option<WireFault>); 3] = [
+    (
+        &[0x09],
+        false,
+        Some(WireFault {
+            at: 0,
+            why: Why::BadTag,
+        }),
+    ),
+    (&[0x00, 0x04, 0x01], false, None),
+    (
+        &[0x00, 0x04, 0x01],
+        true,
+        Some(WireFault {
+            at: 2,
+            why: Why::Short,
+        }),
+    ),
+];
+
+#[test]
+fn a_cut_genesis_waits(rt: HostRuntime) -> Result<(), Fail> {
+    for (bytes, ended, fault) in CUT {
+        let mut reader = StreamReader::new(rt.alloc());
+        assert!(rt; bytes.len() < 300);
+        reader.feed(bytes)?;
+        let found = match reader.take_genesis(ended) {
+            Err(ReadFault::Wire(fault)) => Some(fault),
+            _ => None,
+        };
+        assert_eq!(rt; (found, reader.held()), (fault, bytes));
+    }
+    Ok(())
+}
 
 #[test]
 fn the_laws_can_be_called() {

@@ -1,0 +1,215 @@
+-- What the parts of a block that was begun add up to, and what a refusal of one of them is a refusal of.
+use Rattle.std.proofs.Common.{◌≡◌, ◌≢◌, ℕ, ◌+◌, ◌-◌, ◌<◌, ◌≤◌, List, [], ◌∷◌, ◌++◌, length, drop, None, Result, Ok, Err, MatchResult, refl, sym, ◌∙◌, ap, subst, inl, arith, append_assoc, length-append}
+use Rattle.std.specs.List.{AllByRecursion, flat_map}
+use Rattle.std.proofs.lemmas.List.{append-nil, drop_at}
+use Rattle.scale_wire.specs.declared.fault.WireFault.{WireFault}
+use Rattle.scale_wire.specs.declared.fault.ReadFault.{ReadFault}
+use Rattle.scale_wire.specs.declared.fault.ReadFault.TheVariants.{Wire}
+use Rattle.scale_wire.specs.Form.{Form}
+use Rattle.scale_wire.specs.Parts.{tag_form, compact_u32, length_form}
+use Rattle.scale_wire.specs.Composite.{items, list, pair}
+use Rattle.scale_wire.specs.Reading.{Place, IsRead, IsFault, Reads}
+use Rattle.scale_wire.proofs.ReadLemmas.{pair_err, optional_err}
+use Rattle.scale_wire.proofs.ListLemmas.{list_err, items_err}
+use Rattle.block_wire.specs.declared.limits.TheConstants.{MOST_CALLS}
+use Rattle.block_wire.specs.declared.call.Call.{Call}
+use Rattle.block_wire.specs.declared.begun.Begun.{Begun}
+use Rattle.block_wire.specs.Calls.{call_form, block_form}
+use Rattle.block_wire.specs.Begun.{next_form, behind, IsHead, IsBegun, ReadsOn, Opens, IsWholeBlock}
+
+-- ## Places
+
+-- some bytes lead from one place to another
+pub record Goes (old new : Place) : Type 0 where
+  pub bytes : List ℕ
+  pub whole : old.rest ≡ bytes ++ new.rest
+  pub at_is : new.at ≡ old.at + length bytes
+
+pub goes_by : {V : Type 0} (form : Form V) (old new : Place) (value : V) → IsRead form old value new → Goes old new
+goes_by form old new value read = record { bytes = form.spelling value; whole = read.whole; at_is = read.at_is }
+
+goes_on : (old mid new : Place) → Goes old mid → Goes mid new → Goes old new
+goes_on old mid new first then = record {
+  bytes = first.bytes ++ then.bytes;
+  whole = first.whole ∙ (ap (λ (s : List ℕ). first.bytes ++ s) then.whole ∙ sym (append_assoc first.bytes then.bytes new.rest));
+  at_is = omega (arith, first.at_is, then.at_is, length-append first.bytes then.bytes);
+}
+
+-- the later place is so many bytes behind the earlier
+pub record IsBehind (old new : Place) : Type 0 where
+  pub place_is : behind (new.at - old.at) old ≡ new
+  pub later : old.at ≤ new.at
+  pub within : new.at - old.at ≤ length old.rest
+  pub fits : new.at + length new.rest ≡ old.at + length old.rest
+
+pub is_behind : (old new : Place) → Goes old new → IsBehind old new
+is_behind old new goes =
+    let size : length goes.bytes ≡ new.at - old.at = omega (arith, goes.at_is) in
+    let at_is : old.at + (new.at - old.at) ≡ new.at = omega (arith, goes.at_is) in
+    let rest_is : drop (new.at - old.at) old.rest ≡ new.rest = ap (drop (new.at - old.at)) goes.whole ∙ drop_at goes.bytes new.rest (new.at - old.at) size in
+    let long : length old.rest ≡ length goes.bytes + length new.rest = ap length goes.whole ∙ length-append goes.bytes new.rest in
+    record {
+      place_is = λ i. record { at = at_is i; rest = rest_is i };
+      later = omega (arith, goes.at_is);
+      within = omega (arith, goes.at_is, long);
+      fits = omega (arith, goes.at_is, long);
+    }
+
+-- ## The head
+
+-- the None was read
+pub none_head : (old new : Place) (tag : ℕ) → tag ≡ 0 → IsRead (tag_form 2) old tag new → IsRead next_form old None new
+none_head old new tag none read = record {
+  in_range = tt;
+  whole = read.whole ∙ ap (λ (t : ℕ). t ∷ new.rest) none;
+  at_is = read.at_is;
+}
+
+pub tag_fault : (old new : Place) (fault : WireFault) → IsFault (tag_form 2) old fault new → IsFault next_form old fault old
+tag_fault old new fault refused = record { place = refused.place; bad = inl refused.bad; at_is = refused.at_is; unchanged = refl }
+
+abbrev calls_form : Form (List Call)
+calls_form = list call_form MOST_CALLS
+
+pub number_fault : (old mid new : Place) (tag : ℕ) (fault : WireFault) → tag ≢ 0 → IsRead (tag_form 2) old tag mid → IsFault compact_u32 mid fault new → IsFault next_form old fault old
+number_fault old mid new tag fault some read refused =
+    optional_err block_form old old mid mid tag (Wire fault) refl some read
+    (record { place = refused.place; bad = inl refused.bad; at_is = refused.at_is; unchanged = refl })
+
+pub count_fault : (old mid here new : Place) (tag number : ℕ) (fault : WireFault) → tag ≢ 0 → IsRead (tag_form 2) old tag mid → IsRead compact_u32 mid number here
+    → IsFault (length_form MOST_CALLS) here fault new → IsFault next_form old fault old
+count_fault old mid here new tag number fault some read numbered refused =
+    optional_err block_form old old mid mid tag (Wire fault) refl some read
+    (pair_err compact_u32 calls_form mid here here number (Wire fault) numbered
+    (record { place = refused.place; bad = inl refused.bad; at_is = refused.at_is; unchanged = refl }))
+
+pub head_read : (old mid here new : Place) (tag number count : ℕ) → tag ≢ 0 → IsRead (tag_form 2) old tag mid → IsRead compact_u32 mid number here
+    → IsRead (length_form MOST_CALLS) here count new → IsHead old number count new
+head_read old mid here new tag number count some tagged numbered counted =
+    let is_some : tag ≡ 1 = omega (arith, tagged.in_range, some) in
+    (mid, here, subst (λ (t : ℕ). IsRead (tag_form 2) old t mid) is_some tagged, numbered, counted)
+
+goes_head : (old new : Place) (number count : ℕ) → IsHead old number count new → Goes old new
+goes_head old new number count head =
+    goes_on old head.0 new (goes_by (tag_form 2) old head.0 1 head.2)
+    (goes_on head.0 head.1 new (goes_by compact_u32 head.0 head.1 number head.3) (goes_by (length_form MOST_CALLS) head.1 new count head.4))
+
+-- the None has one byte
+pub opened_none : (old new : Place) → IsRead next_form old None new → Opens old (Ok None)
+opened_none old new read =
+    let is = is_behind old new (goes_by next_form old new None read) in
+    let one : new.at - old.at ≡ 1 = omega (arith, read.at_is) in (
+      subst (λ (p : Place). IsRead next_form old None p) (sym is.place_is ∙ ap (λ (n : ℕ). behind n old) one) read,
+      subst (λ (n : ℕ). n ≤ length old.rest) one is.within,
+    )
+
+-- a block was begun, and none of its calls was read
+pub opened : (old new : Place) (begun : Begun) → IsHead old begun.number begun.count new → begun.size ≡ new.at - old.at → begun.calls.items ≡ [] → IsBegun begun old
+opened old new begun head size none =
+    let is = is_behind old new (goes_head old new begun.number begun.count head) in
+    let place : new ≡ behind begun.size old = sym is.place_is ∙ ap (λ (n : ℕ). behind n old) (sym size) in
+    let here : IsRead (items call_form 0) new [] new = record { in_range = (tt, refl); whole = refl; at_is = omega arith } in
+    record {
+      counted = new;
+      head = head;
+      calls = subst (λ (p : Place). IsRead (items call_form (length begun.calls.items)) new begun.calls.items p) place
+          (subst (λ (xs : List Call). IsRead (items call_form (length xs)) new xs new) (sym none) here);
+      few = omega (arith, ap length none);
+      within = subst (λ (n : ℕ). n ≤ length old.rest) (sym size) is.within;
+    }
+
+-- ## The calls
+
+pub no_more : {A : Type 0} (item : Form A) (xs ys : List A) (old : Place) → ys ≡ xs → ReadsOn item xs old ys old
+no_more item xs ys old same = λ start read. subst (λ (zs : List _). IsRead (items item (length zs)) start zs old) (sym same) read
+
+flat_more : {A : Type 0} (f : A → List ℕ) (xs : List A) (y : A) → flat_map f (xs ++ y ∷ []) ≡ flat_map f xs ++ f y
+flat_more f [] y = append-nil (f y)
+flat_more f (x ∷ xs) y = ap (λ (s : List ℕ). f x ++ s) (flat_more f xs y) ∙ sym (append_assoc (f x) (flat_map f xs) (f y))
+
+all_more : {A : Type 0} (P : A → Type 0) (xs : List A) (y : A) → AllByRecursion P xs → P y → AllByRecursion P (xs ++ y ∷ [])
+all_more P [] y all one = (one, tt)
+all_more P (x ∷ xs) y all one = (all.0, all_more P xs y all.1 one)
+
+pub on_same : {A : Type 0} (item : Form A) (xs ys zs : List A) (old new : Place) → zs ≡ ys → ReadsOn item xs old ys new → ReadsOn item xs old zs new
+on_same item xs ys zs old new same on = λ start first. subst (λ (all : List _). IsRead (items item (length all)) start all new) (sym same) (on start first)
+
+-- one item more was read
+pub on_more : {A : Type 0} (item : Form A) (xs ys zs : List A) (old mid new : Place) (y : A) → ReadsOn item xs old ys mid → IsRead item mid y new → zs ≡ ys ++ y ∷ [] → ReadsOn item xs old zs new
+on_more item xs ys zs old mid new y on read same = λ start first.
+    let so_far = on start first in
+    subst (λ (all : List _). IsRead (items item (length all)) start all new) (sym same) record {
+      in_range = (all_more item.in_range ys y so_far.in_range.0 read.in_range, refl);
+      whole = so_far.whole ∙ (ap (λ (s : List ℕ). flat_map item.spelling ys ++ s) read.whole
+          ∙ (sym (append_assoc (flat_map item.spelling ys) (item.spelling y) new.rest) ∙ ap (λ (s : List ℕ). s ++ new.rest) (sym (flat_more item.spelling ys y))));
+      at_is = omega (arith, so_far.at_is, read.at_is, length-append (flat_map item.spelling ys) (item.spelling y), ap length (flat_more item.spelling ys y));
+    }
+
+-- where the reader goes on
+pub goes_begun : (begun : Begun) (old : Place) → IsBegun begun old → Goes old (behind begun.size old)
+goes_begun begun old is =
+    goes_on old is.counted (behind begun.size old) (goes_head old is.counted begun.number begun.count is.head)
+    (goes_by (items call_form (length begun.calls.items)) is.counted (behind begun.size old) begun.calls.items is.calls)
+
+-- the reader goes on from there
+pub goes_further : (begun : Begun) (more : List Call) (old here there : Place) → IsBegun begun old → here ≡ behind begun.size old → ReadsOn call_form begun.calls.items here more there
+    → IsBehind old there
+goes_further begun more old here there is place on =
+    let read = on is.counted (subst (λ (p : Place). IsRead (items call_form (length begun.calls.items)) is.counted begun.calls.items p) (sym place) is.calls) in
+    is_behind old there (goes_on old is.counted there (goes_head old is.counted begun.number begun.count is.head) (goes_by (items call_form (length more)) is.counted there more read))
+
+-- more of the calls were read
+pub begun_grows : (begun more : Begun) (old here there : Place) → IsBegun begun old → here ≡ behind begun.size old → ReadsOn call_form begun.calls.items here more.calls.items there
+    → more.number ≡ begun.number → more.count ≡ begun.count → more.size ≡ there.at - old.at → length more.calls.items ≤ more.count → IsBegun more old × (there ≡ behind more.size old)
+begun_grows begun more old here there is place on number count size few =
+    let read = on is.counted (subst (λ (p : Place). IsRead (items call_form (length begun.calls.items)) is.counted begun.calls.items p) (sym place) is.calls) in
+    let stands = goes_further begun more.calls.items old here there is place on in
+    let there_is : there ≡ behind more.size old = sym stands.place_is ∙ ap (λ (n : ℕ). behind n old) (sym size) in (
+      record {
+        counted = is.counted;
+        head = subst (λ (n : ℕ). IsHead old n more.count is.counted) (sym number) (subst (λ (n : ℕ). IsHead old begun.number n is.counted) (sym count) is.head);
+        calls = subst (λ (p : Place). IsRead (items call_form (length more.calls.items)) is.counted more.calls.items p) there_is read;
+        few = few;
+        within = subst (λ (n : ℕ). n ≤ length old.rest) (sym size) stands.within;
+      },
+      there_is,
+    )
+
+-- one part behind another
+behind_read : {A B : Type 0} (a : Form A) (b : Form B) (old mid new : Place) (x : A) (y : B) → IsRead a old x mid → IsRead b mid y new → IsRead (pair a b) old (x, y) new
+behind_read a b old mid new x y first then = record {
+  in_range = (first.in_range, then.in_range);
+  whole = first.whole ∙ (ap (λ (s : List ℕ). a.spelling x ++ s) then.whole ∙ sym (append_assoc (a.spelling x) (b.spelling y) new.rest));
+  at_is = omega (arith, first.at_is, then.at_is, length-append (a.spelling x) (b.spelling y));
+}
+
+-- all calls were read
+pub whole_block : (begun : Begun) (old : Place) → IsBegun begun old → length begun.calls.items ≡ begun.count → IsWholeBlock begun old
+whole_block begun old is all =
+    let there = behind begun.size old in
+    let head = is.head in
+    let counted : IsRead (length_form MOST_CALLS) head.1 (length begun.calls.items) is.counted = subst (λ (n : ℕ). IsRead (length_form MOST_CALLS) head.1 n is.counted) (sym all) head.4 in
+    let calls = behind_read (length_form MOST_CALLS) (items call_form (length begun.calls.items)) head.1 is.counted there (length begun.calls.items) begun.calls.items counted is.calls in
+    let listed : IsRead calls_form head.1 begun.calls.items there = record { in_range = (counted.in_range, is.calls.in_range.0); whole = calls.whole; at_is = calls.at_is } in
+    let block = behind_read compact_u32 calls_form head.0 head.1 there begun.number begun.calls.items head.3 listed in
+    let some = behind_read (tag_form 2) (pair compact_u32 calls_form) old head.0 there 1 (begun.number, begun.calls.items) head.2 block in
+    (record { in_range = block.in_range; whole = some.whole; at_is = some.at_is }, is.within)
+
+-- a call was refused, or memory ran out
+pub cut_block : (begun : Begun) (old there : Place) (fault : ReadFault) → IsBegun begun old → there ≡ behind begun.size old → length begun.calls.items < begun.count
+    → Reads call_form there (Err fault) there → Reads next_form old (Err fault) old
+cut_block begun old there fault is place fewer refused =
+    let head = is.head in
+    let here : IsRead (items call_form (length begun.calls.items)) is.counted begun.calls.items there =
+    subst (λ (p : Place). IsRead (items call_form (length begun.calls.items)) is.counted begun.calls.items p) (sym place) is.calls in
+    optional_err block_form old old head.0 head.0 1 fault refl (λ e. cc) head.2
+    (pair_err compact_u32 calls_form head.0 head.1 head.1 begun.number fault head.3
+    (list_err call_form MOST_CALLS head.1 head.1 is.counted is.counted begun.count fault refl head.4
+    (items_err call_form begun.count (length begun.calls.items) is.counted is.counted there there begun.calls.items fault refl fewer here refused)))
+
+-- what the calls came to is what the block comes to
+pub filled : (begun : Begun) (old there : Place) (result : Result (Unit {0}) ReadFault) → IsBegun begun old → there ≡ behind begun.size old
+    → MatchResult result (λ _. length begun.calls.items ≡ begun.count) (λ fault. (length begun.calls.items < begun.count) × Reads call_form there (Err fault) there)
+    → MatchResult result (λ _. IsWholeBlock begun old) (λ fault. Reads next_form old (Err fault) old)
+filled begun old there (Ok done) is place all = whole_block begun old is all
+filled begun old there (Err fault) is place cut = cut_block begun old there fault is place cut.0 cut.1
