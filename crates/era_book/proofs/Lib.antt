@@ -1,0 +1,4 @@
+pub mod PartLemmas
+pub mod LineLemmas
+pub mod MemberLemmas
+pub mod EraLemmas

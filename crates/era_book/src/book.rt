@@ -1,10 +1,10 @@
 //! The eras that are kept.
-ghost use Rattle.std.specs.Prelude.{◌≡◌, ◌≤◌, ◌<◌, ◌-◌, ◌^◌, None, IfOk, OnOk, OnErr, IfErr};
+ghost use Rattle.std.specs.Prelude.{◌≡◌, ◌≤◌, ◌<◌, ◌-◌, ◌^◌, None, is_none, IfSome, IfOk, OnOk, OnErr, IfErr};
 ghost use Rattle.std.specs.Option.{option_copied};
 ghost use Rattle.npos_base.specs.Refusal.{IsDue, Meets, answer_of};
 ghost use Rattle.era_book.specs.declared.refusal.EraRefusal.TheVariants as refusals;
 ghost use Rattle.era_book.specs.Exposures.{amount_sum, AreSound};
-ghost use Rattle.era_book.specs.Eras.{first_era, started, member_in, era_of, AreKept};
+ghost use Rattle.era_book.specs.Eras.{first_era, started, member_in, era_of, is_unknown, AreMembers, AreKept};
 ghost use Rattle.era_book.specs.Calls.{points_refusal, pointed, payout_refusal, payout_in, IsUnclaimed, paid, slash_refusal, slash_in, IsBelow, reported};
 
 use crate::era::Era;
@@ -196,7 +196,9 @@ impl EraBook {
 
     /// The members of an era that is known.
     fn era(&self, era: u32) -> Option<&Era>
-        ensures { option_copied result ≡ era_of self.now era }
+        ensures members { option_copied result ≡ era_of self.now era }
+        ensures known { is_none result ≡ is_unknown self.now era }
+        ensures sound { IfSome result (λ members. AreMembers members.now) }
     {
         if era > self.current {
             return None;

@@ -1,5 +1,5 @@
 //! The members of one era.
-ghost use Rattle.std.specs.Prelude.{◌≡◌, ◌<◌, ◌≤◌, [], fold, is_some, IfOk};
+ghost use Rattle.std.specs.Prelude.{◌≡◌, ◌<◌, ◌≤◌, [], fold, is_some, IfSome, IfOk};
 ghost use Rattle.std.specs.Option.{option_copied};
 ghost use Rattle.std.specs.List.{list_all};
 ghost use Rattle.era_book.specs.Payouts.{part};
@@ -54,9 +54,11 @@ impl Era {
         Ok(Era { members, points: 0 })
     }
 
-    /// The member with this account.
+    /// The member with this account. It has at most the points of all together.
+    #[tactic(auto, using(crate::proofs::MemberLemmas::points_within))]
     pub fn get(&self, who: AccountId) -> Option<&Member>
-        ensures { option_copied result ≡ member_of self.now who }
+        ensures member { option_copied result ≡ member_of self.now who }
+        ensures points { IfSome result (λ member. member.now.points ≤ total_points self.now) }
     {
         self.members.get(&who)
     }

@@ -1,5 +1,7 @@
 //! One validator in one era: what stands behind it and what happened since.
-ghost use Rattle.std.specs.Prelude.{◌≡◌, ◌^◌, ◌<◌, ◌≤◌, ◌+◌, ◌++◌, [], ◌∷◌, length, map, IfOk};
+ghost use Rattle.std.specs.Prelude.{◌≡◌, ◌^◌, ◌<◌, ◌≤◌, ◌+◌, ◌++◌, [], ◌∷◌, length, map, find, IfOk};
+ghost use Rattle.std.specs.Option.{option_copied};
+ghost use Rattle.npos_base.specs.Account.{same_account};
 ghost use Rattle.npos_base.specs.declared.limits.TheConstants.{WHOLE_FRACTION};
 ghost use Rattle.era_book.specs.Exposures.{amount_sum, IsSound};
 ghost use Rattle.era_book.specs.Payouts.{part, own_part, others, kept_lines, line, payout_lines, payout_of};
@@ -47,9 +49,11 @@ impl Member {
 
     /// What a value pays that is due to this member and its backers: the commission to the
     /// validator, and the rest by what each gives.
+    #[tactic(auto, using(crate::proofs::LineLemmas::payout_within))]
     pub fn payout(&self, alloc: Global, value: u64) -> Result<Payout, NoMemory>
         requires { IsSound self.now.exposure }
-        ensures { IfOk result (λ payout. payout ≡ payout_of self.now.exposure value) }
+        ensures payout { IfOk result (λ payout. payout ≡ payout_of self.now.exposure value) }
+        ensures within { IfOk result (λ payout. payout.total ≤ value) }
     {
         let lines = payout_lines(alloc, &self.exposure, value)?;
         let total = total_of(lines.as_slice());
@@ -99,10 +103,18 @@ fn share_of(value: u64, amount: u64, support: u64) -> u64
 fn own_part(validator: AccountId, backers: &[Backer]) -> u64
     ensures { result ≡ own_part validator backers.now }
 {
-    match backers.iter().find(|backer| backer.who == validator) {
+    match own_backer(validator, backers) {
         Some(backer) => backer.amount,
         None => 0,
     }
+}
+
+/// The validator among those who back it.
+fn own_backer(validator: AccountId, backers: &[Backer]) -> Option<&Backer>
+    ensures { option_copied result
+        ≡ find (λ backer. same_account backer.who validator) backers.now }
+{
+    backers.iter().find(|backer| backer.who == validator)
 }
 
 /// Appends the line, unless its amount is 0.
@@ -125,6 +137,7 @@ fn total_of(lines: &[Backer]) -> u64
 }
 
 /// The lines of a value that is paid.
+#[tactic(auto, using(crate::proofs::LineLemmas::own_within))]
 fn payout_lines(alloc: Global, exposure: &Exposure, value: u64) -> Result<List<Backer>, NoMemory>
     requires { IsSound exposure.now }
     ensures { IfOk result (λ lines. lines ≡ payout_lines exposure.now value) }
