@@ -63,7 +63,7 @@ kept_started eras exposures kept sound =
     }
 
 -- ---- what is found at a place
-all_at : {X : Type 0} (P : X → Type 0) (xs : List X) (n : ℕ) → All P xs → IfSome (slice_get xs n) P
+pub all_at : {X : Type 0} (P : X → Type 0) (xs : List X) (n : ℕ) → All P xs → IfSome (slice_get xs n) P
 all_at P [] n all = tt
 all_at P (x ∷ xs) zero all = All-head P x xs all
 all_at P (x ∷ xs) (suc n) all = all_at P xs n (All-tail P x xs all)

@@ -2,3 +2,5 @@ pub mod PartLemmas
 pub mod LineLemmas
 pub mod MemberLemmas
 pub mod EraLemmas
+pub mod HistoryLemmas
+pub mod LawLemmas
