@@ -4,3 +4,4 @@ pub mod MemberLemmas
 pub mod EraLemmas
 pub mod HistoryLemmas
 pub mod LawLemmas
+pub mod OtherLemmas

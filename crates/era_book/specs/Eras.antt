@@ -1,12 +1,12 @@
 -- The current era and those before it that are kept.
-use Rattle.std.specs.Prelude.{◌≡◌, ℕ, ◌+◌, ◌-◌, min, Bool, ◌||◌, nat_lt, if◌then◌else◌, List, [], ◌∷◌, length, take, slice_get, slice_set, unwrap_or, Option, None, All}
+use Rattle.std.specs.Prelude.{◌≡◌, ◌≢◌, ℕ, ◌+◌, ◌-◌, ◌≤◌, min, Bool, false, ◌||◌, nat_lt, if◌then◌else◌, List, [], ◌∷◌, length, take, slice_get, slice_set, unwrap_or, Option, Some, None, All}
 use Rattle.std.specs.Map.{values_of}
 use Rattle.npos_base.specs.declared.account.AccountId.{AccountId}
 use Rattle.npos_base.specs.declared.limits.TheConstants.{MOST_PAST_ERAS}
 use Rattle.era_book.specs.declared.exposure.Exposure.{Exposure}
 use Rattle.era_book.specs.declared.member.Member.{Member}
 use Rattle.era_book.specs.Exposures.{IsSound}
-use Rattle.era_book.specs.Members.{Members, member_of, members_with, with_member}
+use Rattle.era_book.specs.Members.{Members, member_of, newcomer, members_with, with_member}
 
 -- the number of the current era; and the members of the current era and of those before it, the
 -- latest first
@@ -52,6 +52,28 @@ with_members era members eras =
 abbrev pub with_member_in : ℕ → AccountId → (Member → Member) → Eras → Eras
 with_member_in era who change eras =
     with_members era (with_member who change (members_in eras era)) eras
+
+-- every member but this one is as it was
+abbrev pub OthersStay : ℕ → AccountId → Eras → Eras → Type 0
+OthersStay era who old new =
+    (other : ℕ) (account : AccountId) → (other ≡ era → account ≢ who) →
+    member_in new other account ≡ member_in old other account
+
+-- the members of each era that is still known are as they were
+abbrev pub EarlierStay : Eras → Eras → Type 0
+EarlierStay old new =
+    (era : ℕ) → era ≤ old.current → is_unknown new era ≡ false → members_in new era ≡ members_in old era
+
+-- the exposures are those of the members of an era
+abbrev pub HasExposures : Eras → ℕ → List Exposure → Type 0
+HasExposures eras era exposures =
+    All (λ exposure. member_in eras era exposure.validator ≡ Some (newcomer exposure)) exposures
+
+-- who is not among the exposures is no member
+abbrev pub HasNoOther : Eras → ℕ → List Exposure → Type 0
+HasNoOther eras era exposures =
+    (who : AccountId) → All (λ exposure. exposure.validator ≢ who) exposures →
+    member_in eras era who ≡ None
 
 abbrev pub AreMembers : Members → Type 0
 AreMembers members = All (λ member. IsSound member.exposure) (values_of members)

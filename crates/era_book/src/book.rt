@@ -4,7 +4,7 @@ ghost use Rattle.std.specs.Option.{option_copied};
 ghost use Rattle.npos_base.specs.Refusal.{IsDue, Meets, answer_of};
 ghost use Rattle.era_book.specs.declared.refusal.EraRefusal.TheVariants as refusals;
 ghost use Rattle.era_book.specs.Exposures.{amount_sum, AreSound};
-ghost use Rattle.era_book.specs.Eras.{first_era, started, member_in, era_of, is_unknown, AreMembers, AreKept};
+ghost use Rattle.era_book.specs.Eras.{first_era, started, member_in, era_of, is_unknown, OthersStay, EarlierStay, HasExposures, HasNoOther, AreMembers, AreKept};
 ghost use Rattle.era_book.specs.Calls.{points_refusal, pointed, payout_refusal, payout_in, IsUnclaimed, paid, slash_refusal, slash_in, IsBelow, reported};
 
 use crate::era::Era;
@@ -70,6 +70,9 @@ impl EraBook {
         requires sound { AreSound exposures }
         ensures ok { OnOk result (self.new ≡ started exposures self.old) }
         ensures err { OnErr result (self.new ≡ self.old) }
+        ensures newcomers { OnOk result (HasExposures self.new self.new.current exposures) }
+        ensures nobody_else { OnOk result (HasNoOther self.new self.new.current exposures) }
+        ensures earlier { OnOk result (EarlierStay self.old self.new) }
     {
         let era = Era::with_exposures(self.alloc, exposures)?;
         self.earlier.reserve(1)?;
@@ -139,7 +142,8 @@ impl EraBook {
     /// The validator's part of the era is claimed. It takes no memory.
     pub fn mark_paid(&mut self, era: u32, validator: AccountId)
         requires { IsUnclaimed (member_in self.old era validator) }
-        ensures { self.new ≡ paid era validator self.old }
+        ensures marked { self.new ≡ paid era validator self.old }
+        ensures others { OthersStay era validator self.old self.new }
     {
         let age = (self.current - era) as usize;
         if age == 0 {
@@ -184,7 +188,8 @@ impl EraBook {
     /// The fraction is kept for the validator and the era. It takes no memory.
     pub fn mark_slashed(&mut self, era: u32, validator: AccountId, fraction: u32)
         requires { IsBelow fraction (member_in self.old era validator) }
-        ensures { self.new ≡ reported era validator fraction self.old }
+        ensures marked { self.new ≡ reported era validator fraction self.old }
+        ensures others { OthersStay era validator self.old self.new }
     {
         let age = (self.current - era) as usize;
         if age == 0 {
