@@ -1,0 +1,8 @@
+use Rattle.std.proofs.Common.{refl}
+use Rattle.era_book.specs.Calls.{keeping}
+use Rattle.era_book.proofs.MemberLemmas.{counted_same}
+use Rattle.era_book.proofs.era.Era.keep.Goals as goal
+
+pub invariant_of-self : goal.invariant_of-self
+invariant_of-self c =
+    rw c.keep.ensures (counted_same c.args.who (keeping c.args.fraction) (λ member. refl) c.self.inside.members.entries c.self.inside.points c.self.invariant)

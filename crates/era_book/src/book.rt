@@ -1,0 +1,217 @@
+//! The eras that are kept.
+ghost use Rattle.std.specs.Prelude.{◌≡◌, ◌≤◌, ◌<◌, ◌-◌, ◌^◌, None, is_none, IfSome, IfOk, OnOk, OnErr, IfErr};
+ghost use Rattle.std.specs.Option.{option_copied};
+ghost use Rattle.npos_base.specs.Refusal.{IsDue, Meets, answer_of};
+ghost use Rattle.era_book.specs.declared.refusal.EraRefusal.TheVariants as refusals;
+ghost use Rattle.era_book.specs.Exposures.{amount_sum, AreSound};
+ghost use Rattle.era_book.specs.Eras.{first_era, started, member_in, era_of, is_unknown, OthersStay, EarlierStay, HasExposures, HasNoOther, AreMembers, AreKept};
+ghost use Rattle.era_book.specs.Calls.{points_refusal, pointed, payout_refusal, payout_in, IsUnclaimed, paid, slash_refusal, slash_in, IsBelow, reported};
+
+use crate::era::Era;
+use crate::{Backer, EraRefusal, Exposure, Payout};
+use npos_base::{AccountId, List, MOST_PAST_ERAS, NoMemory, WHOLE_FRACTION};
+use std::alloc::Global;
+use std::marker::Model;
+use std::mem;
+
+/// The current era and the 84 before it: who was exposed in each, and what happened since.
+/// Contracts see the current era's number, and for each era that is kept, the latest first, the
+/// list of accounts with their members.
+#[derive(Drop)]
+pub struct EraBook {
+    alloc: Global,
+    current: u32,
+    latest: Era,
+    /// The eras before the current one, the latest first.
+    earlier: Vec<Era>,
+}
+
+impl Model for EraBook {
+    ghost use Rattle.std.specs.Prelude.{◌∷◌};
+    ghost use Rattle.era_book.specs.Eras.{Eras, AreKept};
+
+    ghost Value = { Eras };
+
+    ghost view = { λ book. record {
+      current = book.current;
+      kept = book.latest ∷ book.earlier.items;
+    } };
+
+    ghost invariant = { λ book. AreKept (record {
+      current = book.current;
+      kept = book.latest ∷ book.earlier.items;
+    }) };
+}
+
+impl EraBook {
+    /// The book at era 0, which has no exposure. It takes no memory.
+    pub fn new(alloc: Global) -> EraBook
+        ensures { result ≡ first_era }
+    {
+        EraBook {
+            alloc,
+            current: 0,
+            latest: Era::new(alloc),
+            earlier: Vec::new(alloc),
+        }
+    }
+
+    /// The number of the current era. Each kept member has a sound exposure.
+    pub fn current(&self) -> u32
+        ensures current { result ≡ self.now.current }
+        ensures kept { AreKept self.now }
+    {
+        self.current
+    }
+
+    /// The next era begins, with these exposures. The eras older than 84 before it go.
+    pub fn start_era(&mut self, exposures: List<Exposure>) -> Result<(), NoMemory>
+        requires more { self.old.current < 2 ^ 32 - 1 }
+        requires sound { AreSound exposures }
+        ensures ok { OnOk result (self.new ≡ started exposures self.old) }
+        ensures err { OnErr result (self.new ≡ self.old) }
+        ensures newcomers { OnOk result (HasExposures self.new self.new.current exposures) }
+        ensures nobody_else { OnOk result (HasNoOther self.new self.new.current exposures) }
+        ensures earlier { OnOk result (EarlierStay self.old self.new) }
+    {
+        let era = Era::with_exposures(self.alloc, exposures)?;
+        self.earlier.reserve(1)?;
+        let past = mem::replace(&mut self.latest, era);
+        match self.earlier.insert(0, past) {
+            Ok(()) => {}
+            Err(_) => unreachable!(),
+        }
+        self.earlier.truncate(MOST_PAST_ERAS as usize);
+        self.current += 1;
+        Ok(())
+    }
+
+    /// Adds points to members of the current era, one item after the other. The points of one
+    /// member stay at 2^32 - 1 where they would pass it. It takes no memory, and refuses with
+    /// `NotExposed` where one of the accounts is no member.
+    pub fn add_points(&mut self, items: &[(AccountId, u32)]) -> Result<(), EraRefusal>
+        ensures meets { Meets refusals.NoMemory (points_refusal self.old items.now)
+            (pointed items.now self.old) self.old self.new result }
+        ensures answer { result ≡ answer_of (points_refusal self.old items.now) }
+    {
+        if !self.latest.contains_all(items) {
+            return Err(EraRefusal::NotExposed);
+        }
+        self.latest.gain_all(items);
+        Ok(())
+    }
+
+    /// What is paid for the validator's points in an era that is over, of the reward of that era in
+    /// units of stake. It refuses with `UnknownEra`, `EraNotOver`, `NotExposed`, `AlreadyClaimed`
+    /// or `NoPoints`.
+    pub fn payout_list(
+        &self,
+        alloc: Global,
+        era: u32,
+        validator: AccountId,
+        era_reward: u64,
+    ) -> Result<Payout, EraRefusal>
+        ensures ok { IfOk result (λ payout. payout ≡ payout_in self.now era validator era_reward) }
+        ensures accepted { OnOk result (payout_refusal self.now era validator ≡ None) }
+        ensures refused { IfErr result
+            (IsDue refusals.NoMemory (payout_refusal self.now era validator)) }
+        ensures markable { OnOk result (IsUnclaimed (member_in self.now era validator)) }
+        ensures total { IfOk result (λ payout. payout.total ≡ amount_sum payout.lines) }
+        ensures within { IfOk result (λ payout. payout.total ≤ era_reward) }
+    {
+        let Some(members) = self.era(era) else {
+            return Err(EraRefusal::UnknownEra);
+        };
+        if era == self.current {
+            return Err(EraRefusal::EraNotOver);
+        }
+        let Some(member) = members.get(validator) else {
+            return Err(EraRefusal::NotExposed);
+        };
+        if member.claimed {
+            return Err(EraRefusal::AlreadyClaimed);
+        }
+        if member.points == 0 {
+            return Err(EraRefusal::NoPoints);
+        }
+        let value = members.earned(member.points, era_reward);
+        let payout = member.payout(alloc, value)?;
+        Ok(payout)
+    }
+
+    /// The validator's part of the era is claimed. It takes no memory.
+    pub fn mark_paid(&mut self, era: u32, validator: AccountId)
+        requires { IsUnclaimed (member_in self.old era validator) }
+        ensures marked { self.new ≡ paid era validator self.old }
+        ensures others { OthersStay era validator self.old self.new }
+    {
+        let age = (self.current - era) as usize;
+        if age == 0 {
+            self.latest.claim(validator);
+        } else {
+            self.earlier[age - 1].claim(validator);
+        }
+    }
+
+    /// What is due from those who back the validator in the era where this fraction, in billionths,
+    /// is reported: what it is more than the fraction that is kept. It refuses with `BadFraction`,
+    /// `UnknownEra`, `NotExposed` or `NotGreater`.
+    pub fn slash_list(
+        &self,
+        alloc: Global,
+        era: u32,
+        validator: AccountId,
+        fraction: u32,
+    ) -> Result<List<Backer>, EraRefusal>
+        ensures ok { IfOk result (λ lines. lines ≡ slash_in self.now era validator fraction) }
+        ensures accepted { OnOk result (slash_refusal self.now era validator fraction ≡ None) }
+        ensures refused { IfErr result
+            (IsDue refusals.NoMemory (slash_refusal self.now era validator fraction)) }
+        ensures markable { OnOk result (IsBelow fraction (member_in self.now era validator)) }
+    {
+        if fraction == 0 || fraction > WHOLE_FRACTION {
+            return Err(EraRefusal::BadFraction);
+        }
+        let Some(members) = self.era(era) else {
+            return Err(EraRefusal::UnknownEra);
+        };
+        let Some(member) = members.get(validator) else {
+            return Err(EraRefusal::NotExposed);
+        };
+        if fraction <= member.fraction {
+            return Err(EraRefusal::NotGreater);
+        }
+        let lines = member.dues(alloc, fraction)?;
+        Ok(lines)
+    }
+
+    /// The fraction is kept for the validator and the era. It takes no memory.
+    pub fn mark_slashed(&mut self, era: u32, validator: AccountId, fraction: u32)
+        requires { IsBelow fraction (member_in self.old era validator) }
+        ensures marked { self.new ≡ reported era validator fraction self.old }
+        ensures others { OthersStay era validator self.old self.new }
+    {
+        let age = (self.current - era) as usize;
+        if age == 0 {
+            self.latest.keep(validator, fraction);
+        } else {
+            self.earlier[age - 1].keep(validator, fraction);
+        }
+    }
+
+    /// The members of an era that is known.
+    fn era(&self, era: u32) -> Option<&Era>
+        ensures members { option_copied result ≡ era_of self.now era }
+        ensures known { is_none result ≡ is_unknown self.now era }
+        ensures sound { IfSome result (λ members. AreMembers members.now) }
+    {
+        if era > self.current {
+            return None;
+        }
+        let age = (self.current - era) as usize;
+        if age == 0 {
+            return Some(&self.latest);
+        }
+        self.earlier.get(age - 1)
+    }
+}

@@ -1,0 +1,26 @@
+//! What holds of payouts and slashes. Each law is the contract of a function that does nothing.
+ghost use Rattle.era_book.specs.Laws.{PayoutLaw, TelescopeLaw, RewardLaw, DueLaw};
+
+/// A validator and its backers together are paid at most what is to be paid to them: each part is
+/// rounded down.
+pub fn a_payout_is_within_its_value()
+    ensures { PayoutLaw }
+{}
+
+/// Two reports one after the other make due what the greater one alone would, so that no unit is
+/// due twice.
+pub fn dues_telescope()
+    ensures { TelescopeLaw }
+{}
+
+/// Whatever happens to an era book, all that is paid of one era, over all its validators, is at
+/// most the reward of that era.
+pub fn payouts_are_within_the_reward()
+    ensures { RewardLaw }
+{}
+
+/// Whatever happens to an era book, all that one era makes due from one account, over all its
+/// validators and all reports, is at most what the exposures of that era hold for it.
+pub fn dues_are_within_the_exposures()
+    ensures { DueLaw }
+{}

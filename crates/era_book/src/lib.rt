@@ -1,0 +1,21 @@
+//! What is kept of the last eras, after Substrate's staking pallet: who was exposed, the points of
+//! each validator, whether its part of the reward is claimed, and the greatest fraction that was
+//! reported of it. What follows for payouts and slashes over any history stands in `laws`.
+#![tactic(auto)]
+
+mod book;
+mod era;
+mod exposure;
+pub mod laws;
+mod member;
+mod members;
+mod payout;
+mod refusal;
+
+pub use book::EraBook;
+pub use exposure::{Backer, Exposure};
+pub use payout::Payout;
+pub use refusal::EraRefusal;
+
+#[cfg(test)]
+mod tests;

@@ -1,0 +1,33 @@
+//! Why a call on the era book is refused.
+ghost use Rattle.std.specs.Prelude.{◌≡◌};
+ghost use Rattle.era_book.specs.declared.refusal.EraRefusal.TheVariants.{NoMemory as NoMemoryRefusal};
+
+use npos_base::NoMemory;
+
+/// Why a call of `EraBook` was refused. A refusal changes nothing.
+#[derive(Clone, Copy, Debug, PartialEq, Eq, Hash)]
+pub enum EraRefusal {
+    /// A fraction is 0 or above 10^9 billionths.
+    BadFraction,
+    /// The era has not begun, or it stands more than 84 before the current one.
+    UnknownEra,
+    /// The era is the current one.
+    EraNotOver,
+    /// The account is not exposed in the era.
+    NotExposed,
+    /// The validator's part of the era's reward is claimed already.
+    AlreadyClaimed,
+    /// The fraction is not above the one that is kept.
+    NotGreater,
+    /// The validator has no points.
+    NoPoints,
+    NoMemory,
+}
+
+impl From<NoMemory> for EraRefusal {
+    ghost from_gives = { λ _ refusal. refusal ≡ NoMemoryRefusal };
+
+    fn from(_want: NoMemory) -> EraRefusal {
+        EraRefusal::NoMemory
+    }
+}

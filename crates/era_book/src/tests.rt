@@ -1,0 +1,187 @@
+//! The worked payout and the worked slashes, each refusal, and the eras that go. Expected answers
+//! are the rules', by hand.
+ghost use Rattle.std.specs.Prelude.{◌≡◌, ◌<◌, ◌^◌, ◌-◌, IfOk};
+ghost use Rattle.era_book.specs.Exposures.{AreSound};
+
+use crate::{Backer, EraBook, EraRefusal, Exposure, laws};
+use npos_base::{AccountId, List, NoMemory};
+use std::alloc::Global;
+use std::fmt::Write;
+use std::test::Fail;
+
+/// Claims in turn, each an era, a validator and what is told where the reward is 1000.
+const CLAIMS: [(u32, u8, &str); 6] = [
+    (1, 1, "1 256, 2 171, 427"),
+    (1, 1, "refused 24"),
+    (3, 9, "refused 21"),
+    (2, 9, "refused 22"),
+    (1, 9, "refused 23"),
+    (1, 5, "refused 26"),
+];
+
+/// Reports in turn, each an era, a validator, a fraction and what is told.
+const REPORTS: [(u32, u8, u32, &str); 9] = [
+    (1, 3, 100_000_000, "4 5, "),
+    (1, 3, 250_000_000, "4 8, "),
+    (1, 3, 200_000_000, "refused 25"),
+    (1, 3, 250_000_000, "refused 25"),
+    (1, 1, 1_000_000_000, "1 50, 2 40, "),
+    (9, 9, 0, "refused 15"),
+    (9, 9, 1_000_000_001, "refused 15"),
+    (9, 9, 1, "refused 21"),
+    (2, 3, 1, "refused 23"),
+];
+
+/// The account of 31 bytes 0 and this one.
+const fn at(n: u8) -> AccountId {
+    AccountId {
+        hi: 0,
+        lo: n as u128,
+    }
+}
+
+fn number(refusal: EraRefusal) -> u32 {
+    match refusal {
+        EraRefusal::BadFraction => 15,
+        EraRefusal::UnknownEra => 21,
+        EraRefusal::EraNotOver => 22,
+        EraRefusal::NotExposed => 23,
+        EraRefusal::AlreadyClaimed => 24,
+        EraRefusal::NotGreater => 25,
+        EraRefusal::NoPoints => 26,
+        EraRefusal::NoMemory => 0,
+    }
+}
+
+/// Three validators: with two backers, one of them itself; with another; and with none.
+fn three(alloc: Global) -> Result<List<Exposure>, NoMemory>
+    ensures { IfOk result AreSound }
+{
+    let first = [(1, 50), (2, 40)].map(|(n, amount)| Backer { who: at(n), amount });
+    let second = [Backer {
+        who: at(4),
+        amount: 55,
+    }];
+    let first = Exposure {
+        validator: at(1),
+        commission: 100_000_000,
+        support: 90,
+        backers: List::from_vec(Vec::from_slice(alloc, &first)?),
+    };
+    let second = Exposure {
+        validator: at(3),
+        commission: 0,
+        support: 55,
+        backers: List::from_vec(Vec::from_slice(alloc, &second)?),
+    };
+    let third = Exposure {
+        validator: at(5),
+        commission: 500_000_000,
+        support: 0,
+        backers: List::new(alloc),
+    };
+    Ok(List::from_vec(vec![in alloc; first, second, third]?))
+}
+
+/// The next era begins without an exposure.
+fn start_empty(alloc: Global, book: &mut EraBook) -> Result<(), Fail> {
+    if book.current() < 1000 {
+        book.start_era(List::new(alloc))?;
+    }
+    Ok(())
+}
+
+/// A book at era 2, where three validators were exposed in era 1 and got these points.
+fn two_eras(alloc: Global, points: &[(AccountId, u32)]) -> Result<EraBook, Fail> {
+    let mut book = EraBook::new(alloc);
+    book.start_era(three(alloc)?)?;
+    book.add_points(points)?;
+    start_empty(alloc, &mut book)?;
+    Ok(book)
+}
+
+/// Claims a validator's part of an era, and tells what is paid or the number of the refusal.
+fn claimed(alloc: Global, book: &mut EraBook, era: u32, n: u8) -> Result<String, Fail> {
+    let mut text = String::new(alloc);
+    match book.payout_list(alloc, era, at(n), 1000) {
+        Ok(payout) => {
+            book.mark_paid(era, at(n));
+            for line in payout.lines.as_slice() {
+                write!(text, "{} {}, ", line.who.lo, line.amount)?;
+            }
+            write!(text, "{}", payout.total)?;
+        }
+        Err(refusal) => write!(text, "refused {}", number(refusal))?,
+    }
+    Ok(text)
+}
+
+/// Reports a fraction, and tells what is due or the number of the refusal.
+fn reported(
+    alloc: Global,
+    book: &mut EraBook,
+    era: u32,
+    n: u8,
+    fraction: u32,
+) -> Result<String, Fail> {
+    let mut text = String::new(alloc);
+    match book.slash_list(alloc, era, at(n), fraction) {
+        Ok(lines) => {
+            book.mark_slashed(era, at(n), fraction);
+            for line in lines.as_slice() {
+                write!(text, "{} {}, ", line.who.lo, line.amount)?;
+            }
+        }
+        Err(refusal) => write!(text, "refused {}", number(refusal))?,
+    }
+    Ok(text)
+}
+
+#[test]
+fn validators_are_paid_once(rt: HostRuntime) -> Result<(), Fail> {
+    let alloc = rt.alloc();
+    let mut book = two_eras(alloc, &[(at(1), 3), (at(3), 4)])?;
+    for (era, n, told) in CLAIMS {
+        assert_eq!(rt; claimed(alloc, &mut book, era, n)?.as_str(), told);
+    }
+    assert_eq!(rt; book.add_points(&[]), Ok(()));
+    assert_eq!(rt; book.add_points(&[(at(1), 3)]), Err(EraRefusal::NotExposed));
+    Ok(())
+}
+
+#[test]
+fn only_what_is_more_is_due(rt: HostRuntime) -> Result<(), Fail> {
+    let alloc = rt.alloc();
+    let mut book = two_eras(alloc, &[])?;
+    for (era, n, fraction, told) in REPORTS {
+        assert_eq!(rt;
+            reported(alloc, &mut book, era, n, fraction)?.as_str(),
+            told
+        );
+    }
+    Ok(())
+}
+
+#[test]
+fn eighty_four_eras_stay(rt: HostRuntime) -> Result<(), Fail> {
+    let alloc = rt.alloc();
+    let mut book = two_eras(alloc, &[(at(5), u32::MAX), (at(5), 7), (at(3), u32::MAX)])?;
+    for _ in 2..84 {
+        start_empty(alloc, &mut book)?;
+    }
+    assert_eq!(rt; claimed(alloc, &mut book, 0, 1)?.as_str(), "refused 23");
+    start_empty(alloc, &mut book)?;
+    assert_eq!(rt; book.current(), 85);
+    assert_eq!(rt; claimed(alloc, &mut book, 0, 1)?.as_str(), "refused 21");
+    assert_eq!(rt; claimed(alloc, &mut book, 1, 5)?.as_str(), "5 250, 250");
+    assert_eq!(rt; claimed(alloc, &mut book, 1, 3)?.as_str(), "4 500, 500");
+    Ok(())
+}
+
+#[test]
+fn each_law_is_called(_rt: HostRuntime) {
+    laws::a_payout_is_within_its_value();
+    laws::dues_telescope();
+    laws::payouts_are_within_the_reward();
+    laws::dues_are_within_the_exposures();
+}
