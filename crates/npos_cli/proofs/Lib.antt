@@ -15,3 +15,6 @@ pub mod WholeLaws
 pub mod FaultLaws
 pub mod SeatLaws
 pub mod CrowdingLaws
+pub mod SpelledLaws
+pub mod MinedLaws
+pub mod ReportLaws

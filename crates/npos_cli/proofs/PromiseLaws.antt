@@ -26,7 +26,7 @@ use Rattle.npos_cli.specs.declared.job.Task.{Task}
 use Rattle.npos_cli.specs.declared.job.Task.TheVariants as tasks
 use Rattle.npos_cli.specs.declared.job.Miner.TheVariants as miners
 use Rattle.npos_cli.specs.Bundles.{Report, faulty, verdict_status, work_report, election_of, read_election}
-use Rattle.npos_cli.specs.Tasks.{task_report, report_on, bundle_report}
+use Rattle.npos_cli.specs.Tasks.{IsBundleReport}
 use Rattle.npos_cli.specs.Words.{HasForm, job_of, usage_line}
 use Rattle.npos_cli.specs.Report.{JobOwes, Owes, replay_status, ReadsInput, IsAnswer, IsJudged}
 use Rattle.npos_cli.specs.Replay.{Outcome, IsReplay}
@@ -63,8 +63,8 @@ pub usage_front_of : (words : List (List ℕ)) (left : Option (List ℕ)) (old n
 usage_front_of words left old new begins unformed = begins usage_line statuses.Usage (usage_owed words left unformed)
 
 -- no report has the status Usage
-no_usage : (task : Task) (bytes : List ℕ) → statuses.Usage ≡ (bundle_report task bytes).status → ⊥
-no_usage task bytes = of_bundle (λ status. statuses.Usage ≡ status → ⊥) (λ e. cc) (λ e. cc) (λ e. cc) task bytes
+no_usage : (task : Task) (bytes : List ℕ) (report : Report) → IsBundleReport task bytes report → statuses.Usage ≡ report.status → ⊥
+no_usage task bytes report is = of_bundle (λ status. statuses.Usage ≡ status → ⊥) (λ e. cc) (λ e. cc) (λ e. cc) task bytes report is
 
 -- no job owes the status Usage
 usage_by : (job : Option Job) (bytes text : List ℕ) → JobOwes job bytes text statuses.Usage → (IsSome job → ⊥) × (text ≡ usage_line)
@@ -73,7 +73,7 @@ usage_by (Some jobs.Replay) bytes text owes = absurd (not_usage owes.0.faulty ow
   not_usage : (faulty : Bool) → statuses.Usage ≡ replay_status faulty → ⊥
   not_usage true e = cc
   not_usage false e = cc
-usage_by (Some (jobs.OnBundle task)) bytes text owes = absurd (no_usage task bytes (ap (λ (r : Report). r.status) owes))
+usage_by (Some (jobs.OnBundle task)) bytes text owes = absurd (no_usage task bytes (record { text = text; status = statuses.Usage }) owes refl)
 
 pub usage_due : (words : List (List ℕ)) (left : Option (List ℕ)) (old new : Option Told) (answer : Status)
     → (IsAnswer answer → Answers words left old new answer) → answer ≡ statuses.Usage → (HasForm words → ⊥) × Delivers old new usage_line

@@ -19,10 +19,12 @@ use Rattle.block_wire.specs.Bundles.{bundle_form}
 use Rattle.block_wire.specs.BundleLaws.{bundle_laws}
 use Rattle.npos_cli.specs.Verdicts.{long_line, most_bundle}
 use Rattle.npos_cli.specs.declared.job.Task.{Task}
-use Rattle.npos_cli.specs.Bundles.{Report, faulty, read_election}
-use Rattle.npos_cli.specs.Tasks.{report_on, bundle_report, IsSound}
+use Rattle.npos_cli.specs.declared.reading.Election.{Election as bundle_election}
+use Rattle.npos_cli.specs.Bundles.{Report, faulty, read_election, election_in}
+use Rattle.npos_cli.specs.Tasks.{IsReportOn, IsBundleReport, IsSound}
 use Rattle.npos_cli.specs.Owed.{IsAll, LeftAfter, ReadsUpTo, TakesAtMost, IsDrained, Delivers, DeliversFront, FindsReplay, Finds, FindsFor, IsOwed, BeginsToAnswer}
 use Rattle.npos_cli.proofs.ReplayLaws.{one_replay, any_replay}
+use Rattle.npos_cli.proofs.ReportLaws.{one_report, any_report}
 use Rattle.npos_cli.proofs.ChainLaws.{genesis_laws, turn_laws}
 
 -- what a replay found is what is owed
@@ -61,7 +63,8 @@ one_owed words bytes text other status end first second = by (job_of words) firs
       let same = one_replay npos_machine genesis_laws turn_laws bytes first.0 second.0 first.1 second.1 in
       (first.2 ∙ (ap (λ (o : Outcome Chain Election). o.text) same ∙ sym second.2), first.3 ∙ (ap (λ (o : Outcome Chain Election). replay_status o.faulty) same ∙ sym second.3))
   by (Some (jobs.OnBundle task)) first second =
-      (ap (λ (r : Report). r.text) (first ∙ sym second), ap (λ (r : Report). r.status) (first ∙ sym second))
+      let same = one_report task bytes (record { text = text; status = status }) (record { text = other; status = end }) first second in
+      (ap (λ (r : Report). r.text) same, ap (λ (r : Report). r.status) same)
 
 -- a front of what was found is a front of what is owed
 pub front_found : (words : List (List ℕ)) (left : Option (List ℕ)) (old new : Option Told) (text : List ℕ) (status : Status) → Finds words left text status
@@ -83,7 +86,7 @@ any_owed words bytes are = by (job_of words) where
   by (Some jobs.Replay) =
       let r = any_replay npos_machine genesis_laws turn_laws bytes are in
       (r.outcome.text, replay_status r.outcome.faulty, (r.outcome, r.is_replay, refl, refl))
-  by (Some (jobs.OnBundle task)) = ((bundle_report task bytes).text, (bundle_report task bytes).status, refl)
+  by (Some (jobs.OnBundle task)) = let r = any_report task bytes in (r.0.text, r.0.status, r.1)
 
 -- ## A bundle
 
@@ -95,46 +98,54 @@ all_left most left now bytes reads within =
     sym (t.2 ∙ (ap (λ (rest : List ℕ). bytes ++ rest) empty ∙ append-nil bytes))
 
 -- more than the limit is reported alike, whatever follows
-long_report : (task : Task) (bytes : List ℕ) → most_bundle < length bytes → bundle_report task bytes ≡ faulty long_line
-long_report task bytes over = ap (report_on task (length bytes)) (long (nat_lt most_bundle (length bytes)) (lt-ltb most_bundle (length bytes) over)) where
+election_long : (bytes : List ℕ) → most_bundle < length bytes → election_in bytes ≡ Err (faulty long_line)
+election_long bytes over = long (nat_lt most_bundle (length bytes)) (lt-ltb most_bundle (length bytes) over) where
   long : (b : Bool) → b ≡ true → (if b then Err (faulty long_line) else read_election (read_as bundle_form bundle_laws bytes)) ≡ Err (faulty long_line)
   long true e = refl
   long false e = absurd (true≢false (sym e))
 
+long_report : (task : Task) (bytes : List ℕ) (report : Report) → most_bundle < length bytes → IsBundleReport task bytes report → report ≡ faulty long_line
+long_report task bytes report over is =
+    subst (λ (e : Result bundle_election Report). IsReportOn task (length bytes) e report) (election_long bytes over) is
+
+long_reported : (task : Task) (bytes : List ℕ) (report : Report) → most_bundle < length bytes → report ≡ faulty long_line → IsBundleReport task bytes report
+long_reported task bytes report over is =
+    subst (λ (e : Result bundle_election Report). IsReportOn task (length bytes) e report) (sym (election_long bytes over)) is
+
 -- what is reported of the bytes that were read is what is reported of all
-pub report_read : (task : Task) (left : List ℕ) (now : Option (List ℕ)) (bytes : List ℕ) → ReadsUpTo most_bundle (Some left) now bytes
-    → bundle_report task bytes ≡ bundle_report task left
-report_read task left now bytes reads = elim (cases_lt most_bundle (length bytes)) [
+pub report_read : (task : Task) (left : List ℕ) (now : Option (List ℕ)) (bytes : List ℕ) (report : Report) → ReadsUpTo most_bundle (Some left) now bytes
+    → IsBundleReport task bytes report → IsBundleReport task left report
+report_read task left now bytes report reads is = elim (cases_lt most_bundle (length bytes)) [
   | inl over ↦
-      long_report task bytes over ∙ sym (long_report task left (let t = reads.taken in
-      omega (arith, over, ap length t.2, length-append bytes t.0)))
-  | inr within ↦ ap (bundle_report task) (all_left most_bundle left now bytes reads within)
+      long_reported task left report (let t = reads.taken in
+      omega (arith, over, ap length t.2, length-append bytes t.0)) (long_report task bytes report over is)
+  | inr within ↦ subst (λ (b : List ℕ). IsBundleReport task b report) (all_left most_bundle left now bytes reads within) is
 ]
 
 pub bundle_found : (task : Task) (old now : Option (List ℕ)) (bytes text : List ℕ) (status : Status) → ReadsUpTo most_bundle old now bytes
-    → record { text = text; status = status } ≡ bundle_report task bytes → FindsFor (Some (jobs.OnBundle task)) old text status
+    → IsBundleReport task bytes (record { text = text; status = status }) → FindsFor (Some (jobs.OnBundle task)) old text status
 bundle_found task None now bytes text status reads is = (bytes, tt, is)
-bundle_found task (Some left) now bytes text status reads is = (left, refl, is ∙ report_read task left now bytes reads)
+bundle_found task (Some left) now bytes text status reads is = (left, refl, report_read task left now bytes (record { text = text; status = status }) reads is)
 
 -- an answer of Done or No comes of bytes within the limit
-pub bundle_within : (task : Task) (bytes text : List ℕ) (status : Status) → record { text = text; status = status } ≡ bundle_report task bytes → IsJudged status
+pub bundle_within : (task : Task) (bytes text : List ℕ) (status : Status) → IsBundleReport task bytes (record { text = text; status = status }) → IsJudged status
     → length bytes ≤ most_bundle
 bundle_within task bytes text status is judged = elim (cases_lt most_bundle (length bytes)) [
   | inl over ↦
-      let faulty_is : status ≡ statuses.BadInput = ap (λ (r : Report). r.status) (is ∙ long_report task bytes over) in
+      let faulty_is : status ≡ statuses.BadInput = ap (λ (r : Report). r.status) (long_report task bytes (record { text = text; status = status }) over is) in
       absurd (subst (λ (s : Status). IsJudged s) faulty_is judged)
   | inr within ↦ within
 ]
 
 pub bundle_drained : (task : Task) (old now : Option (List ℕ)) (bytes text : List ℕ) (status : Status) → ReadsUpTo most_bundle old now bytes
-    → record { text = text; status = status } ≡ bundle_report task bytes → IsJudged status → IsDrained old now
+    → IsBundleReport task bytes (record { text = text; status = status }) → IsJudged status → IsDrained old now
 bundle_drained task old now bytes text status reads is judged = reads.ended (bundle_within task bytes text status is judged)
 
 pub bundle_few : (old now : Option (List ℕ)) (bytes : List ℕ) → ReadsUpTo most_bundle old now bytes → TakesAtMost (most_bundle + 1) old now
 bundle_few old now bytes reads = (bytes, reads.taken, reads.few)
 
 pub bundle_sound : (task : Task) (old now : Option (List ℕ)) (bytes text : List ℕ) (status : Status) → ReadsUpTo most_bundle old now bytes
-    → record { text = text; status = status } ≡ bundle_report task bytes → (status ≡ statuses.Done → IsSound task bytes) → status ≡ statuses.Done
+    → IsBundleReport task bytes (record { text = text; status = status }) → (status ≡ statuses.Done → IsSound task bytes) → status ≡ statuses.Done
     → IfSome old (IsSound task)
 bundle_sound task None now bytes text status reads is sound done = tt
 bundle_sound task (Some left) now bytes text status reads is sound done =

@@ -14,6 +14,9 @@ use Rattle.election_snapshot.specs.declared.fault.SnapshotFault.{SnapshotFault}
 use Rattle.election_snapshot.specs.Snapshot.{Snapshot, IsWellFormed}
 use Rattle.weight_book.specs.Weights.{Weights}
 use Rattle.weight_book.proofs.AveragingLemmas.{averaging}
+use Rattle.weight_book.specs.Scoring.{score_of}
+use Rattle.compact_solution.specs.Solution.{Entry, solution_form}
+use Rattle.compact_solution.specs.Decoded.{decoded}
 use Rattle.quota_fill.specs.Filled.{filled}
 use Rattle.quota_fill.proofs.PassingLemmas.{fill_passes}
 use Rattle.election_check.specs.declared.verdict.Verdict.{Verdict}
@@ -21,6 +24,7 @@ use Rattle.election_check.specs.declared.verdict.Verdict.TheVariants as verdicts
 use Rattle.election_check.specs.First.{or_yes}
 use Rattle.election_check.specs.Plain.{verdict_plain}
 use Rattle.election_check.specs.Packed.{verdict_packed, expanded}
+use Rattle.election_check.specs.Laws.{packed_of}
 use Rattle.election_check.proofs.FaultLemmas.{plain_yes}
 use Rattle.election_check.proofs.PassingLemmas.{passes, no_plain_fault}
 use Rattle.election_check.proofs.PackedLemmas.{accepted}
@@ -28,6 +32,7 @@ use Rattle.npos_cli.specs.declared.answers.Answer.{Answer}
 use Rattle.npos_cli.specs.declared.reading.Election.{Election}
 use Rattle.npos_cli.specs.declared.job.Task.{Task}
 use Rattle.npos_cli.specs.declared.job.Task.TheVariants as tasks
+use Rattle.npos_cli.specs.declared.job.Miner.{Miner}
 use Rattle.npos_cli.specs.declared.job.Miner.TheVariants as miners
 use Rattle.npos_cli.specs.declared.status.Status.{Status}
 use Rattle.npos_cli.specs.declared.status.Status.TheVariants as statuses
@@ -35,8 +40,10 @@ use Rattle.npos_cli.specs.Answer.{report_of}
 use Rattle.npos_cli.specs.Elections.{snapshot_of}
 use Rattle.npos_cli.specs.Texts.{fault_line}
 use Rattle.npos_cli.specs.Verdicts.{snapshot_line, long_line, most_bundle}
-use Rattle.npos_cli.specs.Bundles.{Report, faulty, verdict_status, election_of, read_election, election_in}
-use Rattle.npos_cli.specs.Tasks.{task_report, AreWeights, IsSoundElection, IsSound}
+use Rattle.npos_cli.specs.Bundles.{Report, faulty, verdict_status, work_report, election_of, read_election, election_in}
+use Rattle.npos_cli.specs.Mining.{packed_report, IsMineReport, IsExpanded}
+use Rattle.npos_cli.specs.Tasks.{IsTaskReport, AreWeights, IsSoundElection, IsSound}
+use Rattle.npos_cli.proofs.MinedLaws.{IsGiving, seq_gives, mms_gives, solution_read}
 
 -- only a Yes is done
 done_is_yes : (verdict : Verdict) → statuses.Done ≡ verdict_status verdict → verdict ≡ verdicts.Yes
@@ -60,10 +67,10 @@ sound_weights task election weights well are yes_is =
     let passing = passes election.snapshot weights (plain_yes election.snapshot weights yes_is) in
     record { weights = weights; are_weights = are; feasible = passing.feasible; proportional = averaging election.snapshot weights well passing }
 
-abbrev on_work : Snapshot → Work → Election
+abbrev pub on_work : Snapshot → Work → Election
 on_work snapshot work = record { snapshot = snapshot; work = work }
 
-sound_check : (size : ℕ) (snapshot : Snapshot) (work : Work) (report : Report) → IsWellFormed snapshot → report ≡ task_report tasks.Check size (on_work snapshot work)
+sound_check : (size : ℕ) (snapshot : Snapshot) (work : Work) (report : Report) → IsWellFormed snapshot → report ≡ work_report size snapshot work
     → report.status ≡ statuses.Done → IsSoundElection tasks.Check (on_work snapshot work)
 sound_check size snapshot Nothing report well is done =
     let e : statuses.Done ≡ statuses.BadInput = sym done ∙ ap (λ (r : Report). r.status) is in absurd (cc)
@@ -75,16 +82,43 @@ sound_check size snapshot (Plain committee edges) report well is done =
     sound_weights tasks.Check (on_work snapshot (Plain committee edges)) weights well refl
     (done_is_yes (verdict_plain snapshot weights) (sym done ∙ ap (λ (r : Report). r.status) is))
 
-sound_task : (task : Task) (size : ℕ) (election : Election) (report : Report) → IsWellFormed election.snapshot → report ≡ task_report task size election
+-- ## What was packed
+
+sound_packed : (miner : Miner) (election : Election) (own : Weights) (packed : Result (List (List Entry)) ℕ) (report : Report) → IsWellFormed election.snapshot
+    → packed_of election.snapshot own ≡ packed → IsGiving election.snapshot own
+    → ((weights : Weights) → IsExpanded election.snapshot own weights → AreWeights (tasks.Mine miner) election weights)
+    → report ≡ packed_report election.snapshot packed → report.status ≡ statuses.Done → IsSoundElection (tasks.Mine miner) election
+sound_packed miner election own (Err member) report well packs fits are is done =
+    let e : statuses.Done ≡ statuses.No = sym done ∙ ap (λ (r : Report). r.status) is in absurd (cc)
+sound_packed miner election own (Ok solution) report well packs fits are is done =
+    let weights = expanded election.snapshot solution in
+    let bytes = solution_form.spelling solution in
+    let a = accepted election.snapshot (score_of weights) bytes
+    (done_is_yes (verdict_packed election.snapshot (score_of weights) bytes) (sym done ∙ ap (λ (r : Report). r.status) is)) in
+    let same : a.solution ≡ solution = let e : Ok a.solution ≡ Ok solution = sym a.decoded_is ∙ solution_read election.snapshot own well fits solution packs in cc in
+    sound_weights (tasks.Mine miner) election weights well (are weights (solution, packs, refl))
+    (subst (λ (s : List (List Entry)). verdict_plain election.snapshot (expanded election.snapshot s) ≡ verdicts.Yes) same a.plain_yes)
+
+sound_mine : (miner : Miner) (election : Election) (report : Report) → IsWellFormed election.snapshot → IsMineReport miner election.snapshot report
+    → report.status ≡ statuses.Done → IsSoundElection (tasks.Mine miner) election
+sound_mine miners.Fill election report well (own, mined, is) done =
+    sound_weights (tasks.Mine miners.Fill) election own well (own, mined, refl)
+    (done_is_yes (verdict_plain election.snapshot own) (sym done ∙ ap (λ (r : Report). r.status) is))
+sound_mine miners.Seq election report well (own, mined, is) done =
+    sound_packed miners.Seq election own (packed_of election.snapshot own) report well refl (seq_gives election.snapshot own well mined)
+    (λ weights expands. (own, mined, expands)) is done
+sound_mine miners.Mms election report well (own, mined, is) done =
+    sound_packed miners.Mms election own (packed_of election.snapshot own) report well refl (mms_gives election.snapshot own mined)
+    (λ weights expands. (own, mined, expands)) is done
+
+sound_task : (task : Task) (size : ℕ) (election : Election) (report : Report) → IsWellFormed election.snapshot → IsTaskReport task size election report
     → report.status ≡ statuses.Done → IsSoundElection task election
 sound_task tasks.Check size election report well is done = sound_check size election.snapshot election.work report well is done
-sound_task (tasks.Mine miners.Fill) size election report well is done =
-    sound_weights (tasks.Mine miners.Fill) election (filled election.snapshot) well refl
-    (done_is_yes (verdict_plain election.snapshot (filled election.snapshot)) (sym done ∙ ap (λ (r : Report). r.status) is))
+sound_task (tasks.Mine miner) size election report well is done = sound_mine miner election report well is done
 
 -- an answer on an election that is done tells of sound weights
 pub sound_answer : (task : Task) (size : ℕ) (election : Election) (result : Result Answer NoMemory) → IsWellFormed election.snapshot
-    → IfOk result (λ answer. report_of answer ≡ task_report task size election)
+    → IfOk result (λ answer. IsTaskReport task size election (report_of answer))
     → IfOk result (λ answer. answer.status ≡ statuses.Done → IsSoundElection task election)
 sound_answer task size election (Ok answer) well report = λ done. sound_task task size election (report_of answer) well report done
 sound_answer task size election (Err want) well report = tt
@@ -94,17 +128,19 @@ sound_answer task size election (Err want) well report = tt
 pub fill_is_yes : (snapshot : Snapshot) → IsWellFormed snapshot → verdict_plain snapshot (filled snapshot) ≡ verdicts.Yes
 fill_is_yes snapshot well = ap or_yes (no_plain_fault snapshot (filled snapshot) (fill_passes snapshot well))
 
-fill_is_done : (task : Task) (size : ℕ) (election : Election) (report : Report) → IsWellFormed election.snapshot → report ≡ task_report task size election
+fill_is_done : (task : Task) (size : ℕ) (election : Election) (report : Report) → IsWellFormed election.snapshot → IsTaskReport task size election report
     → task ≡ tasks.Mine miners.Fill → report.status ≡ statuses.Done
 fill_is_done task size election report well is asked =
-    ap (λ (r : Report). r.status) (is ∙ ap (λ (t : Task). task_report t size election) asked)
-    ∙ ap verdict_status (fill_is_yes election.snapshot well)
+    let (own, mined, reported) = subst (λ (t : Task). IsTaskReport t size election report) asked is in
+    ap (λ (r : Report). r.status) reported
+    ∙ (ap (λ (weights : Weights). verdict_status (verdict_plain election.snapshot weights)) mined
+    ∙ ap verdict_status (fill_is_yes election.snapshot well))
 
 done_is_no_no : (status : Status) → status ≡ statuses.Done → status ≢ statuses.No
 done_is_no_no status done = λ refused. let e : statuses.Done ≡ statuses.No = sym done ∙ refused in cc
 
 pub fill_answer : (task : Task) (size : ℕ) (election : Election) (result : Result Answer NoMemory) → IsWellFormed election.snapshot
-    → IfOk result (λ answer. report_of answer ≡ task_report task size election)
+    → IfOk result (λ answer. IsTaskReport task size election (report_of answer))
     → task ≡ tasks.Mine miners.Fill → IfOk result (λ answer. answer.status ≢ statuses.No)
 fill_answer task size election (Ok answer) well report asked = done_is_no_no answer.status (fill_is_done task size election (report_of answer) well report asked)
 fill_answer task size election (Err want) well report asked = tt
@@ -132,14 +168,14 @@ refused_is_bad bytes report e = by (nat_lt most_bundle (length bytes)) e where
   by true e = bad (faulty long_line) report e refl
   by false e = read_bad (read_as bundle_form bundle_laws bytes) report e
 
-record IsRead (bytes : List ℕ) (election : Election) : Type 0 where
+pub record IsRead (bytes : List ℕ) (election : Election) : Type 0 where
   pub bundle : Bundle
   pub is_bundle : read_as bundle_form bundle_laws bytes ≡ Ok bundle
   pub snapshot : Snapshot
   pub is_snapshot : snapshot_of bundle ≡ Ok snapshot
   pub is_election : on_work snapshot bundle.work ≡ election
 
-was_read : (bytes : List ℕ) (election : Election) → election_in bytes ≡ Ok election → IsRead bytes election
+pub was_read : (bytes : List ℕ) (election : Election) → election_in bytes ≡ Ok election → IsRead bytes election
 was_read bytes election e = by (nat_lt most_bundle (length bytes)) e where
   built : (bundle : Bundle) → read_as bundle_form bundle_laws bytes ≡ Ok bundle → (found : Result Snapshot SnapshotFault) → snapshot_of bundle ≡ found
       → election_of bundle found ≡ Ok election → IsRead bytes election

@@ -9,23 +9,29 @@ use Rattle.block_wire.specs.Bundles.{bundle_form}
 use Rattle.block_wire.specs.BundleLaws.{bundle_laws}
 use Rattle.election_snapshot.specs.Snapshot.{Snapshot}
 use Rattle.election_snapshot.specs.declared.fault.SnapshotFault.{SnapshotFault}
-use Rattle.quota_fill.specs.Filled.{filled}
+use Rattle.weight_book.specs.Weights.{Weights}
+use Rattle.weight_book.specs.Scoring.{score_of}
+use Rattle.compact_solution.specs.Solution.{Entry, solution_form}
 use Rattle.election_check.specs.declared.verdict.Verdict.{Verdict}
 use Rattle.election_check.specs.declared.verdict.Verdict.TheVariants as verdicts
 use Rattle.election_check.specs.Plain.{verdict_plain}
-use Rattle.election_check.specs.Packed.{verdict_packed}
+use Rattle.election_check.specs.Packed.{expanded, verdict_packed}
+use Rattle.election_check.specs.Laws.{packed_of}
 use Rattle.npos_cli.specs.declared.reading.Election.{Election}
 use Rattle.npos_cli.specs.declared.job.Job.{Job}
 use Rattle.npos_cli.specs.declared.job.Job.TheVariants as jobs
 use Rattle.npos_cli.specs.declared.job.Task.{Task}
 use Rattle.npos_cli.specs.declared.job.Task.TheVariants as tasks
+use Rattle.npos_cli.specs.declared.job.Miner.{Miner}
 use Rattle.npos_cli.specs.declared.job.Miner.TheVariants as miners
 use Rattle.npos_cli.specs.declared.status.Status.{Status}
 use Rattle.npos_cli.specs.declared.status.Status.TheVariants as statuses
 use Rattle.npos_cli.specs.Elections.{snapshot_of}
-use Rattle.npos_cli.specs.Verdicts.{long_line, most_bundle}
+use Rattle.npos_cli.specs.Texts.{fault_line}
+use Rattle.npos_cli.specs.Verdicts.{snapshot_line, long_line, most_bundle}
 use Rattle.npos_cli.specs.Bundles.{Report, faulty, verdict_status, work_report, election_of, read_election}
-use Rattle.npos_cli.specs.Tasks.{task_report, report_on, bundle_report}
+use Rattle.npos_cli.specs.Mining.{packed_report, mine_report}
+use Rattle.npos_cli.specs.Tasks.{IsTaskReport, IsReportOn, IsBundleReport}
 use Rattle.npos_cli.specs.Report.{replay_status, IsAnswer}
 use Rattle.npos_cli.specs.Owed.{FindsFor}
 
@@ -50,23 +56,36 @@ module _ (P : Status → Type 0) (done : P statuses.Done) (no_verdict : P status
   of_work size snapshot (Packed claim bytes) = of_verdict (verdict_packed snapshot claim bytes)
   of_work size snapshot (Plain committee edges) = of_verdict (verdict_plain snapshot (record { committee = committee; edges = edges }))
 
-  of_task : (task : Task) (size : ℕ) (election : Election) → P (task_report task size election).status
-  of_task tasks.Check size election = of_work size election.snapshot election.work
-  of_task (tasks.Mine miners.Fill) size election = of_verdict (verdict_plain election.snapshot (filled election.snapshot))
+  of_packed : (snapshot : Snapshot) (packed : Result (List (List Entry)) ℕ) → P (packed_report snapshot packed).status
+  of_packed snapshot (Ok solution) = of_verdict (verdict_packed snapshot (score_of (expanded snapshot solution)) (solution_form.spelling solution))
+  of_packed snapshot (Err member) = no_verdict
 
-  of_built : (task : Task) (size : ℕ) (bundle : Bundle) (found : Result Snapshot SnapshotFault) → P (report_on task size (election_of bundle found)).status
-  of_built task size bundle (Ok snapshot) = of_task task size (record { snapshot = snapshot; work = bundle.work })
-  of_built task size bundle (Err fault) = bad
+  of_mine : (miner : Miner) (snapshot : Snapshot) (weights : Weights) → P (mine_report miner snapshot weights).status
+  of_mine miners.Fill snapshot weights = of_verdict (verdict_plain snapshot weights)
+  of_mine miners.Seq snapshot weights = of_packed snapshot (packed_of snapshot weights)
+  of_mine miners.Mms snapshot weights = of_packed snapshot (packed_of snapshot weights)
 
-  of_read : (task : Task) (size : ℕ) (read : Result Bundle WireFault) → P (report_on task size (read_election read)).status
-  of_read task size (Ok bundle) = of_built task size bundle (snapshot_of bundle)
-  of_read task size (Err fault) = bad
+  of_report : (one other : Report) → one ≡ other → P other.status → P one.status
+  of_report one other same p = subst (λ (r : Report). P r.status) (sym same) p
 
-  pub of_bundle : (task : Task) (bytes : List ℕ) → P (bundle_report task bytes).status
-  of_bundle task bytes = by (nat_lt most_bundle (length bytes)) where
-    by : (b : Bool) → P (report_on task (length bytes) (if b then Err (faulty long_line) else read_election (read_as bundle_form bundle_laws bytes))).status
-    by true = bad
-    by false = of_read task (length bytes) (read_as bundle_form bundle_laws bytes)
+  of_task : (task : Task) (size : ℕ) (election : Election) (report : Report) → IsTaskReport task size election report → P report.status
+  of_task tasks.Check size election report is = of_report report (work_report size election.snapshot election.work) is (of_work size election.snapshot election.work)
+  of_task (tasks.Mine miner) size election report is =
+      of_report report (mine_report miner election.snapshot is.0) is.2 (of_mine miner election.snapshot is.0)
+
+  of_built : (task : Task) (size : ℕ) (bundle : Bundle) (found : Result Snapshot SnapshotFault) (report : Report) → IsReportOn task size (election_of bundle found) report → P report.status
+  of_built task size bundle (Ok snapshot) report is = of_task task size (record { snapshot = snapshot; work = bundle.work }) report is
+  of_built task size bundle (Err fault) report is = of_report report (faulty (snapshot_line fault)) is bad
+
+  of_read : (task : Task) (size : ℕ) (read : Result Bundle WireFault) (report : Report) → IsReportOn task size (read_election read) report → P report.status
+  of_read task size (Ok bundle) report is = of_built task size bundle (snapshot_of bundle) report is
+  of_read task size (Err fault) report is = of_report report (faulty (fault_line fault.at fault.why)) is bad
+
+  pub of_bundle : (task : Task) (bytes : List ℕ) (report : Report) → IsBundleReport task bytes report → P report.status
+  of_bundle task bytes report is = by (nat_lt most_bundle (length bytes)) is where
+    by : (b : Bool) → IsReportOn task (length bytes) (if b then Err (faulty long_line) else read_election (read_as bundle_form bundle_laws bytes)) report → P report.status
+    by true is = of_report report (faulty long_line) is bad
+    by false is = of_read task (length bytes) (read_as bundle_form bundle_laws bytes) report is
 
 -- what is found to be owed has a status that answers
 pub found_answers : (job : Option Job) (left : Option (List ℕ)) (text : List ℕ) (status : Status) → FindsFor job left text status → IsAnswer status
@@ -76,4 +95,4 @@ found_answers (Some jobs.Replay) left text status finds = subst (λ (s : Status)
   replayed true = tt
   replayed false = tt
 found_answers (Some (jobs.OnBundle task)) left text status finds =
-    subst (λ (r : Report). IsAnswer r.status) (sym finds.2) (of_bundle IsAnswer tt tt tt task finds.0)
+    of_bundle IsAnswer tt tt tt task finds.0 (record { text = text; status = status }) finds.2

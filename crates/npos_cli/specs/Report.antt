@@ -9,7 +9,7 @@ use Rattle.npos_cli.specs.declared.status.Status.TheVariants as statuses
 use Rattle.npos_cli.specs.Words.{job_of, usage_line}
 use Rattle.npos_cli.specs.Replay.{Outcome, IsReplay}
 use Rattle.npos_cli.specs.Chain.{npos_machine}
-use Rattle.npos_cli.specs.Tasks.{bundle_report}
+use Rattle.npos_cli.specs.Tasks.{IsBundleReport}
 
 -- a replay is done, unless it ends with a fault line
 abbrev pub replay_status : Bool → Status
@@ -21,7 +21,7 @@ abbrev pub JobOwes : Option Job → List ℕ → List ℕ → Status → Type 0
 JobOwes None bytes text status = (text ≡ usage_line) × (status ≡ statuses.Usage)
 JobOwes (Some jobs.Replay) bytes text status =
     (out : Outcome Chain Election) × IsReplay npos_machine bytes out × (text ≡ out.text) × (status ≡ replay_status out.faulty)
-JobOwes (Some (jobs.OnBundle task)) bytes text status = record { text = text; status = status } ≡ bundle_report task bytes
+JobOwes (Some (jobs.OnBundle task)) bytes text status = IsBundleReport task bytes (record { text = text; status = status })
 
 abbrev pub Owes : List (List ℕ) → List ℕ → List ℕ → Status → Type 0
 Owes words = JobOwes (job_of words)

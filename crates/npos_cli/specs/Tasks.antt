@@ -18,20 +18,20 @@ use Rattle.npos_cli.specs.declared.job.Task.TheVariants as tasks
 use Rattle.npos_cli.specs.declared.reading.Election.{Election}
 use Rattle.npos_cli.specs.Elections.{snapshot_of}
 use Rattle.npos_cli.specs.Bundles.{Report, work_report, election_in}
-use Rattle.npos_cli.specs.Mining.{mined, mine_report}
+use Rattle.npos_cli.specs.Mining.{IsMined, IsMineReport, AreJudged}
 
 -- A check looks at the work of a bundle that has so many bytes, and a miner at its election alone.
-abbrev pub task_report : Task → ℕ → Election → Report
-task_report tasks.Check size election = work_report size election.snapshot election.work
-task_report (tasks.Mine miner) size election = mine_report miner election.snapshot
+abbrev pub IsTaskReport : Task → ℕ → Election → Report → Type 0
+IsTaskReport tasks.Check size election report = report ≡ work_report size election.snapshot election.work
+IsTaskReport (tasks.Mine miner) size election report = IsMineReport miner election.snapshot report
 
 -- bytes without an election are reported by their fault
-abbrev pub report_on : Task → ℕ → Result Election Report → Report
-report_on task size (Ok election) = task_report task size election
-report_on task size (Err fault) = fault
+abbrev pub IsReportOn : Task → ℕ → Result Election Report → Report → Type 0
+IsReportOn task size (Ok election) report = IsTaskReport task size election report
+IsReportOn task size (Err fault) report = report ≡ fault
 
-abbrev pub bundle_report : Task → List ℕ → Report
-bundle_report task bytes = report_on task (length bytes) (election_in bytes)
+abbrev pub IsBundleReport : Task → List ℕ → Report → Type 0
+IsBundleReport task bytes report = IsReportOn task (length bytes) (election_in bytes) report
 
 -- ## What an accepted bundle is
 
@@ -42,10 +42,11 @@ IsWork snapshot (Packed claim bytes) weights =
     (solution : List (List Entry)) × (decoded bytes ≡ Ok solution) × (weights ≡ expanded snapshot solution) × (score_of weights ≡ claim)
 IsWork snapshot (Plain committee edges) weights = weights ≡ record { committee = committee; edges = edges }
 
--- the weights that the task reports on
+-- the weights that the verdict of the task is on
 abbrev pub AreWeights : Task → Election → Weights → Type 0
 AreWeights tasks.Check election weights = IsWork election.snapshot election.work weights
-AreWeights (tasks.Mine miner) election weights = weights ≡ mined miner election.snapshot
+AreWeights (tasks.Mine miner) election weights =
+    (own : Weights) × IsMined miner election.snapshot own × AreJudged miner election.snapshot own weights
 
 -- The weights fill the seats, follow nominations, spend no voter beyond its stake, and are proportional.
 pub record IsSoundElection (task : Task) (election : Election) : Type 0 where

@@ -1,5 +1,6 @@
 -- The lines that tell of an election: words, and then numbers in decimal behind a blank each.
 use Rattle.std.specs.Prelude.{ℕ, List, [], ◌∷◌, ◌++◌, flat_map, codes, decimal}
+use Rattle.hex.specs.Hex.{encode_lower}
 use Rattle.npos_base.specs.declared.figures.Score.{Score}
 use Rattle.npos_base.specs.declared.limits.TheConstants.{MOST_TARGETS, MOST_VOTERS}
 use Rattle.scale_wire.specs.Reason as reasons
@@ -40,6 +41,14 @@ member_line who support = codes "member " ++ (account_text who ++ (number_text s
 
 abbrev pub score_line : Score → List ℕ
 score_line score = numbers_line (codes "score") (score.minimal ∷ score.sum ∷ score.squares ∷ [])
+
+-- the bytes of a packed solution, each as two digits in hexadecimal, in lower case
+abbrev pub solution_line : List ℕ → List ℕ
+solution_line bytes = codes "solution " ++ (encode_lower bytes ++ newline)
+
+-- a member to which no edge is kept as weights are packed, by its position
+abbrev pub lost_line : ℕ → List ℕ
+lost_line member = numbers_line (codes "lost") (member ∷ [])
 
 -- The number of the fault and its detail: both counts where one is too small for the other, and else the position of the
 -- account, the one that an account too many would have had, or the seats. Want of memory has no line.

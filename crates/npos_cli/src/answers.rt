@@ -3,10 +3,11 @@ ghost use Rattle.std.specs.Prelude.{◌≡◌, ◌++◌, IfOk};
 ghost use Rattle.npos_cli.specs.Texts.{fault_line};
 ghost use Rattle.npos_cli.specs.Verdicts.{no_solution_line, long_line, snapshot_line};
 ghost use Rattle.npos_cli.specs.Bundles.{faulty, told, verdict_status};
+ghost use Rattle.npos_cli.specs.Mining.{lost_report};
 ghost use Rattle.npos_cli.specs.Answer.{report_of};
 
 use crate::Status;
-use crate::numbers::{tell_snapshot_fault, tell_verdict};
+use crate::numbers::{tell_lost, tell_snapshot_fault, tell_verdict};
 use crate::telling::{Piece, tell, tell_fault};
 use election_check::Verdict;
 use election_snapshot::SnapshotFault;
@@ -73,6 +74,18 @@ pub fn unsolved(alloc: Global, at: u64) -> Result<Answer, NoMemory>
     Ok(Answer {
         text,
         status: Status::BadInput,
+    })
+}
+
+/// The answer of weights that lose this member as they are packed.
+pub fn lost(alloc: Global, member: u16) -> Result<Answer, NoMemory>
+    ensures { IfOk result (λ answer. report_of answer ≡ lost_report member) }
+{
+    let mut text = Vec::new(alloc);
+    tell_lost(&mut text, member)?;
+    Ok(Answer {
+        text,
+        status: Status::No,
     })
 }
 

@@ -1,4 +1,5 @@
-//! Worked bundles, whose verdicts and fills were computed by hand, through the top call.
+//! Worked bundles, whose verdicts and committees were computed by hand or by another program,
+//! through the top call.
 use crate::run;
 use npos_base::{AccountId, List, MemorySink, MemorySource, NoMemory};
 use scale_wire::Pen;
@@ -189,11 +190,31 @@ const SPELLED: [(u64, Voters, &[u8], u8, &str); 7] = [
     (1, &[(9, &[0])], &[0], 3, "fault 0 snapshot 1 1 2\n"),
 ];
 
-/// Bundles with two seats and work that no miner looks at, with the status and the text of the
-/// fill: a tie that goes to the lowest, the least total, less than that, a byte too many and an
-/// unknown vote.
-const FILLED: [(u64, Voters, &[u8], u8, &str); 5] = [
+/// A voter for the first two targets, and one for the first.
+const BOTH: Voters = &[(60, &[0, 1]), (40, &[0])];
+
+/// Ten voters whose stakes sequential Phragmén splits so that a target outside outweighs.
+const SPLIT: Voters = &[
+    (2, &[0, 5, 4, 2]),
+    (1, &[0]),
+    (1, &[1]),
+    (1, &[2, 3, 1, 4, 5]),
+    (1, &[1, 2, 3]),
+    (2, &[4, 5, 1, 2]),
+    (2, &[3]),
+    (2, &[3, 4]),
+    (1, &[1, 2, 5, 0, 4]),
+    (1, &[0, 1, 2, 3, 4, 5]),
+];
+
+/// Miners, with seats, targets, voters and work that no miner looks at; and then the status and the
+/// text. Of the fill a tie that goes to the lowest, the least total, less than that, a byte too
+/// many and an unknown vote. Then weights that pack, a support that is rounded as it is packed,
+/// members whom nobody nominates, and a solution that is no Yes.
+const MINED: [(&str, u64, u64, Voters, &[u8], u8, &str); 10] = [
     (
+        "fill",
+        2,
         3,
         &[(70, &[0, 1]), (30, &[2])],
         &[0],
@@ -201,6 +222,8 @@ const FILLED: [(u64, Voters, &[u8], u8, &str); 5] = [
         "member 0000000000000000000000000000000000000000000000000000000000000000 50\nmember 0000000000000000000000000000000000000000000000000000000000000002 30\nscore 30 80 3400\nverdict 0\n",
     ),
     (
+        "fill",
+        2,
         3,
         &[(3, &[0, 1]), (1, &[2])],
         &[2, 0, 4, 8, 0, 4],
@@ -208,19 +231,50 @@ const FILLED: [(u64, Voters, &[u8], u8, &str); 5] = [
         "member 0000000000000000000000000000000000000000000000000000000000000000 2\nmember 0000000000000000000000000000000000000000000000000000000000000001 1\nscore 1 3 5\nverdict 0\n",
     ),
     (
+        "fill",
+        2,
         3,
         &[(2, &[0, 1]), (1, &[2])],
         &[0],
         3,
         "fault 0 snapshot 2 3 2\n",
     ),
-    (3, APART, &[0, 0], 3, "fault 170 trailing\n"),
-    (2, &[(9, &[0, 2])], &[0], 3, "fault 0 snapshot 5 0\n"),
+    ("fill", 2, 3, APART, &[0, 0], 3, "fault 170 trailing\n"),
+    ("mms", 2, 2, &[(9, &[0, 2])], &[0], 3, "fault 0 snapshot 5 0\n"),
+    (
+        "seq",
+        2,
+        3,
+        APART,
+        &[0],
+        0,
+        "member 0000000000000000000000000000000000000000000000000000000000000000 60\nmember 0000000000000000000000000000000000000000000000000000000000000001 40\nscore 40 100 5200\nsolution 0800000404000000000000000000000000000000\nverdict 0\n",
+    ),
+    (
+        "mms",
+        2,
+        3,
+        BOTH,
+        &[0],
+        0,
+        "member 0000000000000000000000000000000000000000000000000000000000000000 49\nmember 0000000000000000000000000000000000000000000000000000000000000001 51\nscore 49 100 5002\nsolution 040400040000a9aa040000000000000000000000000000\nverdict 0\n",
+    ),
+    ("seq", 2, 2, &[(60, &[0]), (40, &[0])], &[0], 1, "lost 1\n"),
+    ("mms", 2, 2, &[(60, &[0]), (40, &[0])], &[0], 1, "lost 1\n"),
+    (
+        "seq",
+        3,
+        6,
+        SPLIT,
+        &[0],
+        1,
+        "member 0000000000000000000000000000000000000000000000000000000000000002 8\nmember 0000000000000000000000000000000000000000000000000000000000000003 2\nmember 0000000000000000000000000000000000000000000000000000000000000004 2\nscore 2 12 72\nsolution 1c00080c0810081408180c20082408041c0cfeff0100100000000000000000000000000000\nverdict 10 0 4\n",
+    ),
 ];
 
-/// Appends a bundle with two seats, up to its work.
-fn put_election(pen: &mut Pen, targets: u64, voters: Voters) -> Result<(), NoMemory> {
-    pen.put_compact(2)?;
+/// Appends a bundle up to its work.
+fn put_election(pen: &mut Pen, seats: u64, targets: u64, voters: Voters) -> Result<(), NoMemory> {
+    pen.put_compact(seats)?;
     pen.put_compact(targets)?;
     for target in 0..targets {
         pen.put_account(AccountId {
@@ -286,14 +340,11 @@ fn report(
 /// The words of a check.
 const CHECK: [&str; 2] = ["npos", "check"];
 
-/// The words of a fill.
-const FILL: [&str; 4] = ["npos", "mine", "--miner", "fill"];
-
 #[test]
 fn packed_work_gets_its_verdict(rt: HostRuntime) -> Result<(), Fail> {
     for (targets, voters, claim, front, zeros, status, line) in PACKED {
         let mut pen = Pen::new(rt.alloc());
-        put_election(&mut pen, targets, voters)?;
+        put_election(&mut pen, 2, targets, voters)?;
         put_packed(&mut pen, claim, front, zeros)?;
         let (text, ended, left) = report(rt.alloc(), &CHECK, pen.finish())?;
         assert_eq!(rt; text.as_slice(), line.as_bytes());
@@ -306,7 +357,7 @@ fn packed_work_gets_its_verdict(rt: HostRuntime) -> Result<(), Fail> {
 fn spelled_work_gets_its_verdict_or_its_fault(rt: HostRuntime) -> Result<(), Fail> {
     for (targets, voters, work, status, line) in SPELLED {
         let mut pen = Pen::new(rt.alloc());
-        put_election(&mut pen, targets, voters)?;
+        put_election(&mut pen, 2, targets, voters)?;
         pen.put_bytes(work)?;
         let (text, ended, _) = report(rt.alloc(), &CHECK, pen.finish())?;
         assert_eq!(rt; text.as_slice(), line.as_bytes());
@@ -316,12 +367,13 @@ fn spelled_work_gets_its_verdict_or_its_fault(rt: HostRuntime) -> Result<(), Fai
 }
 
 #[test]
-fn elections_get_their_fill_or_their_fault(rt: HostRuntime) -> Result<(), Fail> {
-    for (targets, voters, work, status, lines) in FILLED {
+fn elections_are_mined_or_get_their_fault(rt: HostRuntime) -> Result<(), Fail> {
+    for (miner, seats, targets, voters, work, status, lines) in MINED {
         let mut pen = Pen::new(rt.alloc());
-        put_election(&mut pen, targets, voters)?;
+        put_election(&mut pen, seats, targets, voters)?;
         pen.put_bytes(work)?;
-        let (text, ended, left) = report(rt.alloc(), &FILL, pen.finish())?;
+        let words = ["npos", "mine", "--miner", miner];
+        let (text, ended, left) = report(rt.alloc(), &words, pen.finish())?;
         assert_eq!(rt; text.as_slice(), lines.as_bytes());
         assert_eq!(rt; (ended, left), (status, 0));
     }

@@ -1,6 +1,6 @@
 //! What the words of a call ask for.
 ghost use Rattle.std.specs.Prelude.{◌≡◌, map, string_bytes};
-ghost use Rattle.npos_cli.specs.Words.{job_of, has_word, asks_for_fill};
+ghost use Rattle.npos_cli.specs.Words.{job_of, has_word, asks_to_mine, miner_of};
 
 /// What the program is to do.
 #[derive(Clone, Copy, Debug, PartialEq, Eq)]
@@ -26,6 +26,10 @@ pub enum Task {
 pub enum Miner {
     /// The greedy fill, which always passes.
     Fill,
+    /// Sequential Phragmén.
+    Seq,
+    /// PHRAGMMS.
+    Mms,
 }
 
 /// Whether the word at this place is this text.
@@ -38,14 +42,26 @@ fn has_word(words: &[String], place: usize, text: &str) -> bool
     }
 }
 
-/// Whether the words ask for the fill of a bundle's election.
-fn asks_for_fill(words: &[String]) -> bool
-    ensures { result ≡ asks_for_fill (map string_bytes words.now) }
+/// Whether the words ask for a committee by a miner, which the last one names.
+fn asks_to_mine(words: &[String]) -> bool
+    ensures { result ≡ asks_to_mine (map string_bytes words.now) }
 {
-    words.len() == 4
-        && has_word(words, 1, "mine")
-        && has_word(words, 2, "--miner")
-        && has_word(words, 3, "fill")
+    words.len() == 4 && has_word(words, 1, "mine") && has_word(words, 2, "--miner")
+}
+
+/// The miner that the last word of four names.
+fn miner_of(words: &[String]) -> Option<Miner>
+    ensures { result ≡ miner_of (map string_bytes words.now) }
+{
+    if has_word(words, 3, "fill") {
+        Some(Miner::Fill)
+    } else if has_word(words, 3, "seq") {
+        Some(Miner::Seq)
+    } else if has_word(words, 3, "mms") {
+        Some(Miner::Mms)
+    } else {
+        None
+    }
 }
 
 /// The job that the words ask for. The first word is the program's name, which is not looked at.
@@ -56,8 +72,8 @@ pub fn job_of(words: &[String]) -> Option<Job>
         Some(Job::Replay)
     } else if words.len() == 2 && has_word(words, 1, "check") {
         Some(Job::OnBundle(Task::Check))
-    } else if asks_for_fill(words) {
-        Some(Job::OnBundle(Task::Mine(Miner::Fill)))
+    } else if asks_to_mine(words) {
+        miner_of(words).map(|miner| Job::OnBundle(Task::Mine(miner)))
     } else {
         None
     }

@@ -1,19 +1,27 @@
 //! What `mine` makes of an election.
-ghost use Rattle.std.specs.Prelude.{◌≡◌, ◌<◌, ◌++◌, flat_map, length, All, IfOk, OnOk};
+ghost use Rattle.std.specs.Prelude.{◌≡◌, ◌≢◌, ℕ, ◌<◌, ◌++◌, flat_map, length, All, None, IfOk, IfErr, OnOk};
 ghost use Rattle.weight_book.specs.Weights.{IsFeasible};
 ghost use Rattle.npos_cli.specs.declared.job.Miner.TheVariants as miners;
-ghost use Rattle.npos_cli.specs.Mining.{line_of, weights_lines, mine_report};
+ghost use Rattle.election_check.specs.Laws.{packed_of};
+ghost use Rattle.election_check.specs.Packed.{expand_fault};
+ghost use Rattle.npos_cli.specs.Mining.{line_of, weights_lines, solution_report, packed_report, IsMineReport};
 ghost use Rattle.npos_cli.specs.Answer.{report_of};
 
-use crate::answers::{Answer, told};
+use crate::answers::{Answer, lost, told};
 use crate::checking::checker_of;
 use crate::job::Miner;
-use crate::numbers::{tell_member, tell_score};
+use crate::numbers::{tell_member, tell_score, tell_solution};
+use compact_solution::{PackFault, Solution, pack};
 use election_snapshot::Snapshot;
 use npos_base::NoMemory;
+use phragmms_miner::mine_mms;
 use quota_fill::fill;
+use seq_phragmen::mine_seq;
 use std::alloc::Global;
 use weight_book::Weights;
+
+/// How many balancing rounds of PHRAGMMS follow each pick.
+const ROUNDS: u32 = 8;
 
 /// Appends the lines of the members in the order of the committee.
 fn tell_members(text: &mut Vec<u8>, snapshot: &Snapshot, weights: &Weights) -> Result<(), NoMemory>
@@ -43,8 +51,8 @@ fn tell_weights(text: &mut Vec<u8>, snapshot: &Snapshot, weights: Weights) -> Re
 }
 
 /// The answer of the greedy fill of an election.
-fn mine_fill(alloc: Global, snapshot: Snapshot) -> Result<Answer, NoMemory>
-    ensures { IfOk result (λ answer. report_of answer ≡ mine_report miners.Fill snapshot) }
+fn mine_by_fill(alloc: Global, snapshot: Snapshot) -> Result<Answer, NoMemory>
+    ensures { IfOk result (λ answer. IsMineReport miners.Fill snapshot (report_of answer)) }
 {
     let _seats = snapshot.seats();
     let weights = fill(alloc, &snapshot)?;
@@ -55,11 +63,99 @@ fn mine_fill(alloc: Global, snapshot: Snapshot) -> Result<Answer, NoMemory>
     told(lines, verdict)
 }
 
+/// The answer of a solution that expands without a fault: what it expands to, its bytes, and the
+/// verdict on them with the score of what they expand to as the claim.
+fn answer_solution(
+    alloc: Global,
+    snapshot: Snapshot,
+    solution: Solution,
+) -> Result<Answer, NoMemory>
+    requires { expand_fault snapshot solution ≡ None }
+    ensures { IfOk result (λ answer. report_of answer ≡ solution_report snapshot solution) }
+{
+    let _seats = snapshot.seats();
+    let mut expanded = Weights::with_room(alloc, &snapshot)?;
+    let mut judged = Weights::with_room(alloc, &snapshot)?;
+    let mut checker = checker_of(alloc, snapshot)?;
+    let _yes = checker.expand(&solution, &mut expanded);
+    let claim = expanded.score();
+    let bytes = solution.encode(alloc)?;
+    drop(solution);
+    let verdict = checker.judge_bytes(alloc, bytes.as_slice(), &claim, &mut judged)?;
+    let mut lines = Vec::new(alloc);
+    tell_weights(&mut lines, checker.snapshot(), expanded)?;
+    tell_solution(alloc, &mut lines, bytes.as_slice())?;
+    told(lines, verdict)
+}
+
+/// Packs weights of an election, or tells the lowest member that is lost. What they pack to expands
+/// without a fault.
+fn packed_weights(
+    alloc: Global,
+    snapshot: &Snapshot,
+    weights: &Weights,
+) -> Result<Solution, PackFault>
+    requires feasible { IsFeasible snapshot.now weights.now.plain }
+    requires above { All (λ edge. 0 < edge.amount) weights.now.plain.edges }
+    ensures solution { IfOk result (λ solution.
+        packed_of snapshot.now weights.now.plain ≡ Ok solution) }
+    ensures sound { IfOk result (λ solution. expand_fault snapshot.now solution ≡ None) }
+    ensures lost { IfErr result (λ fault. fault ≢ PackFault.NoMemory → (member : ℕ)
+        × (fault ≡ PackFault.LostWinner member)
+        × (packed_of snapshot.now weights.now.plain ≡ Err member)) }
+{
+    let _seats = snapshot.seats();
+    pack(
+        alloc,
+        snapshot.stakes(),
+        weights.committee(),
+        weights.edges(),
+    )
+}
+
+/// The answer of weights that are packed, or of the lowest member that is lost.
+fn answer_packed(
+    alloc: Global,
+    snapshot: Snapshot,
+    weights: Weights,
+) -> Result<Answer, NoMemory>
+    requires feasible { IsFeasible snapshot weights.plain }
+    requires above { All (λ edge. 0 < edge.amount) weights.plain.edges }
+    ensures { IfOk result (λ answer. report_of answer
+        ≡ packed_report snapshot (packed_of snapshot weights.plain)) }
+{
+    let packed = packed_weights(alloc, &snapshot, &weights);
+    drop(weights);
+    match packed {
+        Ok(solution) => answer_solution(alloc, snapshot, solution),
+        Err(PackFault::LostWinner(member)) => lost(alloc, member),
+        Err(PackFault::NoMemory) => Err(NoMemory),
+    }
+}
+
+/// The answer of sequential Phragmén on an election.
+fn mine_by_load(alloc: Global, snapshot: Snapshot) -> Result<Answer, NoMemory>
+    ensures { IfOk result (λ answer. IsMineReport miners.Seq snapshot (report_of answer)) }
+{
+    let weights = mine_seq(alloc, &snapshot)?;
+    answer_packed(alloc, snapshot, weights)
+}
+
+/// The answer of PHRAGMMS on an election.
+fn mine_by_score(alloc: Global, snapshot: Snapshot) -> Result<Answer, NoMemory>
+    ensures { IfOk result (λ answer. IsMineReport miners.Mms snapshot (report_of answer)) }
+{
+    let weights = mine_mms(alloc, &snapshot, ROUNDS)?;
+    answer_packed(alloc, snapshot, weights)
+}
+
 /// The answer of a miner on an election.
 pub fn mine(alloc: Global, snapshot: Snapshot, miner: Miner) -> Result<Answer, NoMemory>
-    ensures { IfOk result (λ answer. report_of answer ≡ mine_report miner snapshot) }
+    ensures { IfOk result (λ answer. IsMineReport miner snapshot (report_of answer)) }
 {
     match miner {
-        Miner::Fill => mine_fill(alloc, snapshot),
+        Miner::Fill => mine_by_fill(alloc, snapshot),
+        Miner::Seq => mine_by_load(alloc, snapshot),
+        Miner::Mms => mine_by_score(alloc, snapshot),
     }
 }

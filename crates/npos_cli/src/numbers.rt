@@ -1,13 +1,15 @@
 //! Lines of words and numbers.
 ghost use Rattle.std.specs.Prelude.{◌≡◌, ◌≢◌, [], ◌∷◌, ◌++◌, flat_map, codes, OnOk};
 ghost use Rattle.election_snapshot.specs.declared.fault.SnapshotFault.TheVariants as faults;
-ghost use Rattle.npos_cli.specs.Verdicts.{number_text, numbers_line, member_line, score_line, verdict_numbers, verdict_line, fault_numbers, snapshot_line};
+ghost use Rattle.npos_cli.specs.Verdicts.{number_text, numbers_line, member_line, score_line, solution_line, lost_line, verdict_numbers, verdict_line, fault_numbers, snapshot_line};
 
 use crate::telling::tell_account;
 use election_check::Verdict;
 use election_snapshot::SnapshotFault;
+use hex::encode;
 use itoa::Buffer;
 use npos_base::{AccountId, MOST_TARGETS, MOST_VOTERS, NoMemory, Score};
+use std::alloc::Global;
 
 /// Appends a number in decimal, behind a blank.
 fn tell_number(text: &mut Vec<u8>, number: u128) -> Result<(), NoMemory>
@@ -62,6 +64,24 @@ pub fn tell_score(text: &mut Vec<u8>, score: &Score) -> Result<(), NoMemory>
             score.squares,
         ],
     )
+}
+
+/// Appends the line of a packed solution, its bytes in lower-case hexadecimal.
+pub fn tell_solution(alloc: Global, text: &mut Vec<u8>, bytes: &[u8]) -> Result<(), NoMemory>
+    ensures { OnOk result (text.new.items ≡ text.old.items ++ solution_line bytes.now) }
+{
+    let digits = encode(alloc, bytes)?;
+    text.extend_from_slice(b"solution ")?;
+    text.extend_from_slice(digits.as_bytes())?;
+    text.extend_from_slice(b"\n")?;
+    Ok(())
+}
+
+/// Appends the line of a member that is lost as weights are packed.
+pub fn tell_lost(text: &mut Vec<u8>, member: u16) -> Result<(), NoMemory>
+    ensures { OnOk result (text.new.items ≡ text.old.items ++ lost_line member) }
+{
+    tell_line(text, "lost", &[u128::from(member)])
 }
 
 /// Appends the line of a verdict.

@@ -3,7 +3,7 @@ ghost use Rattle.std.specs.Prelude.{◌≡◌, ◌≢◌, IfOk};
 ghost use Rattle.npos_cli.specs.declared.job.Task.TheVariants as tasks;
 ghost use Rattle.npos_cli.specs.declared.job.Miner.TheVariants as miners;
 ghost use Rattle.npos_cli.specs.declared.status.Status.TheVariants as statuses;
-ghost use Rattle.npos_cli.specs.Tasks.{task_report, bundle_report, IsSound, IsSoundElection};
+ghost use Rattle.npos_cli.specs.Tasks.{IsTaskReport, IsBundleReport, IsSound, IsSoundElection};
 ghost use Rattle.npos_cli.specs.Answer.{report_of};
 
 use crate::answers::Answer;
@@ -16,7 +16,7 @@ use std::alloc::Global;
 
 /// The answer on the election of a bundle that has so many bytes.
 fn report_on(alloc: Global, election: Election, task: Task, size: u64) -> Result<Answer, NoMemory>
-    ensures { IfOk result (λ answer. report_of answer ≡ task_report task size election) }
+    ensures { IfOk result (λ answer. IsTaskReport task size election (report_of answer)) }
 {
     let Election { snapshot, work } = election;
     match task {
@@ -32,7 +32,7 @@ fn answer_election(
     task: Task,
     size: u64,
 ) -> Result<Answer, NoMemory>
-    ensures report { IfOk result (λ answer. report_of answer ≡ task_report task size election) }
+    ensures report { IfOk result (λ answer. IsTaskReport task size election (report_of answer)) }
     ensures sound { IfOk result (λ answer. answer.status ≡ statuses.Done
         → IsSoundElection task election) }
     ensures passes { task ≡ tasks.Mine miners.Fill
@@ -44,7 +44,7 @@ fn answer_election(
 
 /// The answer on the bytes of a bundle, which go once they are read.
 pub fn answer_bytes(alloc: Global, bytes: Vec<u8>, task: Task) -> Result<Answer, NoMemory>
-    ensures report { IfOk result (λ answer. report_of answer ≡ bundle_report task bytes.items) }
+    ensures report { IfOk result (λ answer. IsBundleReport task bytes.items (report_of answer)) }
     ensures sound { IfOk result (λ answer. answer.status ≡ statuses.Done
         → IsSound task bytes.items) }
     ensures passes { task ≡ tasks.Mine miners.Fill

@@ -2,7 +2,7 @@ use Rattle.std.proofs.Common.{ap, subst, sym, ◌∙◌}
 use Rattle.election_snapshot.specs.Snapshot.{Snapshot}
 use Rattle.weight_book.specs.Weights.{Weights, IsFeasible}
 use Rattle.quota_fill.proofs.PassingLemmas.{fill_passes}
-use Rattle.npos_cli.proofs.mining.mine_fill.Goals as goal
+use Rattle.npos_cli.proofs.mining.mine_by_fill.Goals as goal
 
 pub tell_weights-requires : goal.tell_weights-requires
 tell_weights-requires c =
