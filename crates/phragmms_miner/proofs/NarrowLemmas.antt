@@ -36,6 +36,10 @@ filter_has p (y ∷ xs) x h t = elim (cases_Bool (nat_eq y x)) [
       ]
 ]
 
+none_there : (xs : List ℕ) (x : ℕ) → length xs ≤ 0 → has xs x ≡ false
+none_there [] x h = refl
+none_there (y ∷ xs) x h = absurd (omega (arith, h))
+
 -- values by price and target, which fall with the price
 module _ (outs : List ℕ) (value : ℕ → ℕ → ℕ) (total : ℕ) (falls : (target a b : ℕ) → a ≤ b → value b target ≤ value a target) where
   abbrev score_of : ℕ → ℕ
@@ -102,13 +106,16 @@ module _ (outs : List ℕ) (value : ℕ → ℕ → ℕ) (total : ℕ) (falls : 
     is_out = so.pick_out;
     greatest = λ other h. elim end [
       | inl closed ↦ omega (arith, so.bounded other h, closed, so.reached)
-      | inr empty ↦ omega (arith, so.dropped other h (none alive other empty), so.reached)
+      | inr empty ↦ omega (arith, so.dropped other h (none_there alive other empty), so.reached)
     ];
     lowest = λ other h l. omega (arith, so.lowest other h l, so.reached);
-  } where
-    none : (xs : List ℕ) (x : ℕ) → length xs ≤ 0 → has xs x ≡ false
-    none [] x h = refl
-    none (y ∷ xs) x h = absurd (omega (arith, h))
+  }
+
+  pub narrow_score : (low top pick : ℕ) (alive : List ℕ) → IsNarrowed low top pick alive → (top ≤ low) ⊎ (length alive ≤ 0) → low ≡ score_of pick
+  narrow_score low top pick alive so end = elim end [
+    | inl closed ↦ omega (arith, so.bounded pick so.pick_out, closed, so.reached)
+    | inr empty ↦ omega (arith, so.dropped pick so.pick_out (none_there alive pick empty), so.reached)
+  ]
 
 pub has_place : (xs : List ℕ) (x : ℕ) → has xs x ≡ true → (k : ℕ) × (k < length xs) × ((d : ℕ) → get_or xs k d ≡ x)
 has_place [] x h = absurd (true≢false (sym h))

@@ -3,7 +3,7 @@ ghost use Rattle.std.specs.Prelude.{◌≡◌, ◌<◌, ◌≤◌, ℕ, not, len
 ghost use Rattle.std.specs.List.{range_with_len};
 ghost use Rattle.election_snapshot.specs.Snapshot.{has, stake_of};
 ghost use Rattle.weight_book.specs.Weights.{Follows, IsFeasible, spent};
-ghost use Rattle.phragmms_miner.specs.Scores.{IsBest};
+ghost use Rattle.phragmms_miner.specs.Scores.{IsBest, score};
 ghost use Rattle.phragmms_miner.specs.Search.{AreTables};
 ghost use Rattle.phragmms_miner.specs.Run.{IsRun, IsNext};
 
@@ -17,7 +17,7 @@ use weight_book::Weights;
 
 /// What searches look up.
 #[derive(Drop)]
-struct Tables {
+pub(crate) struct Tables {
     /// By target, what part of its support is paid.
     rates: Vec<u64>,
     /// By voter, what it has left.
@@ -29,7 +29,7 @@ struct Tables {
     /// By target, what its nominators have in all.
     approvals: Vec<u64>,
     /// About where the next greatest score lies.
-    hint: u64,
+    pub(crate) hint: u64,
 }
 
 /// Mines a committee with weights by the rule of Cevallos and Stewart: seat by seat the target
@@ -53,7 +53,7 @@ pub fn mine_mms(alloc: Global, snapshot: &Snapshot, rounds: u32) -> Result<Weigh
 
 impl Tables {
     /// Tables for the searches of this snapshot.
-    fn new(alloc: Global, snapshot: &Snapshot) -> Result<Tables, NoMemory>
+    pub(crate) fn new(alloc: Global, snapshot: &Snapshot) -> Result<Tables, NoMemory>
         ensures { IfOk result (λ tables. AreTables snapshot.now
             tables.rates.items tables.left.items tables.prescores.items tables.outside.items
             tables.approvals.items) }
@@ -76,7 +76,7 @@ impl Tables {
 }
 
 /// Lets the best target outside join, and balances.
-fn seat_one(
+pub(crate) fn seat_one(
     snapshot: &Snapshot,
     rounds: u32,
     backing: &mut Backing<'_>,
@@ -133,6 +133,7 @@ fn pick_next(
         approvals.now }
     ensures best { IsBest snapshot.now backing.now.weights.committee backing.now.weights.edges
         result }
+    ensures hint { hint.new ≡ score snapshot.now backing.now.weights.edges result }
     ensures follows { Follows snapshot.now backing.now.weights }
 {
     let count = fill_outside(snapshot, backing, outside);

@@ -33,7 +33,8 @@ pub(crate) fn best_outside(
     requires approvals { length approvals.now ≡ length snapshot.now.targets }
     requires some { 1 ≤ length outside.old }
     requires rising { AreRising (length snapshot.now.targets) outside.old }
-    ensures { IsBestOf (score snapshot.now edges.now) outside.old result }
+    ensures best { IsBestOf (score snapshot.now edges.now) outside.old result }
+    ensures hint { hint.new ≡ score snapshot.now edges.now result }
 {
     let mut count = outside.len();
     let mut low = 0;

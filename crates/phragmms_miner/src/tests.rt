@@ -1,9 +1,11 @@
 //! Worked runs.
 use crate::mine_mms;
+use crate::miner::{Tables, seat_one};
 use election_snapshot::{Snapshot, SnapshotBuilder};
 use npos_base::{AccountId, Edge, NoMemory};
 use std::alloc::Global;
 use std::test::Fail;
+use support_balance::Backing;
 use weight_book::Weights;
 
 /// A voter, an amount and a member, in another order than edges.
@@ -90,6 +92,20 @@ fn are_given(weights: &Weights, picks: &[u16], edges: &[Given]) -> bool {
     true
 }
 
+/// The scores of the first two picks.
+fn scores(alloc: Global, case: &Case) -> Result<[u64; 2], NoMemory> {
+    let snapshot = election(alloc, case)?;
+    if snapshot.target_count() < 2 || case.rounds == 0 {
+        return Ok([0, 0]);
+    }
+    let mut backing = Backing::new(alloc, &snapshot)?;
+    let mut tables = Tables::new(alloc, &snapshot)?;
+    seat_one(&snapshot, case.rounds, &mut backing, &mut tables)?;
+    let first = tables.hint;
+    seat_one(&snapshot, case.rounds, &mut backing, &mut tables)?;
+    Ok([first, tables.hint])
+}
+
 fn mine(alloc: Global, case: &Case) -> Result<bool, NoMemory> {
     if case.rounds == 0 {
         return Ok(false);
@@ -104,5 +120,6 @@ fn runs_are_the_worked_ones(rt: HostRuntime) -> Result<(), Fail> {
     for case in &CASES {
         assert!(rt; mine(rt.alloc(), case)?);
     }
+    assert_eq!(rt; scores(rt.alloc(), &CASES[0])?, [100, 38]);
     Ok(())
 }

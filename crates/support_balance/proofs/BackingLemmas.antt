@@ -16,11 +16,12 @@ use Rattle.weight_book.specs.Weights.{edges_from, same_pair, support, Follows}
 use Rattle.support_balance.specs.Rounds.{IsBefore}
 use Rattle.support_balance.specs.Rows.{at, AreAlike}
 use Rattle.support_balance.specs.Laid.{targets_of, Covers, AreKept}
-use Rattle.support_balance.specs.Slots.{AreSlots, marked, has_pair, AreLaid}
+use Rattle.support_balance.specs.Slots.{AreSlots, marked, has_pair, AreLaid, IsJoined}
 use Rattle.support_balance.specs.Backing.{IsKept}
 use Rattle.support_balance.proofs.AlikeLemmas.{from_alike, rising_before}
 use Rattle.support_balance.proofs.LayLemmas.{place_pair}
 use Rattle.support_balance.proofs.SplitLemmas.{filter_swap}
+use Rattle.support_balance.proofs.JoinLemmas.{joined_laid}
 use Rattle.support_balance.proofs.TurnLemmas.{filter_none}
 
 pub filter_le : {X : Type 0} (p : X → Bool) (xs : List X) → length (filter p xs) ≤ length xs
@@ -185,8 +186,17 @@ module _ (snapshot : Snapshot) (slots : List Edge) (members : List ℕ) (is_memb
   grows : (other : ℕ) → has members other ≡ true → slice_index_or after other false ≡ true
   grows other t = marks_more other ∙ has_more other ∙ ap (λ b. b || (nat_eq target other || false)) t
 
-  pub along_more : All (λ (e : Edge). has_pair (marked (λ t. slice_index_or after t false) slots) e ≡ true) edges
+  along_more : All (λ (e : Edge). has_pair (marked (λ t. slice_index_or after t false) slots) e ≡ true) edges
   along_more = still_along (has members) (λ t. slice_index_or after t false) grows slots edges so.laid
+
+  pub joined_more : (joined : List Edge) → IsJoined snapshot target edges joined → AreLaid (λ t. slice_index_or after t false) slots edges joined
+  joined_more joined joins = joined_laid snapshot slots edges joined target (λ t. slice_index_or after t false) (has members) so.slots_are (λ other. marks_more other ∙ has_more other)
+      (kept_covers snapshot slots members is_member edges supports so) so.slots_are.voters_in_range
+      (λ k d h. sym (so.slots_are.pairs (get_or slots k d).voter (get_or slots k d).target (so.slots_are.voters_in_range k d h)) ∙ stands_own slots k d h) along_more joins
+
+  -- no edge leads to the target yet
+  pub fresh_edges : All (λ (e : Edge). e.target ≢ target) edges
+  fresh_edges k d h same = true≢false (sym ((kept_follows snapshot slots members is_member edges supports so).to_members k d h) ∙ ap (has members) same ∙ outside)
 
   pub kept_more : (laid : List Edge) → AreLaid (λ t. slice_index_or after t false) slots edges laid → IsKept snapshot slots more after laid supports
   kept_more laid lays = record {

@@ -17,7 +17,7 @@ use Rattle.support_balance.proofs.SpendLemmas.{spent_same}
 use Rattle.support_balance.proofs.SquareLemmas.{no_higher_squares}
 use Rattle.support_balance.proofs.TurnLemmas.{none_to, place_of}
 
-support_same : (old new : List Edge) → GiveSame old new → (target : ℕ) → support new target ≡ support old target
+pub support_same : (old new : List Edge) → GiveSame old new → (target : ℕ) → support new target ≡ support old target
 support_same old new same target =
     let key = λ (e : Edge). e.voter in
     let bound = sum_by key old + sum_by key new + 1 in

@@ -1,10 +1,10 @@
 -- What a voter gives to a target.
-use Rattle.std.proofs.Common.{◌≡◌, ◌≢◌, ℕ, zero, suc, ◌+◌, ◌<◌, Bool, true, false, cond, nat_eq, List, [], ◌∷◌, length, filter, sum_by, get_or, All, inl, inr, refl, ap, ap₂, sym, ◌∙◌, arith, ◌⊎◌}
+use Rattle.std.proofs.Common.{◌≡◌, ◌≢◌, ℕ, zero, suc, ◌+◌, ◌<◌, ◌≤◌, Bool, true, false, cond, nat_eq, List, [], ◌∷◌, length, filter, sum_by, get_or, All, inl, inr, refl, ap, ap₂, sym, ◌∙◌, arith, ◌⊎◌}
 use Rattle.std.specs.List.{AllPairs}
 use Rattle.std.proofs.lemmas.List.{length-map, get_or-map}
 use Rattle.std.proofs.lemmas.List.Sums.{sum_by-cons}
 use Rattle.std.proofs.lemmas.List.Elements.{All-head, All-tail}
-use Rattle.std.proofs.lemmas.Bool.{cases_Bool, cond-true, cond-false, ne_eqb, eq-eqb, eqb-true, true≢false}
+use Rattle.std.proofs.lemmas.Bool.{cases_Bool, cond-true, cond-false, ne_eqb, eq-eqb, eqb-true, true≢false, cond_both}
 use Rattle.npos_base.specs.declared.figures.Edge.{Edge}
 use Rattle.weight_book.specs.Weights.{edges_from}
 use Rattle.weight_book.proofs.SumLemmas.{sum_filter-cons}
@@ -43,6 +43,12 @@ apart_weight edge voter target apart = elim apart [
 pub own_pair : (edge : Edge) → pair_weight edge.voter edge.target edge ≡ edge.amount
 own_pair edge = cond-true (nat_eq edge.voter edge.voter) (cond (nat_eq edge.target edge.target) edge.amount 0) 0 (eq-eqb edge.voter edge.voter refl)
     ∙ cond-true (nat_eq edge.target edge.target) edge.amount 0 (eq-eqb edge.target edge.target refl)
+
+pub none_weight : (edge : Edge) (voter target : ℕ) → edge.amount ≤ 0 → pair_weight voter target edge ≡ 0
+none_weight edge voter target none =
+    let inner : cond (nat_eq edge.target target) edge.amount 0 ≤ 0 = cond_both (nat_eq edge.target target) edge.amount 0 (λ n. n ≤ 0) (λ _. none) (λ _. omega arith) in
+    let outer : pair_weight voter target edge ≤ 0 = cond_both (nat_eq edge.voter voter) (cond (nat_eq edge.target target) edge.amount 0) 0 (λ n. n ≤ 0) (λ _. inner) (λ _. omega arith) in
+    omega (arith, outer)
 
 pub apart_none : (edges : List Edge) (voter target : ℕ) → All (IsApart voter target) edges → sum_by (pair_weight voter target) edges ≡ 0
 apart_none [] voter target all = refl

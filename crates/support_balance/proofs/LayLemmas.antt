@@ -27,7 +27,7 @@ pair_is one other same = elim (cases_Bool (nat_eq one.voter other.voter)) [
   | inr v ↦ absurd (true≢false (sym (rw v at same)))
 ]
 
-not_both : (one other : Edge) → IsBefore one other → IsBefore other one → ⊥
+pub not_both : (one other : Edge) → IsBefore one other → IsBefore other one → ⊥
 not_both one other x y = elim x [
   | inl a ↦ elim y [
     | inl b ↦ omega (arith, a, b)
@@ -39,7 +39,7 @@ not_both one other x y = elim x [
   ]
 ]
 
-moved_before : (one other one' other' : Edge) → IsBefore one other → one.voter ≡ one'.voter → one.target ≡ one'.target → other.voter ≡ other'.voter → other.target ≡ other'.target
+pub moved_before : (one other one' other' : Edge) → IsBefore one other → one.voter ≡ one'.voter → one.target ≡ one'.target → other.voter ≡ other'.voter → other.target ≡ other'.target
     → IsBefore one' other'
 moved_before one other one' other' x a b c d = elim x [
   | inl l ↦ inl (omega (arith, l, a, c))

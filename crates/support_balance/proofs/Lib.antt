@@ -3,6 +3,7 @@ pub mod BackingLemmas
 pub mod FallLemmas
 pub mod GivenLemmas
 pub mod HandLemmas
+pub mod JoinLemmas
 pub mod LayLemmas
 pub mod LevelLemmas
 pub mod OverLemmas

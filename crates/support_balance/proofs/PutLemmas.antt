@@ -10,14 +10,8 @@ use Rattle.election_snapshot.specs.Snapshot.{Snapshot, has, nominates}
 use Rattle.weight_book.specs.Weights.{Follows}
 use Rattle.support_balance.specs.Rounds.{GiveSame, AreRounds, IsBalanced, IsBefore, AreListed}
 use Rattle.support_balance.specs.Backing.{above_zero}
-use Rattle.support_balance.proofs.GivenLemmas.{pair_weight, given_weight}
+use Rattle.support_balance.proofs.GivenLemmas.{pair_weight, given_weight, none_weight}
 use Rattle.support_balance.proofs.BackingLemmas.{distinct_before}
-
-none_weight : (edge : Edge) (voter target : ℕ) → edge.amount ≤ 0 → pair_weight voter target edge ≡ 0
-none_weight edge voter target none =
-    let inner : cond (nat_eq edge.target target) edge.amount 0 ≤ 0 = cond_both (nat_eq edge.target target) edge.amount 0 (λ n. n ≤ 0) (λ _. none) (λ _. omega arith) in
-    let outer : pair_weight voter target edge ≤ 0 = cond_both (nat_eq edge.voter voter) (cond (nat_eq edge.target target) edge.amount 0) 0 (λ n. n ≤ 0) (λ _. inner) (λ _. omega arith) in
-    omega (arith, outer)
 
 above_weight : (edges : List Edge) (voter target : ℕ) → sum_by (pair_weight voter target) (above_zero edges) ≡ sum_by (pair_weight voter target) edges
 above_weight [] voter target = refl

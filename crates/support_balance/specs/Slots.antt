@@ -1,5 +1,5 @@
 -- An edge of amount 0 along each nomination, in order, and edges laid along those of members.
-use Rattle.std.specs.Prelude.{◌≡◌, ℕ, ◌*◌, ◌^◌, ◌<◌, ◌≤◌, ◌+◌, Bool, false, List, length, filter, All, slice_index_or}
+use Rattle.std.specs.Prelude.{◌≡◌, ℕ, ◌*◌, ◌^◌, ◌<◌, ◌≤◌, ◌+◌, ◌⊎◌, Bool, true, false, List, length, filter, All, slice_index_or}
 use Rattle.std.specs.List.{AllPairs, list_any}
 use Rattle.npos_base.specs.declared.figures.Edge.{Edge}
 use Rattle.election_snapshot.specs.Snapshot.{Snapshot, has, nominates}
@@ -34,6 +34,20 @@ pub record AreLaid (marks : ℕ → Bool) (slots edges laid : List Edge) : Type 
 
 abbrev pub slot_of : ℕ → ℕ → Edge
 slot_of voter target = record { voter = voter; target = target; amount = 0 }
+
+abbrev pub IsOldOrNew : Snapshot → ℕ → List Edge → Edge → Type 0
+IsOldOrNew snapshot target edges edge = (has_pair edges edge ≡ true)
+    ⊎ ((edge.voter < length snapshot.voters) × (nominates snapshot edge.voter target ≡ true) × (edge.target ≡ target))
+
+-- the edges, with one of amount 0 from each voter that nominates the target
+pub record IsJoined (snapshot : Snapshot) (target : ℕ) (edges joined : List Edge) : Type 0 where
+  pub rising : AllPairs IsBefore joined
+  pub all : All (λ edge. has_pair joined edge ≡ true) edges
+  pub new : (voter : ℕ) → voter < length snapshot.voters → nominates snapshot voter target ≡ true
+      → has_pair joined (slot_of voter target) ≡ true
+  pub only : All (IsOldOrNew snapshot target edges) joined
+  pub same : GiveSame edges joined
+  pub small : All (λ edge. edge.amount < 2 ^ 64) joined
 
 -- The edge at the place leads along the slot and its amount is taken, or there is none that does.
 pub record IsTaken (slot : Edge) (edges : List Edge) (at after amount : ℕ) : Type 0 where

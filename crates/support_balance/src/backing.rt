@@ -8,7 +8,7 @@ ghost use Rattle.support_balance.specs.Rounds.{GiveSame, IsBalanced, AreListed};
 ghost use Rattle.support_balance.specs.Backing.{above_zero, IsKept};
 ghost use Rattle.support_balance.specs.Slots.{AreSlots};
 
-use crate::laying::{all_slots, in_order, lay, mark, supports_of};
+use crate::laying::{all_slots, in_order, join, lay, mark, supports_of};
 use crate::rounds::rounds;
 use election_snapshot::Snapshot;
 use npos_base::{Edge, NoMemory};
@@ -114,9 +114,15 @@ impl<'a> Backing<'a> {
     {
         self.members.reserve(1)?;
         self.is_member[usize::from(target)] = true;
-        match lay(self.alloc, &self.slots, &self.is_member, &self.edges) {
-            Ok(laid) => {
-                self.edges = laid;
+        match join(
+            self.alloc,
+            self.slots.len(),
+            self.snapshot,
+            target,
+            &self.edges,
+        ) {
+            Ok(joined) => {
+                self.edges = joined;
                 push_within(&mut self.members, target);
                 Ok(())
             }

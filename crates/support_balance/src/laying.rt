@@ -1,10 +1,10 @@
 //! The layout of what each voter gives: an edge for each member that it nominates, by rising voter,
 //! then rising target, be its amount 0.
-ghost use Rattle.std.specs.Prelude.{◌≡◌, ◌<◌, ◌≤◌, ◌^◌, ◌++◌, ◌⊎◌, ℕ, false, length, map, All, IfOk, OnOk, IsTrue, IsPermutation, slice_index_or};
+ghost use Rattle.std.specs.Prelude.{◌≡◌, ◌≢◌, ◌<◌, ◌≤◌, ◌^◌, ◌++◌, ◌⊎◌, ℕ, true, false, length, map, All, IfOk, OnOk, IsTrue, IsPermutation, slice_index_or};
 ghost use Rattle.std.specs.List.{AllPairs};
 ghost use Rattle.std.specs.List.Sorted.{IsNonDecreasing, IsNonDecreasingBy};
 ghost use Rattle.support_balance.specs.Rounds.{IsBefore, GiveSame};
-ghost use Rattle.support_balance.specs.Slots.{AreSlots, marked, has_pair, AreLaid, slot_of, IsTaken, IsPassed, place_of};
+ghost use Rattle.support_balance.specs.Slots.{AreSlots, marked, has_pair, AreLaid, slot_of, IsTaken, IsPassed, IsJoined, place_of};
 ghost use Rattle.election_snapshot.specs.Snapshot.{has};
 ghost use Rattle.weight_book.specs.Weights.{support};
 
@@ -92,6 +92,64 @@ fn amount_along(slot: Edge, edges: &[Edge], at: &mut usize) -> u64
     } else {
         0
     }
+}
+
+/// Puts an edge of amount 0 into the row of each voter that nominates the target, to which no edge
+/// leads yet. Where the room is always the same, the same memory serves again and again.
+pub(crate) fn join(
+    alloc: Global,
+    room: usize,
+    snapshot: &Snapshot,
+    target: u16,
+    edges: &[Edge],
+) -> Result<Vec<Edge>, NoMemory>
+    requires in_range { target < length snapshot.now.targets }
+    requires rising { AllPairs IsBefore edges.now }
+    requires fresh { All (λ edge. edge.target ≢ target) edges.now }
+    requires small { All (λ edge. edge.amount < 2 ^ 64) edges.now }
+    ensures { IfOk result (λ joined. IsJoined snapshot.now target edges.now joined.items) }
+{
+    let mut joined = Vec::with_capacity(alloc, room)?;
+    let mut done = 0;
+    for voter in 0..snapshot.voter_count() {
+        if snapshot.nominates(voter as u32, target) {
+            let place = place_from(done, voter as u32, target, edges);
+            joined.extend_from_slice(&edges[done..place])?;
+            joined.push(Edge {
+                voter: voter as u32,
+                target,
+                amount: 0,
+            })?;
+            done = place;
+        }
+    }
+    joined.extend_from_slice(&edges[done..edges.len()])?;
+    Ok(joined)
+}
+
+/// Where an edge from the voter to the target stands among the edges, at `start` or behind it.
+fn place_from(start: usize, voter: u32, target: u16, edges: &[Edge]) -> usize
+    requires { start ≤ length edges.now }
+    ensures from { start ≤ result }
+    ensures within { result ≤ length edges.now }
+    ensures before { (k : ℕ) (d : Edge) → start ≤ k → k < result
+        → IsBefore (slice_index_or edges.now k d) (slot_of voter target) }
+    ensures next { (d : Edge) → result < length edges.now
+        → IsBefore (slice_index_or edges.now result d) (slot_of voter target) → ⊥ }
+{
+    let mut place = start;
+    while place < edges.len() && stands_before(&edges[place], voter, target) {
+        place += 1;
+    }
+    place
+}
+
+/// Whether the edge stands before one from the voter to the target.
+fn stands_before(edge: &Edge, voter: u32, target: u16) -> bool
+    ensures yes { result ≡ true → IsBefore edge.now (slot_of voter target) }
+    ensures no { result ≡ false → IsBefore edge.now (slot_of voter target) → ⊥ }
+{
+    edge.voter < voter || (edge.voter == voter && edge.target < target)
 }
 
 /// The edges in order.

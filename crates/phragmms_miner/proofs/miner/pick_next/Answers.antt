@@ -23,4 +23,4 @@ best_outside-requires-clause-rising c = rw c.fill_outside-count.ensures.outside 
 
 pub returns-clause-best : goal.returns-clause-best
 returns-clause-best c = best_of_all c.args.snapshot.now c.args.backing.now.weights.committee c.args.backing.now.weights.edges c.best_outside.result
-    (rw (c.edges-edges.ensures.edges, c.fill_outside-count.ensures.outside) at c.best_outside.ensures)
+    (rw (c.edges-edges.ensures.edges, c.fill_outside-count.ensures.outside) at c.best_outside.ensures.best)

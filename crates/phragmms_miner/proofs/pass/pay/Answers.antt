@@ -1,5 +1,5 @@
 use Rattle.std.proofs.Common.{arith, ◌≡◌, ◌<◌}
-use Rattle.phragmms_miner.proofs.RateLemmas.{part_within, part_found, part_missed, part_small}
+use Rattle.phragmms_miner.proofs.RateLemmas.{part_within, part_found, part_missed}
 use Rattle.phragmms_miner.proofs.pass.pay.Goals as goal
 
 pub overflow_sub-rest : goal.overflow_sub-rest
