@@ -1,5 +1,5 @@
 -- What one event makes of the members of one era.
-use Rattle.std.proofs.Common.{◌≡◌, ◌≢◌, ℕ, zero, suc, ◌+◌, ◌-◌, ◌<◌, ◌≤◌, Bool, true, false, cond, ◌||◌, nat_eq, nat_lt, nat_le, List, [], ◌∷◌, length, take, get_or, slice_get, slice_set, unwrap_or, fold, All, IfSome, IsSomeAnd, Option, Some, None, refl, ap, sym, subst, ◌∙◌, length-set, true≢false, arith}
+use Rattle.std.proofs.Common.{◌≡◌, ◌≢◌, ℕ, zero, suc, ◌+◌, ◌-◌, ◌<◌, ◌≤◌, Bool, true, false, cond, ◌||◌, nat_eq, nat_lt, nat_le, List, [], ◌∷◌, length, get_or, slice_get, unwrap_or, fold, All, IfSome, IsSomeAnd, Option, Some, None, refl, ap, sym, subst, ◌∙◌, length-set, arith}
 use Rattle.std.specs.Map.{values_of}
 use Rattle.std.proofs.lemmas.Option.{unwrap_or-slice_get}
 use Rattle.std.proofs.lemmas.Bool.Decides.{nat_tests}
@@ -9,11 +9,10 @@ use Rattle.npos_base.specs.declared.account.AccountId.{AccountId}
 use Rattle.npos_base.specs.declared.limits.TheConstants.{MOST_PAST_ERAS, WHOLE_FRACTION}
 use Rattle.era_book.specs.declared.exposure.Exposure.{Exposure}
 use Rattle.era_book.specs.declared.member.Member.{Member}
-use Rattle.era_book.specs.declared.refusal.EraRefusal.{EraRefusal}
 use Rattle.era_book.specs.declared.refusal.EraRefusal.TheVariants.{BadFraction, UnknownEra, EraNotOver, AlreadyClaimed, NoPoints, NotGreater}
 use Rattle.era_book.specs.Exposures.{IsSound}
-use Rattle.era_book.specs.Members.{Members, member_of, newcomer, members_with, with_member, gaining, with_points}
-use Rattle.era_book.specs.Eras.{Eras, started, is_unknown, era_of, members_in, member_in, with_members, AreMembers, AreKept}
+use Rattle.era_book.specs.Members.{Members, members_with, with_member, gaining, with_points}
+use Rattle.era_book.specs.Eras.{Eras, started, is_unknown, members_in, member_in, with_members, AreMembers, AreKept}
 use Rattle.era_book.specs.Calls.{payout_refusal, claim_refusal, claiming, slash_refusal, fraction_refusal, keeping}
 use Rattle.era_book.specs.Events.{Event, Started, Pointed, Paid, Reported, IsAccepted, after}
 use Rattle.era_book.proofs.MemberLemmas.{all_changed, all_with}

@@ -1,5 +1,5 @@
 -- What all payouts of one era are together, and all that is due from one account.
-use Rattle.std.proofs.Common.{◌≡◌, ◌≢◌, ℕ, zero, suc, ◌+◌, ◌-◌, ◌*◌, ◌<◌, ◌≤◌, Bool, true, false, cond, ◌||◌, nat_eq, nat_lt, List, [], ◌∷◌, length, map, filter, fold, slice_get, unwrap_or, sum_by, All, IsSomeAnd, Option, Some, None, refl, ap, sym, subst, ◌∙◌, true≢false, arith}
+use Rattle.std.proofs.Common.{◌≡◌, ◌≢◌, ℕ, zero, suc, ◌+◌, ◌-◌, ◌<◌, ◌≤◌, Bool, true, false, cond, ◌||◌, nat_eq, nat_lt, List, [], ◌∷◌, map, filter, fold, slice_get, unwrap_or, sum_by, All, IsSomeAnd, Option, Some, None, refl, ap, sym, subst, ◌∙◌, true≢false, arith}
 use Rattle.std.specs.Map.{values_of}
 use Rattle.std.proofs.lemmas.Bool.Decides.{nat_tests}
 use Rattle.std.proofs.lemmas.List.Elements.{All-nil, All-cons, All-head, All-tail}
@@ -11,17 +11,17 @@ use Rattle.era_book.specs.declared.exposure.Backer.{Backer}
 use Rattle.era_book.specs.declared.exposure.Exposure.{Exposure}
 use Rattle.era_book.specs.declared.member.Member.{Member}
 use Rattle.era_book.specs.Exposures.{amount_sum, amount_for, exposed_for, IsSound}
-use Rattle.era_book.specs.Payouts.{part, line, kept_lines, payout_lines}
+use Rattle.era_book.specs.Payouts.{part, line, payout_lines}
 use Rattle.era_book.specs.Slashes.{due, slash_lines}
-use Rattle.era_book.specs.Members.{Members, member_of, newcomer, members_with, total_points, with_member, gaining, with_points}
-use Rattle.era_book.specs.Eras.{Eras, first_era, started, is_unknown, members_in, member_in, with_members, AreMembers, AreKept}
+use Rattle.era_book.specs.Members.{Members, member_of, members_with, total_points, with_member, gaining, with_points}
+use Rattle.era_book.specs.Eras.{Eras, first_era, started, is_unknown, members_in, member_in, AreMembers, AreKept}
 use Rattle.era_book.specs.Calls.{claiming, keeping, paid_to, payout_in, due_behind, slash_in}
 use Rattle.era_book.specs.Events.{Event, Started, Pointed, Paid, Reported, IsAccepted, after, AreAccepted, given_by, pays, makes_due, begun}
 use Rattle.era_book.specs.Laws.{RewardLaw, DueLaw}
 use Rattle.era_book.proofs.PartLemmas.{part_whole, part_within, parts_within, due_after}
 use Rattle.era_book.proofs.LineLemmas.{kept_sum, payout_within}
 use Rattle.era_book.proofs.MemberLemmas.{sum_changed, sum_stays, sum_with, nothing_with, all_with}
-use Rattle.era_book.proofs.HistoryLemmas.{same_number, other_number, known_numbers, none_unknown, none_before, members_set, members_stay, members_enter, paid_facts, reported_facts, current_known, members_sound, kept_after, IsFine, AreFine, fine_after, all_pointed}
+use Rattle.era_book.proofs.HistoryLemmas.{same_number, other_number, none_before, members_set, members_stay, members_enter, paid_facts, reported_facts, current_known, members_sound, kept_after, IsFine, AreFine, fine_after, all_pointed}
 
 -- ---- sums over members
 sum_under : (P : Member → Type 0) (f g : Member → ℕ) → ((member : Member) → P member → f member ≤ g member) → (members : List Member) → All P members

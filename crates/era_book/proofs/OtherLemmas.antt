@@ -1,21 +1,19 @@
 -- What a change leaves as it was.
-use Rattle.std.proofs.Common.{◌≡◌, ◌≢◌, ℕ, ◌+◌, ◌<◌, ◌≤◌, Bool, true, false, cond, nat_eq, List, [], ◌∷◌, map, get_or, fold, All, Option, Some, None, refl, ap, sym, subst, ◌∙◌, true≢false, arith}
-use Rattle.std.specs.BTreeMap.{is_at, insert_entry}
+use Rattle.std.proofs.Common.{◌≡◌, ◌≢◌, ℕ, ◌+◌, Bool, true, false, cond, nat_eq, List, [], ◌∷◌, map, get_or, fold, All, Option, Some, None, refl, ap, sym, ◌∙◌, true≢false}
+use Rattle.std.specs.BTreeMap.{is_at}
 use Rattle.std.specs.List.{IsDistinct, AllByRecursion}
-use Rattle.std.specs.Map.{lookup, set_value}
+use Rattle.std.specs.Map.{set_value}
 use Rattle.std.specs.Ordering.{is_eq}
 use Rattle.std.specs.declared.cmp.Ordering.{Ordering}
 use Rattle.std.specs.declared.cmp.Ordering.TheVariants.{Less, Equal, Greater}
-use Rattle.std.proofs.lemmas.Bool.Decides.{nat_tests}
 use Rattle.std.proofs.lemmas.List.Elements.{All-nil, All-cons, All-head, All-tail}
 use Rattle.npos_base.specs.declared.account.AccountId.{AccountId}
-use Rattle.npos_base.specs.declared.limits.TheConstants.{MOST_PAST_ERAS}
 use Rattle.npos_base.specs.Account.{account_cmp, same_account}
 use Rattle.npos_base.proofs.AccountOrder.{account_total, account_exact, account_apart, same_itself}
 use Rattle.npos_base.proofs.EntryLemmas.{lookup_put, lookup_other}
 use Rattle.era_book.specs.declared.exposure.Exposure.{Exposure}
 use Rattle.era_book.specs.declared.member.Member.{Member}
-use Rattle.era_book.specs.Members.{Members, member_of, newcomer, with_exposure, members_with, put_member, changed, with_member}
+use Rattle.era_book.specs.Members.{Members, member_of, newcomer, with_exposure, put_member, changed, with_member}
 use Rattle.era_book.specs.Eras.{Eras, started, is_unknown, members_in, member_in, with_member_in, OthersStay, EarlierStay, HasExposures, HasNoOther, AreKept}
 use Rattle.era_book.proofs.HistoryLemmas.{same_number, known_numbers, members_set, members_stay, members_enter}
 

@@ -1,5 +1,5 @@
 -- Parts are rounded down, so the parts of some amounts are together at most the part of all.
-use Rattle.std.proofs.Common.{◌≡◌, ℕ, zero, suc, ◌+◌, ◌-◌, ◌*◌, ◌/◌, ◌≤◌, List, [], ◌∷◌, sum_by, refl, ap, sym, ◌∙◌, mul-add, arith}
+use Rattle.std.proofs.Common.{◌≡◌, ℕ, zero, suc, ◌+◌, ◌*◌, ◌/◌, ◌≤◌, List, [], ◌∷◌, sum_by, ap, sym, ◌∙◌, mul-add, arith}
 use Rattle.std.proofs.Math.Nat.{div-zero, div-mul-le_self, mul-le-mul_left}
 use Rattle.std.proofs.lemmas.Nat.{le-div, div-mul-add}
 use Rattle.std.proofs.lemmas.List.Sums.{sum_by-cons}

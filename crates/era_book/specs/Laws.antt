@@ -2,7 +2,6 @@
 use Rattle.std.specs.Prelude.{◌≡◌, ℕ, ◌+◌, ◌≤◌, List}
 use Rattle.npos_base.specs.declared.account.AccountId.{AccountId}
 use Rattle.era_book.specs.declared.exposure.Exposure.{Exposure}
-use Rattle.era_book.specs.declared.exposure.Backer.{Backer}
 use Rattle.era_book.specs.Exposures.{IsSound, exposed_for}
 use Rattle.era_book.specs.Payouts.{payout_of}
 use Rattle.era_book.specs.Slashes.{due}

@@ -1,6 +1,6 @@
 //! The worked payout and the worked slashes, each refusal, and the eras that go. Expected answers
 //! are the rules', by hand.
-ghost use Rattle.std.specs.Prelude.{◌≡◌, ◌<◌, ◌^◌, ◌-◌, IfOk};
+ghost use Rattle.std.specs.Prelude.{◌≡◌, IfOk};
 ghost use Rattle.era_book.specs.Exposures.{AreSound};
 
 use crate::{Backer, EraBook, EraRefusal, Exposure, laws};
@@ -33,7 +33,9 @@ const REPORTS: [(u32, u8, u32, &str); 9] = [
 ];
 
 /// The account of 31 bytes 0 and this one.
-const fn at(n: u8) -> AccountId {
+const fn at(n: u8) -> AccountId
+    ensures { result ≡ record { hi = 0; lo = n } }
+{
     AccountId {
         hi: 0,
         lo: n as u128,
@@ -53,33 +55,42 @@ fn number(refusal: EraRefusal) -> u32 {
     }
 }
 
+fn exposure(
+    alloc: Global,
+    n: u8,
+    commission: u32,
+    support: u64,
+    backers: &[Backer],
+) -> Result<Exposure, NoMemory>
+    ensures { IfOk result (λ exposure. exposure ≡ record {
+      validator = record { hi = 0; lo = n };
+      commission = commission;
+      support = support;
+      backers = backers.now;
+    }) }
+{
+    Ok(Exposure {
+        validator: at(n),
+        commission,
+        support,
+        backers: List::from_vec(Vec::from_slice(alloc, backers)?),
+    })
+}
+
+/// What the account backs a validator with.
+const fn backer(n: u8, amount: u64) -> Backer
+    ensures { result ≡ record { who = record { hi = 0; lo = n }; amount = amount } }
+{
+    Backer { who: at(n), amount }
+}
+
 /// Three validators: with two backers, one of them itself; with another; and with none.
 fn three(alloc: Global) -> Result<List<Exposure>, NoMemory>
     ensures { IfOk result AreSound }
 {
-    let first = [(1, 50), (2, 40)].map(|(n, amount)| Backer { who: at(n), amount });
-    let second = [Backer {
-        who: at(4),
-        amount: 55,
-    }];
-    let first = Exposure {
-        validator: at(1),
-        commission: 100_000_000,
-        support: 90,
-        backers: List::from_vec(Vec::from_slice(alloc, &first)?),
-    };
-    let second = Exposure {
-        validator: at(3),
-        commission: 0,
-        support: 55,
-        backers: List::from_vec(Vec::from_slice(alloc, &second)?),
-    };
-    let third = Exposure {
-        validator: at(5),
-        commission: 500_000_000,
-        support: 0,
-        backers: List::new(alloc),
-    };
+    let first = exposure(alloc, 1, 100_000_000, 90, &[backer(1, 50), backer(2, 40)])?;
+    let second = exposure(alloc, 3, 0, 55, &[backer(4, 55)])?;
+    let third = exposure(alloc, 5, 500_000_000, 0, &[])?;
     Ok(List::from_vec(vec![in alloc; first, second, third]?))
 }
 

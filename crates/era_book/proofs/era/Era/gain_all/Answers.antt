@@ -1,4 +1,4 @@
-use Rattle.std.proofs.Common.{◌≡◌, ℕ, get_or, ◌∙◌, ap, sym}
+use Rattle.std.proofs.Common.{ℕ, get_or, ◌∙◌, ap, sym}
 use Rattle.std.proofs.lemmas.List.Sums.{fold_more}
 use Rattle.npos_base.specs.declared.account.AccountId.{AccountId}
 use Rattle.era_book.specs.Members.{Members, with_points}

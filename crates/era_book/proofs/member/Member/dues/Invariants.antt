@@ -1,4 +1,4 @@
-use Rattle.std.proofs.Common.{◌≡◌, ℕ, ◌+◌, ◌≤◌, length, take}
+use Rattle.std.proofs.Common.{◌≡◌, ◌+◌, ◌≤◌, length, take}
 use Rattle.era_book.specs.Slashes.{slash_lines}
 use Rattle.era_book.proofs.member.Member.dues.Given as goal
 
