@@ -24,10 +24,10 @@ bytes_compact : (number : ℕ) → IsBytes (compact_bytes number)
 unfolding compact_bytes
 bytes_compact number = by3 (nat_lt number 64) (nat_lt number (2 ^ 14)) (nat_lt number (2 ^ 30)) where
   by3 : (a b c : Bool) → IsBytes (
-    if a then little_endian 1 (4 * number)
-    else if b then little_endian 2 (4 * number + 1)
-    else if c then little_endian 4 (4 * number + 2)
-    else (4 * (least_bytes number - 4) + 3) ∷ little_endian (least_bytes number) number)
+      if a then little_endian 1 (4 * number)
+      else if b then little_endian 2 (4 * number + 1)
+      else if c then little_endian 4 (4 * number + 2)
+      else (4 * (least_bytes number - 4) + 3) ∷ little_endian (least_bytes number) number)
   by3 true b c = are_bytes-little_endian 1 (4 * number)
   by3 false true c = are_bytes-little_endian 2 (4 * number + 1)
   by3 false false true = are_bytes-little_endian 4 (4 * number + 2)

@@ -240,7 +240,15 @@ const MINED: [(&str, u64, u64, Voters, &[u8], u8, &str); 10] = [
         "fault 0 snapshot 2 3 2\n",
     ),
     ("fill", 2, 3, APART, &[0, 0], 3, "fault 170 trailing\n"),
-    ("mms", 2, 2, &[(9, &[0, 2])], &[0], 3, "fault 0 snapshot 5 0\n"),
+    (
+        "mms",
+        2,
+        2,
+        &[(9, &[0, 2])],
+        &[0],
+        3,
+        "fault 0 snapshot 5 0\n",
+    ),
     (
         "seq",
         2,

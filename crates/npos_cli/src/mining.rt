@@ -114,11 +114,7 @@ fn packed_weights(
 }
 
 /// The answer of weights that are packed, or of the lowest member that is lost.
-fn answer_packed(
-    alloc: Global,
-    snapshot: Snapshot,
-    weights: Weights,
-) -> Result<Answer, NoMemory>
+fn answer_packed(alloc: Global, snapshot: Snapshot, weights: Weights) -> Result<Answer, NoMemory>
     requires feasible { IsFeasible snapshot weights.plain }
     requires above { All (λ edge. 0 < edge.amount) weights.plain.edges }
     ensures { IfOk result (λ answer. report_of answer

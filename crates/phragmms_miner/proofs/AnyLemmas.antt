@@ -207,12 +207,12 @@ module _ (snapshot : Snapshot) (committee : List ℕ) (in_range : (target : ℕ)
           elim (cases_lt (support edges pick) (support edges other)) [
             | inl less ↦ inl (omega (arith, less, support_pick, ap (support more) e, support_other other ne))
             | inr equal ↦ inr (
-                omega (arith, most, equal, support_pick, ap (support more) e, support_other other ne),
-                elim (cases_lt one other) [
-                  | inl below ↦ below
-                  | inr above ↦ absurd (omega (arith, equal, least.lowest other (no_equal other ne above e) u))
-                ],
-              )
+              omega (arith, most, equal, support_pick, ap (support more) e, support_other other ne),
+              elim (cases_lt one other) [
+                | inl below ↦ below
+                | inr above ↦ absurd (omega (arith, equal, least.lowest other (no_equal other ne above e) u))
+              ],
+            )
           ]
       | inr ne ↦
           let before = filled.level one other t u apart (omega (arith, some, given_other one ne)) in
@@ -260,21 +260,27 @@ module _ (snapshot : Snapshot) (committee : List ℕ) (in_range : (target : ℕ)
   any_turn : (voter : ℕ) → voter < length snapshot.voters → (old : List Edge) → All IsFine old → (new : List Edge) × IsTurn snapshot committee voter old new × All IsFine new
   any_turn voter within old fine = elim (least_of (λ _. 0) (backs snapshot committee voter) (length snapshot.targets)) [
     | inl found ↦
-        let whole = units voter within old fine found.0 found.1.passes_is (stake_of snapshot voter) in
-        (whole.0, record {
-          others = whole.1.others;
-          to_backed = whole.1.to_backed;
-          whole = λ target backed. whole.1.spent_is;
-          level = whole.1.level;
-        }, whole.1.fine)
+        let whole = units voter within old fine found.0 found.1.passes_is (stake_of snapshot voter) in (
+          whole.0,
+          record {
+            others = whole.1.others;
+            to_backed = whole.1.to_backed;
+            whole = λ target backed. whole.1.spent_is;
+            level = whole.1.level;
+          },
+          whole.1.fine,
+        )
     | inr none ↦
-        let nothing = none_filled voter old fine in
-        (edges_but old voter, record {
-          others = nothing.others;
-          to_backed = nothing.to_backed;
-          whole = λ target backed. absurd (true≢false (sym backed ∙ none target (backed_below voter target backed)));
-          level = nothing.level;
-        }, nothing.fine)
+        let nothing = none_filled voter old fine in (
+          edges_but old voter,
+          record {
+            others = nothing.others;
+            to_backed = nothing.to_backed;
+            whole = λ target backed. absurd (true≢false (sym backed ∙ none target (backed_below voter target backed)));
+            level = nothing.level;
+          },
+          nothing.fine,
+        )
   ]
 
   any_turns : (voters : ℕ) → voters ≤ length snapshot.voters → (old : List Edge) → All IsFine old → (new : List Edge) × AreTurns snapshot committee voters old new × All IsFine new
@@ -303,16 +309,16 @@ module _ (snapshot : Snapshot) (committee : List ℕ) (in_range : (target : ℕ)
       let round = any_turns (length snapshot.voters) (omega arith) now fine in
       elim (same_or_not now round.0) [
         | inl same ↦ record {
-            made = done + 1;
-            new = round.0;
-            balanced = record {
-              after = round.0;
-              no_more = omega (arith, count);
-              rounds = inr (done, now, refl, rounds, round.1, same);
-              same = λ voter target. refl;
-            };
-            fine = round.2;
-          }
+          made = done + 1;
+          new = round.0;
+          balanced = record {
+            after = round.0;
+            no_more = omega (arith, count);
+            rounds = inr (done, now, refl, rounds, round.1, same);
+            same = λ voter target. refl;
+          };
+          fine = round.2;
+        }
         | inr apart ↦ any_rounds left asked (suc done) old round.0 (omega (arith, count)) (now, rounds, round.1, apart) round.2
       ]
 
@@ -538,16 +544,19 @@ module _ (snapshot : Snapshot) (rounds seat : ℕ) (some : 1 ≤ rounds) (old : 
     spends : (voter : ℕ) → voter < length snapshot.voters → spent edges voter ≤ stake_of snapshot voter
     spends voter h = by (edges_from edges voter) refl (All-filter (λ (e : Edge). nat_eq e.voter voter) (λ (e : Edge). (e.voter < length snapshot.voters) × (backs snapshot members e.voter e.target ≡ true)) edges each)
         (λ k d l. filter_passes (λ (e : Edge). nat_eq e.voter voter) edges k d l) where
-      by : (own : List Edge) → edges_from edges voter ≡ own → All (λ (e : Edge). (e.voter < length snapshot.voters) × (backs snapshot members e.voter e.target ≡ true)) (edges_from edges voter)
-          → All (λ (e : Edge). nat_eq e.voter voter ≡ true) (edges_from edges voter) → spent edges voter ≤ stake_of snapshot voter
-      by [] is all owned = omega (arith, ap amount_sum is)
-      by (edge ∷ rest) is all owned =
-          let first = All-head (λ (e : Edge). (e.voter < length snapshot.voters) × (backs snapshot members e.voter e.target ≡ true)) edge rest
-          (subst (λ (es : List Edge). All (λ (e : Edge). (e.voter < length snapshot.voters) × (backs snapshot members e.voter e.target ≡ true)) es) is all) in
-          let mine : edge.voter ≡ voter = eqb-true edge.voter voter (All-head (λ (e : Edge). nat_eq e.voter voter ≡ true) edge rest
-          (subst (λ (es : List Edge). All (λ (e : Edge). nat_eq e.voter voter ≡ true) es) is owned)) in
-          omega (arith, balanced_whole snapshot members rounds balance.made old.edges edges some balanced voter edge.target h
-          (subst (λ (v : ℕ). backs snapshot members v edge.target ≡ true) mine first.1))
+          by : (own : List Edge) → edges_from edges voter ≡ own → All (λ (e : Edge). (e.voter < length snapshot.voters) × (backs snapshot members e.voter e.target ≡ true)) (edges_from edges voter)
+              → All (λ (e : Edge). nat_eq e.voter voter ≡ true) (edges_from edges voter) → spent edges voter ≤ stake_of snapshot voter
+          by [] is all owned = omega (arith, ap amount_sum is)
+          by (edge ∷ rest) is all owned =
+              let first = All-head (λ (e : Edge). (e.voter < length snapshot.voters) × (backs snapshot members e.voter e.target ≡ true)) edge rest
+              (subst (λ (es : List Edge). All (λ (e : Edge). (e.voter < length snapshot.voters) × (backs snapshot members e.voter e.target ≡ true)) es) is all) in
+              let mine : edge.voter ≡ voter = eqb-true edge.voter voter (All-head (λ (e : Edge). nat_eq e.voter voter ≡ true) edge rest
+              (subst (λ (es : List Edge). All (λ (e : Edge). nat_eq e.voter voter ≡ true) es) is owned)) in
+              omega (
+                arith,
+                balanced_whole snapshot members rounds balance.made old.edges edges some balanced voter edge.target h
+                    (subst (λ (v : ℕ). backs snapshot members v edge.target ≡ true) mine first.1),
+              )
 
     follows : Follows snapshot new
     follows = record {

@@ -17,10 +17,13 @@ score-claim-requires-clause-distinct c =
 
 pub score-claim-requires-clause-fits : goal.score-claim-requires-clause-fits
 score-claim-requires-clause-fits c =
-    omega (arith, amounts_within c.args.snapshot c.expand-yes.new.weights.plain
-    (whole_feasible c.args.snapshot c.args.solution c.expand-yes.new.weights.plain c.requires
-    (whole_as c.args.snapshot c.in_ok-checker.checker c.args.solution c.expand-yes.new.weights.plain c.in_ok-checker.ensures c.requires c.expand-yes.ensures.weights)),
-    c.seats-seats.ensures.well_formed.voters.total_fits)
+    omega (
+      arith,
+      amounts_within c.args.snapshot c.expand-yes.new.weights.plain
+          (whole_feasible c.args.snapshot c.args.solution c.expand-yes.new.weights.plain c.requires
+          (whole_as c.args.snapshot c.in_ok-checker.checker c.args.solution c.expand-yes.new.weights.plain c.in_ok-checker.ensures c.requires c.expand-yes.ensures.weights)),
+      c.seats-seats.ensures.well_formed.voters.total_fits,
+    )
 
 pub tell_weights-requires : goal.tell_weights-requires
 tell_weights-requires c =
