@@ -1,5 +1,5 @@
 -- A member's slots join the edges.
-use Rattle.std.proofs.Common.{◌≡◌, ◌≢◌, ℕ, zero, suc, ◌+◌, ◌-◌, ◌^◌, ◌<◌, ◌≤◌, ◌⊎◌, Bool, true, false, ◌&&◌, ◌||◌, nat_eq, List, [], ◌∷◌, ◌++◌, length, take, drop, get_or, All, inl, inr, refl, ap, sym, subst, ◌∙◌, arith}
+use Rattle.std.proofs.Common.{◌≡◌, ◌≢◌, ℕ, zero, suc, ◌+◌, ◌-◌, ◌^◌, ◌<◌, ◌≤◌, Bool, true, false, ◌&&◌, ◌||◌, nat_eq, List, [], ◌∷◌, ◌++◌, length, take, drop, get_or, All, inl, inr, refl, ap, sym, subst, ◌∙◌, arith}
 use Rattle.std.specs.List.{AllPairs}
 use Rattle.std.proofs.lemmas.List.{get_or-drop, get_or-take, length-drop, length-take-le, take-append-drop, take_all, get_or_default}
 use Rattle.std.proofs.Math.Seq.{take-append-add}
@@ -10,9 +10,9 @@ use Rattle.std.proofs.lemmas.List.Folds.{list_any-append}
 use Rattle.std.proofs.lemmas.Bool.{cases_Bool, cases_lt, cases_eq, eq-eqb, eqb-true, ne_eqb, or_left, or_right, true≢false}
 use Rattle.npos_base.specs.declared.figures.Edge.{Edge}
 use Rattle.election_snapshot.specs.Snapshot.{Snapshot, has, nominates}
-use Rattle.weight_book.specs.Weights.{edges_from, same_pair, support}
+use Rattle.weight_book.specs.Weights.{edges_from, same_pair}
 use Rattle.support_balance.specs.Turns.{given}
-use Rattle.support_balance.specs.Rounds.{IsBefore, GiveSame}
+use Rattle.support_balance.specs.Rounds.{IsBefore}
 use Rattle.support_balance.specs.Rows.{AreAlike}
 use Rattle.support_balance.specs.Laid.{targets_of}
 use Rattle.support_balance.specs.Slots.{AreSlots, marked, has_pair, AreLaid, slot_of, IsOldOrNew, IsJoined}

@@ -1,10 +1,10 @@
 -- Edges above 0, and rounds from edges that give the same.
-use Rattle.std.proofs.Common.{◌≡◌, ℕ, zero, suc, ◌+◌, ◌<◌, ◌≤◌, Bool, true, cond, nat_eq, nat_lt, List, [], ◌∷◌, length, sum_by, get_or, inl, inr, refl, ap, sym, ◌∙◌, arith}
+use Rattle.std.proofs.Common.{◌≡◌, ℕ, zero, suc, ◌+◌, ◌<◌, ◌≤◌, Bool, true, nat_lt, List, [], ◌∷◌, length, sum_by, get_or, inl, inr, refl, ap, sym, ◌∙◌, arith}
 use Rattle.std.specs.List.{AllPairs}
 use Rattle.std.proofs.lemmas.List.Sums.{sum_by-cons}
 use Rattle.std.proofs.lemmas.List.Elements.{All-filter, filter_passes}
 use Rattle.std.proofs.lemmas.List.Kept.{AllPairs-filter}
-use Rattle.std.proofs.lemmas.Bool.{cases_Bool, ltb-true, ltb-false, cond_both}
+use Rattle.std.proofs.lemmas.Bool.{cases_Bool, ltb-true, ltb-false}
 use Rattle.npos_base.specs.declared.figures.Edge.{Edge}
 use Rattle.election_snapshot.specs.Snapshot.{Snapshot, has, nominates}
 use Rattle.weight_book.specs.Weights.{Follows}

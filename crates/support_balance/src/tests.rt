@@ -130,5 +130,6 @@ fn balancings_are_the_worked_ones(rt: HostRuntime) -> Result<(), Fail> {
     }
     laws::the_amounts_of_a_turn_are_unique();
     laws::a_turn_does_not_raise_the_squares();
+    laws::a_balancing_does_not_raise_the_squares();
     Ok(())
 }

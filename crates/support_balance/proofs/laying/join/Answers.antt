@@ -1,7 +1,7 @@
 use Rattle.std.proofs.Common.{rules, arith, ◌≡◌, ◌-◌, ◌<◌, ◌≤◌, ◌++◌, ◌∷◌, [], true, false, length, take, drop, sym, ◌∙◌}
 use Rattle.election_snapshot.specs.Snapshot.{nominates}
 use Rattle.support_balance.specs.Slots.{slot_of}
-use Rattle.support_balance.proofs.JoinLemmas.{none_joined, row_joined, passed_by, end_joined}
+use Rattle.support_balance.proofs.JoinLemmas.{row_joined, passed_by, end_joined}
 use Rattle.support_balance.proofs.laying.join.Goals.{then-nominates+in_ok-extend_from_slice+in_ok-push, else-nominates}
 use Rattle.support_balance.proofs.laying.join.Goals as goal
 
