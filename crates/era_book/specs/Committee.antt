@@ -1,0 +1,49 @@
+-- The exposures of a committee, from the edges by which it was elected.
+use Rattle.std.specs.Prelude.{◌≡◌, ℕ, ◌<◌, Bool, true, false, not, ◌&&◌, nat_eq, nat_lt, if◌then◌else◌, List, [], ◌∷◌, ◌++◌, length, map, filter, slice_index_or, All}
+use Rattle.npos_base.specs.declared.account.AccountId.{AccountId}
+use Rattle.npos_base.specs.declared.figures.Edge.{Edge}
+use Rattle.npos_base.specs.Account.{same_account}
+use Rattle.era_book.specs.declared.exposure.Backer.{Backer}
+use Rattle.era_book.specs.declared.exposure.Exposure.{Exposure}
+use Rattle.era_book.specs.Payouts.{line}
+
+abbrev pub account_at : List AccountId → ℕ → AccountId
+account_at accounts place = slice_index_or accounts place (record { hi = 0; lo = 0 })
+
+-- the edge gives something to the target
+abbrev pub gives_to : ℕ → Edge → Bool
+gives_to target edge = nat_eq edge.target target && nat_lt 0 edge.amount
+
+abbrev pub backer_of : List AccountId → Edge → Backer
+backer_of voters edge = line (account_at voters edge.voter) edge.amount
+
+-- the validator's own edge, or one of another
+abbrev pub is_of : Bool → List AccountId → List AccountId → Edge → Bool
+is_of own targets voters edge =
+    if own then same_account (account_at voters edge.voter) (account_at targets edge.target)
+    else not (same_account (account_at voters edge.voter) (account_at targets edge.target))
+
+-- those who give to a target in the order of the edges: the validator itself, or the others
+abbrev pub backers_among : Bool → List AccountId → List AccountId → List Edge → ℕ → List Backer
+backers_among own targets voters edges target =
+    map (backer_of voters) (filter (λ edge. gives_to target edge && is_of own targets voters edge) edges)
+
+-- the validator's own part first, then the others
+abbrev pub backers_of : List AccountId → List AccountId → List Edge → ℕ → List Backer
+backers_of targets voters edges target =
+    backers_among true targets voters edges target ++ backers_among false targets voters edges target
+
+-- the exposure of one member; commissions and supports stand by target
+abbrev pub exposure_of : List AccountId → List ℕ → List ℕ → List AccountId → List Edge → ℕ → Exposure
+exposure_of targets commissions supports voters edges member =
+    record {
+      validator = account_at targets member;
+      commission = slice_index_or commissions member 0;
+      support = slice_index_or supports member 0;
+      backers = backers_of targets voters edges member;
+    }
+
+-- the places that an edge names
+pub record IsWithin (targets voters : List AccountId) (edge : Edge) : Type 0 where
+  pub target : edge.target < length targets
+  pub voter : edge.voter < length voters
