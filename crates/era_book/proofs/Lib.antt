@@ -5,3 +5,4 @@ pub mod EraLemmas
 pub mod HistoryLemmas
 pub mod LawLemmas
 pub mod OtherLemmas
+pub mod CommitteeLemmas

@@ -1,10 +1,12 @@
 -- The exposures of a committee, from the edges by which it was elected.
-use Rattle.std.specs.Prelude.{◌≡◌, ℕ, ◌<◌, Bool, true, false, not, ◌&&◌, nat_eq, nat_lt, if◌then◌else◌, List, [], ◌∷◌, ◌++◌, length, map, filter, slice_index_or, All}
+use Rattle.std.specs.Prelude.{◌≡◌, ℕ, ◌<◌, ◌≤◌, Bool, true, false, not, ◌&&◌, nat_eq, nat_lt, if◌then◌else◌, List, ◌++◌, length, map, filter, sum_by, slice_index_or}
+use Rattle.std.specs.List.{IsDistinct}
 use Rattle.npos_base.specs.declared.account.AccountId.{AccountId}
 use Rattle.npos_base.specs.declared.figures.Edge.{Edge}
 use Rattle.npos_base.specs.Account.{same_account}
 use Rattle.era_book.specs.declared.exposure.Backer.{Backer}
 use Rattle.era_book.specs.declared.exposure.Exposure.{Exposure}
+use Rattle.era_book.specs.Exposures.{amount_sum, exposed_for}
 use Rattle.era_book.specs.Payouts.{line}
 
 abbrev pub account_at : List AccountId → ℕ → AccountId
@@ -42,6 +44,27 @@ exposure_of targets commissions supports voters edges member =
       support = slice_index_or supports member 0;
       backers = backers_of targets voters edges member;
     }
+
+-- what the edges give to a target
+abbrev pub given_to : ℕ → List Edge → ℕ
+given_to target edges = sum_by (λ edge. edge.amount) (filter (λ edge. nat_eq edge.target target) edges)
+
+-- what the edges of one account give
+abbrev pub spent_by : List AccountId → AccountId → List Edge → ℕ
+spent_by voters who edges =
+    sum_by (λ edge. edge.amount) (filter (λ edge. same_account (account_at voters edge.voter) who) edges)
+
+-- the backers of a target give together what its edges do
+abbrev pub SupportLaw : Type 0
+SupportLaw = (targets voters : List AccountId) (edges : List Edge) (target : ℕ) →
+    amount_sum (backers_of targets voters edges target) ≡ given_to target edges
+
+-- all exposures of a committee hold for an account at most what its edges give
+abbrev pub SpentLaw : Type 0
+SpentLaw = (targets voters : List AccountId) (commissions supports : List ℕ) (edges : List Edge)
+    (members : List ℕ) (who : AccountId) → IsDistinct nat_eq members →
+    exposed_for who (map (exposure_of targets commissions supports voters edges) members)
+    ≤ spent_by voters who edges
 
 -- the places that an edge names
 pub record IsWithin (targets voters : List AccountId) (edge : Edge) : Type 0 where

@@ -239,4 +239,5 @@ fn each_law_is_called(_rt: HostRuntime) {
     laws::dues_telescope();
     laws::payouts_are_within_the_reward();
     laws::dues_are_within_the_exposures();
+    laws::exposures_are_the_edges();
 }
