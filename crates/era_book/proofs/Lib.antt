@@ -6,3 +6,4 @@ pub mod HistoryLemmas
 pub mod LawLemmas
 pub mod OtherLemmas
 pub mod CommitteeLemmas
+pub mod BackerLemmas

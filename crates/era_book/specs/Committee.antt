@@ -1,5 +1,5 @@
 -- The exposures of a committee, from the edges by which it was elected.
-use Rattle.std.specs.Prelude.{◌≡◌, ℕ, ◌<◌, ◌≤◌, Bool, true, false, not, ◌&&◌, nat_eq, nat_lt, if◌then◌else◌, List, ◌++◌, length, map, filter, sum_by, slice_index_or}
+use Rattle.std.specs.Prelude.{◌≡◌, ℕ, ◌<◌, ◌≤◌, Bool, true, false, not, ◌&&◌, nat_eq, nat_lt, if◌then◌else◌, List, ◌++◌, length, map, filter, sum_by, slice_index_or, All}
 use Rattle.std.specs.List.{IsDistinct}
 use Rattle.npos_base.specs.declared.account.AccountId.{AccountId}
 use Rattle.npos_base.specs.declared.figures.Edge.{Edge}
@@ -65,6 +65,17 @@ SpentLaw = (targets voters : List AccountId) (commissions supports : List ℕ) (
     (members : List ℕ) (who : AccountId) → IsDistinct nat_eq members →
     exposed_for who (map (exposure_of targets commissions supports voters edges) members)
     ≤ spent_by voters who edges
+
+-- the edges lead from one voter to one target
+abbrev pub same_pair : Edge → Edge → Bool
+same_pair a b = nat_eq a.voter b.voter && nat_eq a.target b.target
+
+-- where no account is two voters and no voter gives twice to a target, no account backs it twice
+abbrev pub BackersLaw : Type 0
+BackersLaw = (targets voters : List AccountId) (edges : List Edge) (target : ℕ) →
+    IsDistinct same_account voters → All (λ edge. edge.voter < length voters) edges →
+    IsDistinct same_pair edges →
+    IsDistinct same_account (map (λ backer. backer.who) (backers_of targets voters edges target))
 
 -- the places that an edge names
 pub record IsWithin (targets voters : List AccountId) (edge : Edge) : Type 0 where
