@@ -232,7 +232,7 @@ held who member = amount_for who member.exposure.backers
 abbrev all_held : AccountId → Members → ℕ
 all_held who members = sum_by (held who) (values_of members)
 
-for_sum : (who : AccountId) (ls : List Backer) → amount_for who ls ≡ sum_by (λ l. cond (same_account l.who who) l.amount 0) ls
+pub for_sum : (who : AccountId) (ls : List Backer) → amount_for who ls ≡ sum_by (λ l. cond (same_account l.who who) l.amount 0) ls
 for_sum who [] = refl
 for_sum who (l ∷ ls) = at (same_account l.who who) refl (for_sum who ls) where
   at : (b : Bool) → same_account l.who who ≡ b → amount_for who ls ≡ sum_by (λ l. cond (same_account l.who who) l.amount 0) ls

@@ -5,3 +5,5 @@ pub mod EraLemmas
 pub mod HistoryLemmas
 pub mod LawLemmas
 pub mod OtherLemmas
+pub mod CommitteeLemmas
+pub mod BackerLemmas

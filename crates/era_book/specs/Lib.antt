@@ -6,3 +6,4 @@ pub mod Eras
 pub mod Calls
 pub mod Events
 pub mod Laws
+pub mod Committee

@@ -4,6 +4,7 @@
 #![tactic(auto)]
 
 mod book;
+mod committee;
 mod era;
 mod exposure;
 pub mod laws;
@@ -13,6 +14,7 @@ mod payout;
 mod refusal;
 
 pub use book::EraBook;
+pub use committee::exposures_of;
 pub use exposure::{Backer, Exposure};
 pub use payout::Payout;
 pub use refusal::EraRefusal;

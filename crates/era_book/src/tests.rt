@@ -3,8 +3,8 @@
 ghost use Rattle.std.specs.Prelude.{◌≡◌, IfOk};
 ghost use Rattle.era_book.specs.Exposures.{AreSound};
 
-use crate::{Backer, EraBook, EraRefusal, Exposure, laws};
-use npos_base::{AccountId, List, NoMemory};
+use crate::{Backer, EraBook, EraRefusal, Exposure, exposures_of, laws};
+use npos_base::{AccountId, Edge, List, NoMemory};
 use std::alloc::Global;
 use std::fmt::Write;
 use std::test::Fail;
@@ -189,10 +189,55 @@ fn eighty_four_eras_stay(rt: HostRuntime) -> Result<(), Fail> {
     Ok(())
 }
 
+const EDGES: [Edge; 4] = [
+    Edge {
+        voter: 0,
+        target: 0,
+        amount: 40,
+    },
+    Edge {
+        voter: 0,
+        target: 1,
+        amount: 0,
+    },
+    Edge {
+        voter: 1,
+        target: 0,
+        amount: 50,
+    },
+    Edge {
+        voter: 2,
+        target: 1,
+        amount: 5,
+    },
+];
+
+#[test]
+fn the_validator_stands_before_its_other_backers(rt: HostRuntime) -> Result<(), Fail> {
+    let alloc = rt.alloc();
+    let targets = [at(1), at(2)];
+    let voters = [at(3), at(1), at(4)];
+    let exposures = exposures_of(alloc, &targets, &[7, 8], &[90, 5], &voters, &[0, 1], &EDGES)?;
+    let mut text = String::new(alloc);
+    for seat in exposures.as_slice() {
+        write!(
+            text,
+            "{} {} {}:",
+            seat.validator.lo, seat.commission, seat.support
+        )?;
+        for backer in seat.backers.as_slice() {
+            write!(text, " {} {},", backer.who.lo, backer.amount)?;
+        }
+    }
+    assert_eq!(rt; text.as_str(), "1 7 90: 1 50, 3 40,2 8 5: 4 5,");
+    Ok(())
+}
+
 #[test]
 fn each_law_is_called(_rt: HostRuntime) {
     laws::a_payout_is_within_its_value();
     laws::dues_telescope();
     laws::payouts_are_within_the_reward();
     laws::dues_are_within_the_exposures();
+    laws::exposures_are_the_edges();
 }
