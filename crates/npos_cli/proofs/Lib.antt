@@ -14,3 +14,6 @@ pub mod PromiseLaws
 pub mod WholeLaws
 pub mod FaultLaws
 pub mod SeatLaws
+pub mod FeedLaws
+pub mod CourseLaws
+pub mod JobLaws

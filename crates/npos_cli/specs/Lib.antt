@@ -15,6 +15,7 @@ pub mod Chain
 pub mod Books
 pub mod Headline
 pub mod Turning
+pub mod Streaming
+pub mod Ran
 pub mod Answer
-pub mod Due
 pub mod Laws
