@@ -1,28 +1,28 @@
 -- How single reads add up to all that was left, and a write and a flush to a delivery.
 use Rattle.std.proofs.Common.{◌≡◌, ◌⊎◌, inl, inr, Bool, true, false, ℕ, List, [], ◌++◌, length, take, Option, Some, None, refl, sym, ◌∙◌, ap, subst, append_assoc, arith}
-use Rattle.std.proofs.lemmas.List.{append-nil, take_all}
+use Rattle.std.proofs.lemmas.List.{append-nil, take_all, take_at}
 use Rattle.npos_base.specs.Outside.{Told, IsAtEnd, Appends, Flushes}
-use Rattle.npos_cli.specs.Owed.{LeftAfter, IsDrained, TakesMore, Delivers, DeliversFront, KeepsFlushed}
+use Rattle.npos_cli.specs.Owed.{LeftAfter, IsDrained, Delivers, DeliversFront, KeepsFlushed}
+use Rattle.npos_cli.specs.Replay.{IsFront}
 use Rattle.npos_cli.specs.Ahead.{HasSeen}
 
-left_join : (old mid new : Option (List ℕ)) (bytes taken : List ℕ)
+pub left_join : (old mid new : Option (List ℕ)) (bytes taken : List ℕ)
     → LeftAfter old mid bytes → LeftAfter mid new taken → LeftAfter old new (bytes ++ taken)
 left_join None mid new bytes taken before more = tt
 left_join (Some left) mid new bytes taken before more =
     let t = subst (λ (m : Option (List ℕ)). LeftAfter m new taken) before.1 more in
     (t.0, t.1, before.2 ∙ (ap (λ back. bytes ++ back) t.2 ∙ sym (append_assoc bytes taken t.0)))
 
-left_none : (old : Option (List ℕ)) (bytes : List ℕ) → bytes ≡ [] → LeftAfter old old bytes
+pub left_none : (old : Option (List ℕ)) (bytes : List ℕ) → bytes ≡ [] → LeftAfter old old bytes
 left_none None bytes empty = tt
 left_none (Some left) bytes empty = (left, refl, ap (λ front. front ++ left) (sym empty))
 
--- what a read that was tried tells of what was seen
-pub seen_once : (old new : Option (List ℕ)) (before after : List ℕ) (ended : Bool) → TakesMore old new before after ended
-    → (taken : List ℕ) × (after ≡ before ++ taken) × HasSeen old new taken false ended
-seen_once old new before after ended takes = (takes.0, takes.1, record { taken = takes.2; at_end = λ end. inr (drained old takes.2 (takes.3 end)) }) where
-  drained : (old : Option (List ℕ)) → LeftAfter old new takes.0 → (takes.0 ≡ []) × IsAtEnd old → IsDrained old new
+-- what one read tells of what was seen
+pub seen_once : (old new : Option (List ℕ)) (taken : List ℕ) (ended : Bool) → LeftAfter old new taken → (ended ≡ true → (taken ≡ []) × IsAtEnd old) → HasSeen old new taken false ended
+seen_once old new taken ended left end = record { taken = left; at_end = λ e. inr (drained old left (end e)) } where
+  drained : (old : Option (List ℕ)) → LeftAfter old new taken → (taken ≡ []) × IsAtEnd old → IsDrained old new
   drained None left end = tt
-  drained (Some left) after end = after.1 ∙ ap Some (ap (λ front. front ++ after.0) (sym end.0) ∙ (sym after.2 ∙ end.1))
+  drained (Some all) after end = after.1 ∙ ap Some (ap (λ front. front ++ after.0) (sym end.0) ∙ (sym after.2 ∙ end.1))
 
 -- what was seen, and then more of it
 pub seen_more : (old mid new : Option (List ℕ)) (seen more : List ℕ) (before between ended : Bool)
@@ -45,6 +45,17 @@ seen_more old mid new seen more before between ended first then = record {
 
 pub seen_nothing : (left : Option (List ℕ)) (ended : Bool) → HasSeen left left [] ended ended
 seen_nothing left ended = record { taken = left_none left [] refl; at_end = λ end. inl (end, refl) }
+
+-- a text of which this is a front was delivered as far
+pub fronted : (old new : Option Told) (put text : List ℕ) → Appends old new put → IsFront put text → DeliversFront old new text
+fronted old None put text appends front = tt
+fronted old (Some now) put text appends front =
+    let first : take (length put) text ≡ put = ap (take (length put)) front.1 ∙ take_at put front.0 (length put) refl in
+    (appends.0, length put, appends.1, appends.2 ∙ ap (λ all. appends.0.written ++ all) (sym first))
+
+pub unflushed : (old new : Option Told) (put : List ℕ) → Appends old new put → KeepsFlushed old new
+unflushed old None put appends = tt
+unflushed old (Some now) put appends = (appends.0, appends.1, appends.3)
 
 pub delivered : (old mid new : Option Told) (text : List ℕ) → Appends old mid text → Flushes mid new → Delivers old new text
 delivered old mid None text appends flushes = tt

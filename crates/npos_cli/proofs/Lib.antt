@@ -18,3 +18,6 @@ pub mod CrowdingLaws
 pub mod SpelledLaws
 pub mod MinedLaws
 pub mod ReportLaws
+pub mod FeedLaws
+pub mod CourseLaws
+pub mod JobLaws

@@ -22,21 +22,10 @@ use Rattle.npos_cli.specs.declared.job.Task.{Task}
 use Rattle.npos_cli.specs.declared.reading.Election.{Election as bundle_election}
 use Rattle.npos_cli.specs.Bundles.{Report, faulty, read_election, election_in}
 use Rattle.npos_cli.specs.Tasks.{IsReportOn, IsBundleReport, IsSound}
-use Rattle.npos_cli.specs.Owed.{IsAll, LeftAfter, ReadsUpTo, TakesAtMost, IsDrained, Delivers, DeliversFront, FindsReplay, Finds, FindsFor, IsOwed, BeginsToAnswer}
+use Rattle.npos_cli.specs.Owed.{IsAll, LeftAfter, ReadsUpTo, TakesAtMost, IsDrained, Delivers, DeliversFront, FindsFor, BeginsFor}
 use Rattle.npos_cli.proofs.ReplayLaws.{one_replay, any_replay}
 use Rattle.npos_cli.proofs.ReportLaws.{one_report, any_report}
 use Rattle.npos_cli.proofs.ChainLaws.{genesis_laws, turn_laws}
-
--- what a replay found is what is owed
-pub replay_found : (old new : Option (List ℕ)) (text : List ℕ) (faulty : Bool) (status : Status) → FindsReplay npos_machine old new text faulty
-    → status ≡ replay_status faulty → FindsFor (Some jobs.Replay) old text status
-replay_found old new text faulty status finds is =
-    (finds.0, finds.1, (record { text = text; faulty = faulty; seated = finds.2.0; last = finds.2.1 }, finds.2.2, refl, is))
-
-pub replay_drained : (old new : Option (List ℕ)) (text : List ℕ) (faulty : Bool) (status : Status) → FindsReplay npos_machine old new text faulty
-    → status ≡ replay_status faulty → IsJudged status → IsDrained old new
-replay_drained old new text false status finds is judged = finds.3 refl
-replay_drained old new text true status finds is judged = absurd (subst (λ (s : Status). IsJudged s) is judged)
 
 -- words that ask for no job owe the usage line
 pub nothing_asked : (job : Option Job) (left : Option (List ℕ)) → job ≡ None → FindsFor job left usage_line statuses.Usage
@@ -54,29 +43,30 @@ delivered_front old (Some now) text delivers =
     (delivers.0, length text, delivers.1, delivers.2 ∙ ap (λ all. delivers.0.written ++ all) (sym (take_all (length text) text (omega arith))))
 
 -- words and bytes owe one text and one status
+pub one_for : (job : Option Job) (bytes text other : List ℕ) (status end : Status) → JobOwes job bytes text status → JobOwes job bytes other end → (text ≡ other) × (status ≡ end)
+one_for None bytes text other status end first second = (first.0 ∙ sym second.0, first.1 ∙ sym second.1)
+one_for (Some jobs.Replay) bytes text other status end first second =
+    let same = one_replay npos_machine genesis_laws turn_laws bytes first.0 second.0 first.1 second.1 in
+    (first.2 ∙ (ap (λ (o : Outcome Chain Election). o.text) same ∙ sym second.2), first.3 ∙ (ap (λ (o : Outcome Chain Election). replay_status o.faulty) same ∙ sym second.3))
+one_for (Some (jobs.OnBundle task)) bytes text other status end first second =
+    let same = one_report task bytes (record { text = text; status = status }) (record { text = other; status = end }) first second in
+    (ap (λ (r : Report). r.text) same, ap (λ (r : Report). r.status) same)
+
 pub one_owed : (words : List (List ℕ)) (bytes text other : List ℕ) (status end : Status) → Owes words bytes text status → Owes words bytes other end
     → (text ≡ other) × (status ≡ end)
-one_owed words bytes text other status end first second = by (job_of words) first second where
-  by : (job : Option Job) → JobOwes job bytes text status → JobOwes job bytes other end → (text ≡ other) × (status ≡ end)
-  by None first second = (first.0 ∙ sym second.0, first.1 ∙ sym second.1)
-  by (Some jobs.Replay) first second =
-      let same = one_replay npos_machine genesis_laws turn_laws bytes first.0 second.0 first.1 second.1 in
-      (first.2 ∙ (ap (λ (o : Outcome Chain Election). o.text) same ∙ sym second.2), first.3 ∙ (ap (λ (o : Outcome Chain Election). replay_status o.faulty) same ∙ sym second.3))
-  by (Some (jobs.OnBundle task)) first second =
-      let same = one_report task bytes (record { text = text; status = status }) (record { text = other; status = end }) first second in
-      (ap (λ (r : Report). r.text) same, ap (λ (r : Report). r.status) same)
+one_owed words = one_for (job_of words)
 
 -- a front of what was found is a front of what is owed
-pub front_found : (words : List (List ℕ)) (left : Option (List ℕ)) (old new : Option Told) (text : List ℕ) (status : Status) → Finds words left text status
-    → DeliversFront old new text → BeginsToAnswer words left old new
-front_found words left old new text status finds front other end owed =
-    subst (λ (t : List ℕ). DeliversFront old new t) (one_owed words finds.0 text other status end finds.2 (owed finds.0 finds.1)).0 front
+pub front_found : (job : Option Job) (left : Option (List ℕ)) (old new : Option Told) (text : List ℕ) (status : Status) → FindsFor job left text status
+    → DeliversFront old new text → BeginsFor job left old new
+front_found job left old new text status finds front other end owed =
+    subst (λ (t : List ℕ). DeliversFront old new t) (one_for job finds.0 text other status end finds.2 (owed finds.0 finds.1)).0 front
 
 -- the whole of what was found is a front of what is owed
-pub front_delivered : (words : List (List ℕ)) (left : Option (List ℕ)) (old new : Option Told) (text : List ℕ) (status : Status) → Finds words left text status
-    → Delivers old new text → BeginsToAnswer words left old new
-front_delivered words left old new text status finds delivers =
-    front_found words left old new text status finds (delivered_front old new text delivers)
+pub front_delivered : (job : Option Job) (left : Option (List ℕ)) (old new : Option Told) (text : List ℕ) (status : Status) → FindsFor job left text status
+    → Delivers old new text → BeginsFor job left old new
+front_delivered job left old new text status finds delivers =
+    front_found job left old new text status finds (delivered_front old new text delivers)
 
 -- every list of bytes is answered
 pub any_owed : (words : List (List ℕ)) (bytes : List ℕ) → IsBytes bytes → (text : List ℕ) × (status : Status) × Owes words bytes text status

@@ -1,8 +1,10 @@
 -- The text of the whole blocks: each list of bytes has one, more bytes only lengthen it, and a replay begins with it.
-use Rattle.std.proofs.Common.{◌≡◌, inl, inr, ℕ, Some, List, [], ◌∷◌, ◌++◌, length, Result, Ok, Err, refl, sym, ◌∙◌, ap, subst, append_assoc, arith}
+use Rattle.std.proofs.Common.{◌≡◌, inl, inr, ℕ, ◌+◌, true, false, Some, List, [], ◌∷◌, ◌++◌, length, Result, Ok, Err, refl, sym, ◌∙◌, ap, subst, append_assoc, arith}
 use Rattle.scale_wire.specs.Form.{IsWire, IsBytes}
-use Rattle.npos_cli.specs.Replay.{Machine, Spot, turn, behind, IsTurn, IsEnd, Passes, Starts, Outcome, IsReplay, BadGenesis, FaultyGenesis, Replayed, IsWhole, NoStart, Blocks, IsFront}
-use Rattle.npos_cli.specs.Turning.{grown}
+use Rattle.npos_cli.specs.Replay.{Machine, Spot, turn, behind, IsTurn, IsEnd, Passes, Reaches, Starts, Refused, Ended, Outcome, IsReplay, BadGenesis, FaultyGenesis, Replayed, IsWhole, NoStart, Blocks, IsFront}
+use Rattle.scale_wire.specs.declared.fault.Why.TheVariants.{Short}
+use Rattle.npos_cli.specs.Texts.{fault_line}
+use Rattle.npos_cli.specs.Turning.{grown, IsCutHere, IsUndecided, InGenesis, Behind}
 use Rattle.npos_cli.proofs.ReplayLaws.{bytes_behind, one_turn, one_way, one_start, stop_ends, begun_once, unreadable, any_way}
 
 front_of_none : (text other : List ℕ) → text ≡ [] → IsFront text other
@@ -94,3 +96,29 @@ module _ {G B S E : Type 0} (m : Machine G B S E) (genesis_laws : IsWire m.genes
   replay_begins bytes text out (Blocks p q start reaches ends) (Replayed p' q' text' line faulty start' reaches' stops o) =
       let same = one_whole bytes text' text (Blocks p' q' start' reaches' (stop_ends m genesis_laws turn_laws q' line faulty stops)) (Blocks p q start reaches ends) in
       (line, ap (λ (found : Outcome S E). found.text) o ∙ ap (λ front. front ++ line) same)
+
+  front_of_front : (front mid whole : List ℕ) → IsFront front mid → IsFront mid whole → IsFront front whole
+  front_of_front front mid whole first then =
+      (first.0 ++ then.0, then.1 ∙ (ap (λ (t : List ℕ). t ++ then.0) first.1 ∙ append_assoc front first.0 then.0))
+
+  -- what the first blocks write is what the replay begins with
+  pub reached_front : (bytes text : List ℕ) (p q : Spot S) (out : Outcome S E) → Starts m bytes p → Reaches m p q text → IsReplay m bytes out → IsFront text out.text
+  reached_front bytes text p q out start reaches (BadGenesis at why bad o) =
+      absurd (unreadable m genesis_laws turn_laws bytes start.genesis p.rest at why start.in_range start.whole bad)
+  reached_front bytes text p q out start reaches (FaultyGenesis g rest fault in_range whole faulty o) =
+      absurd (begun_once m genesis_laws turn_laws bytes g rest p fault in_range whole faulty start)
+  reached_front bytes text p q out start reaches (Replayed p' q' text' line faulty start' reaches' stops o) =
+      let from : p' ≡ p = one_start m genesis_laws turn_laws bytes p' p start' start in
+      let first = passes_first reaches.blocks reaches'.blocks p q q' text text' reaches.passes (subst (λ (s : Spot S). Passes m reaches'.blocks s q' text') from reaches'.passes)
+      (stop_ends m genesis_laws turn_laws q' line faulty stops) in
+      front_of_front text text' out.text first (line, ap (λ (found : Outcome S E). found.text) o)
+
+  cut_ends : (q : Spot S) → IsCutHere m q → IsEnd m q
+  cut_ends q (inl cut) = stop_ends m genesis_laws turn_laws q (fault_line (q.at + cut.0) Short) true (Refused cut.0 Short cut.1 refl refl)
+  cut_ends q (inr none) = stop_ends m genesis_laws turn_laws q (m.ending q.state) false (Ended none refl refl)
+
+  -- the text of bytes that leave the end open is that of their whole blocks
+  pub undecided_whole : (bytes text : List ℕ) → IsUndecided m bytes text → IsWhole m bytes text
+  undecided_whole bytes text (InGenesis at bad none) =
+      NoStart (λ p start. unreadable m genesis_laws turn_laws bytes start.genesis p.rest at Short start.in_range start.whole bad) none
+  undecided_whole bytes text (Behind p q starts reaches cut) = Blocks p q starts reaches (cut_ends q cut)

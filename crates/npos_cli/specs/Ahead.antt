@@ -1,31 +1,20 @@
--- What was read of an input and not taken yet, while more of it may come.
-use Rattle.std.specs.Prelude.{◌≡◌, ◌⊎◌, ℕ, ◌-◌, Bool, true, false, List, [], ◌++◌, drop, Option, Result, Ok, Err}
+-- What was read of an input so far, while more of it may come.
+use Rattle.std.specs.Prelude.{◌≡◌, ◌⊎◌, ⊤, ℕ, ◌≤◌, Bool, true, false, List, [], ◌++◌, length, Option, Result, Ok, Err}
+use Rattle.npos_base.specs.Outside.{IsAtEnd}
 use Rattle.scale_wire.specs.declared.fault.WireFault.{WireFault}
 use Rattle.scale_wire.specs.declared.fault.Why.{Why}
 use Rattle.scale_wire.specs.declared.fault.Why.TheVariants.{Short}
 use Rattle.scale_wire.specs.Form.{IsBytes}
+use Rattle.scale_wire.specs.Reading.{Place, IsRead, IsFault}
 use Rattle.block_wire.specs.declared.genesis.Genesis.{Genesis}
 use Rattle.block_wire.specs.Genesis.{genesis_form}
-use Rattle.npos_cli.specs.declared.replaying.Opening.{Opening}
-use Rattle.npos_cli.specs.declared.replaying.Opening.TheVariants.{More, Begun, Refused}
-use Rattle.scale_wire.specs.Reading.{Place, IsRead, IsFault}
+use Rattle.npos_cli.specs.declared.status.Status.{Status}
+use Rattle.npos_cli.specs.declared.status.Status.TheVariants as statuses
 use Rattle.npos_cli.specs.Owed.{LeftAfter, IsDrained}
 
--- the bytes, the place of the first of them, and whether the input has ended behind them
-pub record Ahead : Type 0 where
-  pub at : ℕ
-  pub bytes : List ℕ
-  pub ended : Bool
-
-abbrev pub nothing_read : Ahead
-nothing_read = record { at = 0; bytes = []; ended = false }
-
-abbrev pub place : Ahead → Place
-place ahead = record { at = ahead.at; rest = ahead.bytes }
-
--- what stands behind a later place
-abbrev pub passed : ℕ → Ahead → Ahead
-passed at ahead = record ahead { at = at; bytes = drop (at - ahead.at) ahead.bytes }
+-- the first bytes of an input
+abbrev pub first_place : List ℕ → Place
+first_place bytes = record { at = 0; rest = bytes }
 
 -- these bytes may follow: none where the input has ended
 abbrev pub MayFollow : Bool → List ℕ → Type 0
@@ -37,23 +26,40 @@ pub record HasSeen (old now : Option (List ℕ)) (seen : List ℕ) (before ended
   pub taken : LeftAfter old now seen
   pub at_end : ended ≡ true → ((before ≡ true) × (now ≡ old)) ⊎ IsDrained old now
 
--- what was read, if anything, stands behind the bytes before
-abbrev pub ReadsOn : Option (List ℕ) → Option (List ℕ) → Ahead → Ahead → Type 0
-ReadsOn old now before after =
-    (taken : List ℕ) × (after.bytes ≡ before.bytes ++ taken) × (after.at ≡ before.at) × HasSeen old now taken false after.ended
-
 -- bytes are missing only where the input has ended
 abbrev pub IsSure : Bool → Why → Type 0
 IsSure ended why = why ≡ Short → ended ≡ true
 
--- what the bytes begin with: a genesis, or one that is cut and may go on, or a refusal that stands whatever may follow
-abbrev pub Opens : Ahead → Ahead → Opening → Type 0
-Opens old new More = (old.ended ≡ false) × ((at : ℕ) × genesis_form.bad old.bytes at Short) × (new ≡ old)
-Opens old new (Begun genesis) = IsRead genesis_form (place old) genesis (place new) × (new.ended ≡ old.ended)
-Opens old new (Refused fault) = IsBytes old.bytes × IsFault genesis_form (place old) fault (place old) × IsSure old.ended fault.why × (new ≡ old)
+-- What a read came to. Its bytes stand behind those that are held; a failed read takes none.
+abbrev pub Feeds : Option (List ℕ) → List ℕ → Place → Place → Result Bool Status → Type 0
+Feeds left taken old new (Ok ended) =
+    (new ≡ record { at = old.at; rest = old.rest ++ taken }) × (ended ≡ true → (taken ≡ []) × IsAtEnd left)
+Feeds left taken old new (Err statuses.ReadFault) = taken ≡ []
+Feeds left taken old new (Err statuses.NoMemory) = ⊤
+Feeds left taken old new (Err other) = ⊥
 
--- the same of all that was seen of an input, from its first byte on
-abbrev pub BeginsWith : List ℕ → Result Genesis WireFault → Ahead → Type 0
-BeginsWith seen (Ok genesis) now = IsRead genesis_form (record { at = 0; rest = seen }) genesis (place now)
-BeginsWith seen (Err fault) now =
-    IsBytes seen × IsFault genesis_form (record { at = 0; rest = seen }) fault (record { at = 0; rest = seen }) × IsSure now.ended fault.why
+-- one read, of at most one piece
+abbrev pub FeedsMore : Option (List ℕ) → Option (List ℕ) → Place → Place → Result Bool Status → Type 0
+FeedsMore left now old new result = (taken : List ℕ) × LeftAfter left now taken × (length taken ≤ 65536) × Feeds left taken old new result
+
+-- a genesis is cut here: bytes of it are missing
+abbrev pub CutsGenesis : List ℕ → Type 0
+CutsGenesis bytes = (at : ℕ) × genesis_form.bad bytes at Short
+
+-- without the last piece, bytes of the genesis are missing
+abbrev pub AwaitsGenesis : List ℕ → Type 0
+AwaitsGenesis taken = (earlier : List ℕ) × (last : List ℕ) × (taken ≡ earlier ++ last) × (length last ≤ 65536) × CutsGenesis earlier
+
+-- The genesis of an input was read, or is refused whatever may follow; or a read failed where it is cut, or memory ran
+-- out.
+abbrev pub BeginsBy : Option (List ℕ) → Option (List ℕ) → List ℕ → Place → Result (Result Genesis WireFault) Status → Type 0
+BeginsBy left now taken place (Ok (Ok genesis)) = IsRead genesis_form (first_place taken) genesis place
+BeginsBy left now taken place (Ok (Err fault)) =
+    (ended : Bool) × HasSeen left now taken false ended × IsBytes taken × IsFault genesis_form (first_place taken) fault (first_place taken)
+    × IsSure ended fault.why
+BeginsBy left now taken place (Err statuses.ReadFault) = CutsGenesis taken
+BeginsBy left now taken place (Err statuses.NoMemory) = ⊤
+BeginsBy left now taken place (Err other) = ⊥
+
+abbrev pub Begins : Option (List ℕ) → Option (List ℕ) → Place → Result (Result Genesis WireFault) Status → Type 0
+Begins left now place result = (taken : List ℕ) × LeftAfter left now taken × AwaitsGenesis taken × BeginsBy left now taken place result

@@ -15,7 +15,8 @@ pub mod Chain
 pub mod Books
 pub mod Headline
 pub mod Turning
+pub mod Streaming
+pub mod Ran
 pub mod Answer
-pub mod Due
 pub mod Laws
 pub mod Crowding

@@ -1,6 +1,6 @@
 -- How far a run goes with what it owes: which text reaches the sink, and what is left in the source.
 use Rattle.std.specs.Prelude.{◌≡◌, ◌⊎◌, ⊤, ℕ, ◌≤◌, ◌+◌, Bool, true, false, List, [], ◌++◌, length, take, Option, Some, None, Result, Ok, Err}
-use Rattle.npos_base.specs.Outside.{Told, Rose, IsAtEnd}
+use Rattle.npos_base.specs.Outside.{Told, Rose, IsAtEnd, Appends, Flushes}
 use Rattle.npos_cli.specs.declared.status.Status.{Status}
 use Rattle.npos_cli.specs.declared.status.Status.TheVariants as statuses
 use Rattle.npos_cli.specs.Replay.{Machine, Outcome, IsReplay}
@@ -61,6 +61,37 @@ HaltsWell before now (Err statuses.NoMemory) = now ≡ before
 HaltsWell before now (Err statuses.ReadFault) = Rose before now × (before ≤ now)
 HaltsWell before now (Err other) = ⊥
 
+-- A part of a run that may end it over a source: a failed read has a fault as its cause, and all else leaves the count.
+abbrev pub ReadsWell : {T : Type 0} → ℕ → ℕ → Result T Status → Type 0
+ReadsWell before now (Err statuses.ReadFault) = Rose before now × (before ≤ now)
+ReadsWell before now other = now ≡ before
+
+-- A part of a run that may end it over a sink: a failed write has a fault as its cause, and all else leaves the count.
+abbrev pub WritesWell : {T : Type 0} → ℕ → ℕ → Result T Status → Type 0
+WritesWell before now (Err statuses.WriteFault) = Rose before now × (before ≤ now)
+WritesWell before now other = now ≡ before
+
+-- The text was appended whole, or a front of it where a write failed.
+abbrev pub Puts : Option Told → Option Told → List ℕ → Result (Unit {0}) Status → Type 0
+Puts old new text (Ok done) = Appends old new text
+Puts old new text (Err statuses.WriteFault) = (n : ℕ) × Appends old new (take n text)
+Puts old new text (Err other) = ⊥
+
+-- All that was written was flushed, or nothing where the flush failed.
+abbrev pub FlushesBy : Option Told → Option Told → Result (Unit {0}) Status → Type 0
+FlushesBy old new (Ok done) = Flushes old new
+FlushesBy old new (Err statuses.WriteFault) = Appends old new []
+FlushesBy old new (Err other) = ⊥
+
+-- the same of a run, by its status
+abbrev pub HasRead : ℕ → ℕ → Status → Type 0
+HasRead before now statuses.ReadFault = Rose before now × (before ≤ now)
+HasRead before now other = now ≡ before
+
+abbrev pub HasWrote : ℕ → ℕ → Status → Type 0
+HasWrote before now statuses.WriteFault = Rose before now × (before ≤ now)
+HasWrote before now other = now ≡ before
+
 -- these bytes were taken from the front of what was left
 abbrev pub LeftAfter : Option (List ℕ) → Option (List ℕ) → List ℕ → Type 0
 LeftAfter None now bytes = ⊤
@@ -90,16 +121,25 @@ abbrev pub Finds : List (List ℕ) → Option (List ℕ) → List ℕ → Status
 Finds words = FindsFor (job_of words)
 
 -- what is owed was delivered whole
+abbrev pub AnswersFor : Option Job → Option (List ℕ) → Option Told → Option Told → Status → Type 0
+AnswersFor job left old new status = (text : List ℕ) × FindsFor job left text status × Delivers old new text
+
 abbrev pub Answers : List (List ℕ) → Option (List ℕ) → Option Told → Option Told → Status → Type 0
-Answers words left old new status = (text : List ℕ) × Finds words left text status × Delivers old new text
+Answers words = AnswersFor (job_of words)
 
 -- this text and this status are owed, whatever the bytes are that a source does not tell
+abbrev pub IsOwedFor : Option Job → Option (List ℕ) → List ℕ → Status → Type 0
+IsOwedFor job left text status = (bytes : List ℕ) → IsAll left bytes → JobOwes job bytes text status
+
 abbrev pub IsOwed : List (List ℕ) → Option (List ℕ) → List ℕ → Status → Type 0
-IsOwed words left text status = (bytes : List ℕ) → IsAll left bytes → Owes words bytes text status
+IsOwed words = IsOwedFor (job_of words)
 
 -- a front of what is owed was delivered
+abbrev pub BeginsFor : Option Job → Option (List ℕ) → Option Told → Option Told → Type 0
+BeginsFor job left old new = (text : List ℕ) (status : Status) → IsOwedFor job left text status → DeliversFront old new text
+
 abbrev pub BeginsToAnswer : List (List ℕ) → Option (List ℕ) → Option Told → Option Told → Type 0
-BeginsToAnswer words left old new = (text : List ℕ) (status : Status) → IsOwed words left text status → DeliversFront old new text
+BeginsToAnswer words = BeginsFor (job_of words)
 
 -- These bytes were taken, at most one more than the limit. Where the limit was kept they are all that was left.
 pub record ReadsUpTo (most : ℕ) (old now : Option (List ℕ)) (bytes : List ℕ) : Type 0 where

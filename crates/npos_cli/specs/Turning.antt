@@ -1,8 +1,8 @@
 -- What the reader of a stream does at one place, and until the end.
-use Rattle.std.specs.Prelude.{◌≡◌, ◌⊎◌, ◌<◌, ⊤, ℕ, Bool, true, false, not, List, [], ◌++◌, length, Option, None}
+use Rattle.std.specs.Prelude.{◌≡◌, ◌⊎◌, ◌<◌, ⊤, ℕ, ◌≤◌, Bool, true, false, List, [], ◌++◌, length, Option, None, Result, Ok, Err}
 use Rattle.scale_wire.specs.declared.fault.Why.{Why}
 use Rattle.scale_wire.specs.declared.fault.Why.TheVariants.{Short, Trailing}
-use Rattle.scale_wire.specs.declared.fault.WireFault.{WireFault}
+use Rattle.npos_base.specs.Outside.{Told, Appends}
 use Rattle.scale_wire.specs.Reading.{Place}
 use Rattle.stake_ledger.specs.declared.totals.Totals.{Totals}
 use Rattle.npos_runtime.specs.declared.chain.Chain.{Chain}
@@ -12,8 +12,10 @@ use Rattle.npos_cli.specs.declared.replaying.Stop.{Stop}
 use Rattle.npos_cli.specs.declared.replaying.Stop.TheVariants.{More, Last}
 use Rattle.npos_cli.specs.Texts.{fault_line}
 use Rattle.npos_cli.specs.Chain.{end_line}
-use Rattle.npos_cli.specs.Ahead.{MayFollow, IsSure, HasSeen}
-use Rattle.npos_cli.specs.Replay.{Machine, Spot, turn, IsTurn, behind, Reaches, Stops}
+use Rattle.npos_cli.specs.declared.status.Status.{Status}
+use Rattle.npos_cli.specs.declared.status.Status.TheVariants as statuses
+use Rattle.npos_cli.specs.Ahead.{MayFollow}
+use Rattle.npos_cli.specs.Replay.{Machine, Spot, turn, IsTurn, behind, Starts, Reaches, Stops, IsFront}
 
 -- where a cursor and a chain stand together
 abbrev pub spot : Place → Chain → Spot Chain
@@ -42,32 +44,26 @@ Turns m ended p q told (Stopped (Last faulty)) = StopsSurely m ended p told faul
 abbrev pub TakesTurn : {G B S E : Type 0} → Machine G B S E → Bool → Spot S → Spot S → List ℕ → List ℕ → Turn → Type 0
 TakesTurn m ended p q old new turn = (told : List ℕ) × (new ≡ old ++ told) × Turns m ended p q told turn
 
--- blocks lead from one place to another, and what they write was appended
-abbrev pub HasReached : {G B S E : Type 0} → Machine G B S E → Spot S → Spot S → List ℕ → List ℕ → Type 0
-HasReached m p q old new = (text : List ℕ) × Reaches m p q text × (new ≡ old ++ text)
+-- Blocks lead from one place to another, and what they write was written. Then bytes are missing that may still come,
+-- or the replay ends with a line that was not written yet; or memory ran out, or a write failed within what the blocks
+-- write.
+abbrev pub WritesOn : {G B S E : Type 0} → Machine G B S E → Bool → Spot S → Spot S → Option Told → Option Told → List ℕ → Result Stop Status → Type 0
+WritesOn m ended p q old new line (Ok More) =
+    (ended ≡ false) × IsCutHere m q × ((written : List ℕ) × Reaches m p q written × Appends old new written)
+WritesOn {G} {B} {S} {E} m ended p q old new line (Ok (Last faulty)) =
+    (r : Spot S) × (written : List ℕ) × Reaches m p r written × StopsSurely m ended r line faulty × (faulty ≡ false → ended ≡ true)
+    × Appends old new written
+WritesOn {G} {B} {S} {E} m ended p q old new line (Err statuses.NoMemory) =
+    (r : Spot S) × (written : List ℕ) × Reaches m p r written × Appends old new written
+WritesOn {G} {B} {S} {E} m ended p q old new line (Err statuses.WriteFault) =
+    (r : Spot S) × (written : List ℕ) × (put : List ℕ) × Reaches m p r written × IsFront put written × Appends old new put
+WritesOn m ended p q old new line (Err other) = ⊥
 
--- blocks lead to an end, and all that they and the end write was appended
-abbrev pub Runs : {G B S E : Type 0} → Machine G B S E → Bool → Spot S → List ℕ → List ℕ → Bool → Type 0
-Runs {G} {B} {S} {E} m ended p old new faulty =
-    (q : Spot S) × (text : List ℕ) × (line : List ℕ) × Reaches m p q text × StopsSurely m ended q line faulty × (new ≡ old ++ (text ++ line))
-    × (faulty ≡ false → ended ≡ true)
-
--- blocks lead to an end, or to a place where the bytes are cut and the input may go on
-abbrev pub RunsOn : {G B S E : Type 0} → Machine G B S E → Bool → Spot S → Spot S → List ℕ → List ℕ → Stop → Type 0
-RunsOn m ended p q old new More = (ended ≡ false) × IsCutHere m q × HasReached m p q old new
-RunsOn m ended p q old new (Last faulty) = Runs m ended p old new faulty
-
--- Behind the None that ends a stream: the line of the byte that follows, or the end line where none is left and the
--- input has ended.
-abbrev pub StopsHere : Place → Bool → Totals → List ℕ → List ℕ → Stop → Type 0
-StopsHere place ended totals old new More = (ended ≡ false) × (place.rest ≡ []) × (new ≡ old)
-StopsHere place ended totals old new (Last true) = (0 < length place.rest) × (new ≡ old ++ fault_line place.at Trailing)
-StopsHere place ended totals old new (Last false) = (ended ≡ true) × (place.rest ≡ []) × (new ≡ old ++ end_line totals)
-
--- bytes are missing that may still come
-abbrev pub is_open : Bool → Why → Bool
-is_open ended Short = not ended
-is_open ended why = false
+-- Behind the None that ends a stream: the line of the byte that follows, or the end line where none does.
+abbrev pub StopsHere : Place → Totals → List ℕ → List ℕ → Stop → Type 0
+StopsHere place totals old new More = ⊥
+StopsHere place totals old new (Last true) = (0 < length place.rest) × (new ≡ old ++ fault_line place.at Trailing)
+StopsHere place totals old new (Last false) = (place.rest ≡ []) × (new ≡ old ++ end_line totals)
 
 -- after this turn the reader goes on
 abbrev pub IsGoing : Turn → Type 0
@@ -75,14 +71,18 @@ IsGoing Taken = ⊤
 IsGoing (Stopped More) = ⊤
 IsGoing (Stopped (Last faulty)) = ⊥
 
--- a refusal ends a replay, but where bytes are missing that may still come
-abbrev pub RefusesHere : WireFault → Bool → List ℕ → List ℕ → Stop → Type 0
-RefusesHere fault ended old new More = (ended ≡ false) × (fault.why ≡ Short) × (new ≡ old)
-RefusesHere fault ended old new (Last true) = IsSure ended fault.why × (new ≡ old ++ fault_line fault.at fault.why)
-RefusesHere fault ended old new (Last false) = ⊥
+-- The bytes leave the end of their replay open, and what their whole blocks write is the text: their genesis is cut, or
+-- what stands behind their blocks is.
+pub data IsUndecided {G B S E : Type 0} (m : Machine G B S E) (bytes text : List ℕ) : Type 0 where
+  InGenesis : (at : ℕ) → m.genesis.bad bytes at Short → text ≡ [] → IsUndecided m bytes text
+  Behind : (p q : Spot S) → Starts m bytes p → Reaches m p q text → IsCutHere m q → IsUndecided m bytes text
 
--- What was read of an input, behind the bytes that were there, leads on from a place to an end. The input had ended
--- before, or not.
-abbrev pub RunsThrough : {G B S E : Type 0} → Machine G B S E → Option (List ℕ) → Option (List ℕ) → Bool → Spot S → List ℕ → List ℕ → Bool → Type 0
-RunsThrough m left now before p old new faulty =
-    (seen : List ℕ) × (ended : Bool) × HasSeen left now seen before ended × Runs m ended (grown seen p) old new faulty
+-- All bytes taken but those of the last piece leave the end open, and what the whole blocks in them write was written.
+pub record KeepsUp {G B S E : Type 0} (m : Machine G B S E) (taken written : List ℕ) : Type 0 where
+  pub earlier : List ℕ
+  pub last : List ℕ
+  pub text : List ℕ
+  pub split : taken ≡ earlier ++ last
+  pub one_piece : length last ≤ 65536
+  pub unsure : IsUndecided m earlier text
+  pub before : IsFront text written

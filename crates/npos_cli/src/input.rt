@@ -3,12 +3,9 @@ ghost use Rattle.std.specs.Prelude.{◌≡◌, ◌+◌, ◌<◌, ◌≤◌, ◌^
 ghost use Rattle.npos_cli.specs.Owed.{HaltsWell, LeftAfter, IsDrained, TakesMore, ReadsUpTo};
 
 use crate::Status;
-use crate::held::{blank_piece, read_more};
+use crate::pieces::{PIECE, blank_piece, read_more};
 use npos_base::Source;
 use std::alloc::Global;
-
-/// The most bytes of one read.
-const PIECE: usize = 65_536;
 
 /// Reads on until the input has ended or more than `most` bytes were read, but never more than one
 /// byte beyond. The status of an Err is ReadFault or NoMemory.

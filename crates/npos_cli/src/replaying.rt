@@ -1,31 +1,26 @@
-//! The replay of a stream: a genesis, and then a turn for each block until one is the last. It goes
-//! over what was read so far, and reads on where bytes are missing.
-ghost use Rattle.std.specs.Prelude.{◌≡◌, ◌+◌, ◌<◌, ◌^◌, ℕ, List, true, false, length, IfOk};
+//! The replay of a stream: a genesis, and then a turn for each block until one is the last. It reads
+//! piece by piece, and writes the lines of each block before it reads again.
+ghost use Rattle.std.specs.Prelude.{◌≡◌, ◌+◌, ◌<◌, ◌≤◌, ℕ, List, Some, Ok, [], ◌∷◌, true, false, length, IfOk, IsTrue, ◌↔◌};
 ghost use Rattle.stake_ledger.specs.Ledger.{totals_of};
-ghost use Rattle.scale_wire.specs.Form.{IsBytes};
+ghost use Rattle.npos_base.specs.Outside.{Appends};
+ghost use Rattle.npos_cli.specs.declared.job.Job.TheVariants as jobs;
 ghost use Rattle.npos_cli.specs.declared.replaying.Stop.TheVariants as stops;
 ghost use Rattle.npos_cli.specs.Chain.{npos_machine};
-ghost use Rattle.npos_cli.specs.Ahead.{BeginsWith, Opens, HasSeen, nothing_read, place};
-ghost use Rattle.npos_cli.specs.Owed.{FindsReplay, HaltsWell};
-ghost use Rattle.npos_cli.specs.Turning.{spot, is_open, IsGoing, TakesTurn, RunsOn, RunsThrough, StopsHere, RefusesHere};
+ghost use Rattle.npos_cli.specs.Ahead.{Begins, first_place};
+ghost use Rattle.npos_cli.specs.Owed.{HaltsWell, ReadsWell, WritesWell};
+ghost use Rattle.npos_cli.specs.Report.{replay_status};
+ghost use Rattle.npos_cli.specs.Streaming.{Runs, RunsOn, ReplayEnds};
+ghost use Rattle.npos_cli.specs.Turning.{spot, IsGoing, TakesTurn, WritesOn, StopsHere};
 
 use crate::Status;
-use crate::held::Held;
+use crate::edges::{flush, put};
+use crate::pieces::{PIECE, blank_piece, read_piece};
 use crate::telling::{tell_end, tell_fault, tell_genesis_fault, tell_lines, tell_other_number};
-use block_wire::{Block, Genesis};
-use npos_base::{NoMemory, Source};
+use block_wire::{Genesis, Next, StreamReader};
+use npos_base::{NoMemory, Sink, Source};
 use npos_runtime::{BlockFault, Runtime};
 use scale_wire::fault::{ReadFault, Why, WireFault};
-use scale_wire::{Cursor, Wire};
 use std::alloc::Global;
-
-/// What a replay writes.
-#[derive(Drop)]
-pub struct Told {
-    pub text: Vec<u8>,
-    /// Whether the text ends with a fault line.
-    pub faulty: bool,
-}
 
 /// Where the reader of what is held stops.
 enum Stop {
@@ -42,231 +37,205 @@ enum Turn {
     Stopped(Stop),
 }
 
-/// What the bytes that are held begin with.
-enum Opening {
-    /// Bytes are missing, and more may come.
-    More,
-    Begun(Genesis),
-    Refused(WireFault),
+/// Whether the bytes are a None alone. Whether a byte follows it is then not known.
+fn is_lone_none(bytes: &[u8]) -> bool
+    ensures { IsTrue result ↔ (bytes.now ≡ 0 ∷ []) }
+{
+    bytes.len() == 1 && bytes[0] == 0
 }
 
 /// Ends the replay behind the None: with the end line, or because a byte follows.
-fn tell_stop(
-    ended: bool,
-    cursor: &Cursor<'_>,
-    runtime: &Runtime,
-    text: &mut Vec<u8>,
-) -> Result<Stop, NoMemory>
-    ensures { IfOk result (StopsHere cursor.now ended
+fn tell_stop(reader: &StreamReader, runtime: &Runtime, text: &mut Vec<u8>) -> Result<Stop, NoMemory>
+    ensures { IfOk result (StopsHere reader.now
         (totals_of runtime.now.state.book) text.old.items text.new.items) }
 {
-    if !cursor.rest().is_empty() {
-        tell_fault(text, cursor.at(), Why::Trailing)?;
+    if !reader.held().is_empty() {
+        tell_fault(text, reader.at(), Why::Trailing)?;
         return Ok(Stop::Last { faulty: true });
-    }
-    if !ended {
-        return Ok(Stop::More);
     }
     tell_end(text, &runtime.totals())?;
     Ok(Stop::Last { faulty: false })
 }
 
-/// Whether bytes are missing that may still come.
-fn is_open(ended: bool, fault: WireFault) -> bool
-    ensures { result ≡ is_open ended fault.why }
-{
-    match fault.why {
-        Why::Short => !ended,
-        _ => false,
-    }
-}
-
-/// Ends the replay with a refusal, unless bytes are missing that may still come.
-fn tell_refusal(ended: bool, fault: WireFault, text: &mut Vec<u8>) -> Result<Stop, NoMemory>
-    ensures { IfOk result (RefusesHere fault ended text.old.items text.new.items) }
-{
-    if is_open(ended, fault) {
-        return Ok(Stop::More);
-    }
-    tell_fault(text, fault.at, fault.why)?;
-    Ok(Stop::Last { faulty: true })
-}
-
-/// Reads what stands at the cursor and takes it, if it is a block whose number is due.
+/// Takes what stands next, and appends what it writes to the text.
 fn take_turn(
-    alloc: Global,
     ended: bool,
-    cursor: &mut Cursor<'_>,
+    reader: &mut StreamReader,
     runtime: &mut Runtime,
     text: &mut Vec<u8>,
 ) -> Result<Turn, NoMemory>
     requires unspent { runtime.old.spent ≡ false }
-    requires fits { cursor.old.at + length cursor.old.rest < 2 ^ 64 }
-    requires bytes { IsBytes cursor.old.rest }
     ensures turn { IfOk result
-        (TakesTurn npos_machine ended (spot cursor.old runtime.old.state)
-        (spot cursor.new runtime.new.state) text.old.items text.new.items) }
+        (TakesTurn npos_machine ended (spot reader.old runtime.old.state)
+        (spot reader.new runtime.new.state) text.old.items text.new.items) }
     ensures unspent { IfOk result (λ turn. IsGoing turn → runtime.new.spent ≡ false) }
 {
-    let mut here = cursor.fork();
-    let block = match Option::<Block>::read(alloc, &mut here) {
-        Ok(Some(block)) => block,
-        Ok(None) => return Ok(Turn::Stopped(tell_stop(ended, &here, runtime, text)?)),
-        Err(ReadFault::Wire(fault)) => return Ok(Turn::Stopped(tell_refusal(ended, fault, text)?)),
+    if !ended && is_lone_none(reader.held()) {
+        return Ok(Turn::Stopped(Stop::More));
+    }
+    let (at, block) = match reader.take_block(ended) {
+        Ok(Next::Block { at, block }) => (at, block),
+        Ok(Next::More) => return Ok(Turn::Stopped(Stop::More)),
+        Ok(Next::End) => return Ok(Turn::Stopped(tell_stop(reader, runtime, text)?)),
+        Err(ReadFault::Wire(fault)) => {
+            tell_fault(text, fault.at, fault.why)?;
+            return Ok(Turn::Stopped(Stop::Last { faulty: true }));
+        }
         Err(ReadFault::NoMemory) => return Err(NoMemory),
     };
     match runtime.apply(block) {
         Ok(receipt) => {
             tell_lines(text, receipt.lines.as_slice())?;
-            *cursor = here;
             Ok(Turn::Taken)
         }
         Err(BlockFault::WrongNumber { due, found }) => {
-            tell_other_number(text, cursor.at() + 1, due, found)?;
+            tell_other_number(text, at, due, found)?;
             Ok(Turn::Stopped(Stop::Last { faulty: true }))
         }
         Err(BlockFault::Spent | BlockFault::NoMemory) => Err(NoMemory),
     }
 }
 
-/// Takes turns until one is the last, or until bytes are missing.
-#[tactic(auto, using(crate::proofs::TurnLaws::reached_none, crate::proofs::TurnLaws::reached_more, crate::proofs::TurnLaws::reached_stop, crate::proofs::TurnLaws::fewer_left, crate::proofs::TurnLaws::fits_more, crate::proofs::TurnLaws::bytes_more))]
-fn take_turns(
-    alloc: Global,
+/// Takes turns and writes what each block writes, until bytes are missing or the replay ends with
+/// the line that is then the text. The status of an Err is WriteFault or NoMemory.
+fn take_turns<K: Sink>(
     ended: bool,
-    cursor: &mut Cursor<'_>,
+    reader: &mut StreamReader,
     runtime: &mut Runtime,
     text: &mut Vec<u8>,
-) -> Result<Stop, NoMemory>
+    sink: &mut K,
+) -> Result<Stop, Status>
     requires unspent { runtime.old.spent ≡ false }
-    requires fits { cursor.old.at + length cursor.old.rest < 2 ^ 64 }
-    requires bytes { IsBytes cursor.old.rest }
-    ensures runs { IfOk result
-        (RunsOn npos_machine ended (spot cursor.old runtime.old.state)
-        (spot cursor.new runtime.new.state) text.old.items text.new.items) }
+    ensures writes { WritesOn npos_machine ended (spot reader.old runtime.old.state)
+        (spot reader.new runtime.new.state) (K.told sink.old) (K.told sink.new)
+        text.new.items result }
     ensures unspent { IfOk result (λ stop. stop ≡ stops.More → runtime.new.spent ≡ false) }
+    ensures faults { WritesWell (K.faults sink.old) (K.faults sink.new) result }
 {
     'turns: loop {
-        match take_turn(alloc, ended, cursor, runtime, text)? {
-            Turn::Taken => {}
+        text.clear();
+        match take_turn(ended, reader, runtime, text)? {
+            Turn::Taken => put(sink, text.as_slice())?,
             Turn::Stopped(stop) => return Ok(stop),
         }
     }
 }
 
-/// Takes the turns of what is held, and lets go of the bytes of the blocks that were taken.
-fn take_held(
-    alloc: Global,
-    held: &mut Held,
-    runtime: &mut Runtime,
-    text: &mut Vec<u8>,
-) -> Result<Stop, NoMemory>
-    requires unspent { runtime.old.spent ≡ false }
-    ensures runs { IfOk result
-        (RunsOn npos_machine held.old.ended (spot (place held.old) runtime.old.state)
-        (spot (place held.new) runtime.new.state) text.old.items text.new.items) }
-    ensures unspent { IfOk result (λ stop. stop ≡ stops.More → runtime.new.spent ≡ false) }
-    ensures ended { IfOk result (λ _. held.new.ended ≡ held.old.ended) }
-{
-    let ended = held.ended();
-    let mut cursor = held.cursor();
-    match take_turns(alloc, ended, &mut cursor, runtime, text)? {
-        Stop::More => {
-            let at = cursor.at();
-            held.pass(at)?;
-            Ok(Stop::More)
-        }
-        Stop::Last { faulty } => Ok(Stop::Last { faulty }),
-    }
-}
-
-/// Takes turns until one is the last, reads on where bytes are missing, and answers whether the
-/// text then ends with a fault line. The status of an Err is ReadFault or NoMemory.
-fn take_all<S: Source>(
-    alloc: Global,
+/// Takes what is read until the replay ends, with a fault line or not. All but that line is then
+/// written. The status of an Err is ReadFault, WriteFault or NoMemory.
+fn take_all<S: Source, K: Sink>(
     source: &mut S,
-    held: &mut Held,
+    reader: &mut StreamReader,
+    piece: &mut [u8],
     runtime: &mut Runtime,
     text: &mut Vec<u8>,
+    sink: &mut K,
 ) -> Result<bool, Status>
     requires unspent { runtime.old.spent ≡ false }
-    ensures runs { IfOk result
-        (RunsThrough npos_machine (S.left source.old) (S.left source.new) held.old.ended
-        (spot (place held.old) runtime.old.state) text.old.items text.new.items) }
+    requires some { 0 < length piece.old }
+    requires one_piece { length piece.old ≤ 65536 }
+    ensures runs { RunsOn (S.left source.old) (S.left source.new) (K.told sink.old)
+        (K.told sink.new) (spot reader.old runtime.old.state) text.new.items result }
+    ensures reads { ReadsWell (S.faults source.old) (S.faults source.new) result }
+    ensures writes { WritesWell (K.faults sink.old) (K.faults sink.new) result }
+{
+    let mut ended = false;
+    'pieces: loop {
+        match take_turns(ended, reader, runtime, text, sink)? {
+            Stop::Last { faulty } => return Ok(faulty),
+            Stop::More => ended = read_piece(source, piece, reader)?,
+        }
+    }
+}
+
+/// Reads the genesis, piece by piece. The status of an Err is ReadFault or NoMemory.
+fn take_genesis<S: Source>(
+    source: &mut S,
+    reader: &mut StreamReader,
+    piece: &mut [u8],
+) -> Result<Result<Genesis, WireFault>, Status>
+    requires fresh { reader.old ≡ first_place [] }
+    requires some { 0 < length piece.old }
+    requires one_piece { length piece.old ≤ 65536 }
+    ensures begins { Begins (S.left source.old) (S.left source.new) reader.new result }
     ensures halts { HaltsWell (S.faults source.old) (S.faults source.new) result }
 {
+    let mut ended = false;
     'pieces: loop {
-        match take_held(alloc, held, runtime, text)? {
-            Stop::Last { faulty } => return Ok(faulty),
-            Stop::More => held.read_on(source)?,
+        match reader.take_genesis(ended) {
+            Ok(Some(genesis)) => return Ok(Ok(genesis)),
+            Ok(None) => ended = read_piece(source, piece, reader)?,
+            Err(ReadFault::Wire(fault)) => return Ok(Err(fault)),
+            Err(ReadFault::NoMemory) => return Err(Status::NoMemory),
         }
     }
 }
 
-/// Reads the genesis of what is held, and lets go of its bytes.
-fn open_held(alloc: Global, held: &mut Held) -> Result<Opening, NoMemory>
-    ensures { IfOk result (Opens held.old held.new) }
-{
-    let ended = held.ended();
-    let mut cursor = held.cursor();
-    match Genesis::read(alloc, &mut cursor) {
-        Ok(genesis) => {
-            let at = cursor.at();
-            held.pass(at)?;
-            Ok(Opening::Begun(genesis))
-        }
-        Err(ReadFault::Wire(fault)) if is_open(ended, fault) => Ok(Opening::More),
-        Err(ReadFault::Wire(fault)) => Ok(Opening::Refused(fault)),
-        Err(ReadFault::NoMemory) => Err(NoMemory),
-    }
-}
-
-/// Reads the genesis, and reads on where bytes are missing. The status of an Err is ReadFault or
-/// NoMemory.
-fn take_genesis<S: Source>(
+/// Replays what is left in the source, and writes all but the last line, which is then the text.
+/// Answers whether that is a fault line. The status of an Err is ReadFault, WriteFault or NoMemory.
+fn tell_replay<S: Source, K: Sink>(
     alloc: Global,
     source: &mut S,
-    held: &mut Held,
-) -> Result<Result<Genesis, WireFault>, Status>
-    requires fresh { held.old ≡ nothing_read }
-    ensures begins { IfOk result (λ read. (seen : List ℕ)
-        × HasSeen (S.left source.old) (S.left source.new) seen false held.new.ended
-        × BeginsWith seen read held.new) }
-    ensures halts { HaltsWell (S.faults source.old) (S.faults source.new) result }
+    text: &mut Vec<u8>,
+    sink: &mut K,
+) -> Result<bool, Status>
+    requires empty { text.old.items ≡ [] }
+    ensures runs { Runs (S.left source.old) (S.left source.new) (K.told sink.old) (K.told sink.new)
+        text.new.items result }
+    ensures reads { ReadsWell (S.faults source.old) (S.faults source.new) result }
+    ensures writes { WritesWell (K.faults sink.old) (K.faults sink.new) result }
 {
-    'pieces: loop {
-        match open_held(alloc, held)? {
-            Opening::Begun(genesis) => return Ok(Ok(genesis)),
-            Opening::Refused(fault) => return Ok(Err(fault)),
-            Opening::More => held.read_on(source)?,
-        }
-    }
-}
-
-/// Replays what is left in the source. A replay that ends with its end line has read it to its end.
-/// The status of an Err is ReadFault or NoMemory.
-pub fn replay<S: Source>(alloc: Global, source: &mut S) -> Result<Told, Status>
-    ensures found { IfOk result
-        (λ told. FindsReplay npos_machine (S.left source.old)
-        (S.left source.new) told.text.items told.faulty) }
-    ensures halts { HaltsWell (S.faults source.old) (S.faults source.new) result }
-{
-    let mut text = Vec::new(alloc);
-    let mut held = Held::new(alloc)?;
-    let genesis = match take_genesis(alloc, source, &mut held)? {
+    let mut piece = blank_piece(alloc, PIECE)?;
+    let mut reader = StreamReader::new(alloc);
+    let genesis = match take_genesis(source, &mut reader, piece.as_mut_slice())? {
         Ok(genesis) => genesis,
         Err(fault) => {
-            tell_fault(&mut text, fault.at, fault.why)?;
-            return Ok(Told { text, faulty: true });
+            tell_fault(text, fault.at, fault.why)?;
+            return Ok(true);
         }
     };
     let mut runtime = match Runtime::start(alloc, genesis) {
         Ok(runtime) => runtime,
         Err(fault) => {
-            tell_genesis_fault(&mut text, fault)?;
-            return Ok(Told { text, faulty: true });
+            tell_genesis_fault(text, fault)?;
+            return Ok(true);
         }
     };
-    let faulty = take_all(alloc, source, &mut held, &mut runtime, &mut text)?;
-    Ok(Told { text, faulty })
+    take_all(
+        source,
+        &mut reader,
+        piece.as_mut_slice(),
+        &mut runtime,
+        text,
+        sink,
+    )
+}
+
+/// The status of a replay, whose text ends with a fault line or not.
+fn replay_status(faulty: bool) -> Status
+    ensures { result ≡ replay_status faulty }
+{
+    if faulty {
+        Status::BadInput
+    } else {
+        Status::Done
+    }
+}
+
+/// Replays what is left in the source, writes it to the sink and flushes that once.
+pub fn replay<S: Source, K: Sink>(
+    alloc: Global,
+    source: &mut S,
+    sink: &mut K,
+) -> Result<Status, Status>
+    ensures ends { ReplayEnds (S.left source.old) (S.left source.new) (K.told sink.old)
+        (K.told sink.new) result }
+    ensures reads { ReadsWell (S.faults source.old) (S.faults source.new) result }
+    ensures writes { WritesWell (K.faults sink.old) (K.faults sink.new) result }
+{
+    let mut text = Vec::new(alloc);
+    let faulty = tell_replay(alloc, source, &mut text, sink)?;
+    put(sink, text.as_slice())?;
+    flush(sink)?;
+    Ok(replay_status(faulty))
 }

@@ -138,14 +138,19 @@ fn calm(piece: usize) -> Outside {
 
 // Outsides that fail over the two transfers: the size of a piece and the numbers of the reads and
 // writes that fail, and then the status, what is written and how many bytes are left.
-const FAILING: [(usize, &[u64], &[u64], u8, &str, usize); 6] = [
+const FAILING: [(usize, &[u64], &[u64], u8, &str, usize); 8] = [
     (4096, &[0], &[], 4, "", 205),
     (100, &[2], &[], 4, "", 5),
-    (4096, &[1], &[], 4, "", 0),
+    (4096, &[1], &[], 4, TRANSFERS_BLOCK, 0),
+    (204, &[1], &[], 4, TRANSFERS_BLOCK, 1),
     (4096, &[], &[0], 5, "", 0),
     (10, &[], &[2], 5, "block 1\ncall 0 ok\nca", 0),
-    (4096, &[], &[1], 5, TRANSFERS_TEXT, 0),
+    (4096, &[], &[1], 5, TRANSFERS_BLOCK, 0),
+    (4096, &[], &[2], 5, TRANSFERS_TEXT, 0),
 ];
+
+/// The lines of the one block.
+const TRANSFERS_BLOCK: &str = "block 1\ncall 0 ok\ncall 1 refused 1\n";
 
 /// What a run came to.
 #[derive(Drop)]
@@ -240,6 +245,15 @@ fn a_failed_read_or_write_ends_the_run(rt: HostRuntime) -> Result<(), Fail> {
         assert_eq!(rt; ran.written.as_slice(), text.as_bytes());
         assert_eq!(rt; (ran.status, ran.left), (status, left));
     }
+    Ok(())
+}
+
+#[test]
+fn a_fault_ends_the_reading(rt: HostRuntime) -> Result<(), Fail> {
+    let bytes = List::from_vec(Vec::from_elem(rt.alloc(), 9, 1_000_000)?);
+    let ran = run_over(rt.alloc(), &["npos", "replay"], bytes, calm(1_000_000))?;
+    delivered(&rt, &ran, 3, "fault 0 badtag\n");
+    assert_eq!(rt; ran.left, 934_464);
     Ok(())
 }
 

@@ -6,15 +6,16 @@ ghost use Rattle.npos_cli.specs.declared.job.Task.{Task as task_kind};
 ghost use Rattle.npos_cli.specs.declared.job.Task.TheVariants as tasks;
 ghost use Rattle.npos_cli.specs.declared.job.Miner.TheVariants as miners;
 ghost use Rattle.npos_cli.specs.Words.{job_of};
-ghost use Rattle.npos_cli.specs.Report.{ReadsInput, ReadsBundle, IsAnswer, IsJudged, replay_status};
+ghost use Rattle.npos_cli.specs.Report.{ReadsInput, ReadsBundle, IsAnswer, IsJudged};
 ghost use Rattle.npos_cli.specs.Books.{BooksBalance};
 ghost use Rattle.npos_cli.specs.Headline.{SeatsAreSound};
 ghost use Rattle.npos_cli.specs.Crowding.{NoneIsCrowdedOut};
 ghost use Rattle.npos_cli.specs.Verdicts.{most_bundle};
 ghost use Rattle.npos_cli.specs.Tasks.{IsSound};
 ghost use Rattle.npos_cli.specs.declared.status.Status.TheVariants as statuses;
-ghost use Rattle.npos_cli.specs.Owed.{Finds, FindsFor, Answers, BeginsToAnswer, IsDrained, TakesAtMost, HaltsWell, KeepsFlushed};
-ghost use Rattle.npos_cli.specs.Due.{due_text, due_status};
+ghost use Rattle.npos_cli.specs.Owed.{FindsFor, AnswersFor, Answers, BeginsFor, BeginsToAnswer, IsDrained, TakesAtMost, HaltsWell, HasRead, HasWrote, KeepsFlushed};
+ghost use Rattle.npos_cli.specs.Streaming.{HaltedReading, HaltedWriting, HaltedStarving, ReadsWhile};
+ghost use Rattle.npos_cli.specs.Ran.{Ran, UsageEnds};
 
 use crate::Status;
 use crate::answers::Answer;
@@ -31,117 +32,92 @@ use std::alloc::Global;
 /// What the program writes where the words ask for no job.
 const USAGE: &str = "usage: npos replay|check|mine|pack|show|demo\n";
 
-/// What a run has to write, and how it then ends.
-#[derive(Drop)]
-pub enum Due {
-    Usage,
-    Answer { text: Vec<u8>, status: Status },
-}
-
-impl Due {
-    fn text(&self) -> &[u8]
-        ensures { result.now ≡ due_text self.now }
-    {
-        match self {
-            Due::Usage => USAGE.as_bytes(),
-            Due::Answer { text, .. } => text.as_slice(),
-        }
-    }
-
-    fn status(&self) -> Status
-        ensures { result ≡ due_status self.now }
-    {
-        match self {
-            Due::Usage => Status::Usage,
-            Due::Answer { status, .. } => *status,
-        }
-    }
-}
-
-/// The status of a replay, whose text ends with a fault line or not.
-fn replay_status(faulty: bool) -> Status
-    ensures { result ≡ replay_status faulty }
-{
-    if faulty {
-        Status::BadInput
-    } else {
-        Status::Done
-    }
-}
-
-/// Replays what is left in the source. The status of an Err is ReadFault or NoMemory.
-#[tactic(auto, using(crate::proofs::RunLaws::replay_found, crate::proofs::RunLaws::replay_drained))]
-fn replay_due<S: Source>(alloc: Global, source: &mut S) -> Result<Due, Status>
-    ensures due { IfOk result (λ due. FindsFor (Some jobs.Replay) (S.left source.old)
-        (due_text due) (due_status due)) }
-    ensures drained { IfOk result (λ due. IsJudged (due_status due)
-        → IsDrained (S.left source.old) (S.left source.new)) }
-    ensures halts { HaltsWell (S.faults source.old) (S.faults source.new) result }
-{
-    let told = replay(alloc, source)?;
-    let status = replay_status(told.faulty);
-    Ok(Due::Answer {
-        text: told.text,
-        status,
-    })
-}
-
 /// Reads the bundle that is left in the source, no more than one byte beyond the limit, and reports
 /// on it. The status of an Err is ReadFault or NoMemory.
 #[tactic(auto, using(crate::proofs::RunLaws::bundle_found, crate::proofs::RunLaws::bundle_drained, crate::proofs::RunLaws::bundle_few, crate::proofs::RunLaws::bundle_sound))]
-fn bundle_due<S: Source>(alloc: Global, source: &mut S, task: Task) -> Result<Due, Status>
-    ensures due { IfOk result (λ due. FindsFor (Some (jobs.OnBundle task)) (S.left source.old)
-        (due_text due) (due_status due)) }
-    ensures drained { IfOk result (λ due. IsJudged (due_status due)
+fn bundle_answer<S: Source>(alloc: Global, source: &mut S, task: Task) -> Result<Answer, Status>
+    ensures due { IfOk result (λ answer. FindsFor (Some (jobs.OnBundle task)) (S.left source.old)
+        answer.text.items answer.status) }
+    ensures drained { IfOk result (λ answer. IsJudged answer.status
         → IsDrained (S.left source.old) (S.left source.new)) }
     ensures few { IfOk result
         (λ _. TakesAtMost (most_bundle + 1) (S.left source.old) (S.left source.new)) }
-    ensures sound { IfOk result (λ due. due_status due ≡ statuses.Done
+    ensures sound { IfOk result (λ answer. answer.status ≡ statuses.Done
         → IfSome (S.left source.old) (IsSound task)) }
     ensures passes { task ≡ tasks.Mine miners.Fill
-        → IfOk result (λ due. due_status due ≢ statuses.No) }
+        → IfOk result (λ answer. answer.status ≢ statuses.No) }
     ensures halts { HaltsWell (S.faults source.old) (S.faults source.new) result }
 {
     let bytes = read_up_to(alloc, source, MOST_BUNDLE)?;
-    let Answer { text, status } = answer_bytes(alloc, bytes, task)?;
-    Ok(Due::Answer { text, status })
+    let answer = answer_bytes(alloc, bytes, task)?;
+    Ok(answer)
 }
 
-/// Finds out what the run owes. Words that ask for no job owe the usage line, and then nothing is
-/// read. The status of an Err is ReadFault or NoMemory.
-#[tactic(auto, using(crate::proofs::RunLaws::nothing_asked))]
-fn prepare<S: Source>(alloc: Global, words: &[String], source: &mut S) -> Result<Due, Status>
-    ensures due { IfOk result (λ due. Finds (map string_bytes words.now) (S.left source.old)
-        (due_text due) (due_status due)) }
-    ensures unread { (ReadsInput (job_of (map string_bytes words.now)) → ⊥)
-        → source.new ≡ source.old }
-    ensures reading { result ≡ Err Status.ReadFault
-        → ReadsInput (job_of (map string_bytes words.now)) }
-    ensures drained { IfOk result (λ due. IsJudged (due_status due)
-        → ReadsInput (job_of (map string_bytes words.now))
-        → IsDrained (S.left source.old) (S.left source.new)) }
-    ensures few { ReadsBundle (job_of (map string_bytes words.now)) → IfOk result (λ _.
-        TakesAtMost (most_bundle + 1) (S.left source.old) (S.left source.new)) }
-    ensures sound { (task : task_kind)
-        → job_of (map string_bytes words.now) ≡ Some (jobs.OnBundle task)
-        → IfOk result (λ due. due_status due ≡ statuses.Done
-        → IfSome (S.left source.old) (IsSound task)) }
-    ensures passes { job_of (map string_bytes words.now)
-        ≡ Some (jobs.OnBundle (tasks.Mine miners.Fill))
-        → IfOk result (λ due. due_status due ≢ statuses.No) }
-    ensures halts { HaltsWell (S.faults source.old) (S.faults source.new) result }
+/// Reports on the bundle that is left in the source, and flushes the report.
+#[tactic(auto, using(crate::proofs::RunLaws::front_delivered, crate::proofs::RunLaws::front_found))]
+fn report<S: Source, K: Sink>(alloc: Global, source: &mut S, sink: &mut K, task: Task) -> Status
+    ensures answers { IsAnswer result → AnswersFor (Some (jobs.OnBundle task)) (S.left source.old)
+        (K.told sink.old) (K.told sink.new) result }
+    ensures front { BeginsFor (Some (jobs.OnBundle task)) (S.left source.old)
+        (K.told sink.old) (K.told sink.new) }
+    ensures reads { HasRead (S.faults source.old) (S.faults source.new) result }
+    ensures writes { HasWrote (K.faults sink.old) (K.faults sink.new) result }
+    ensures unwritten { (result ≡ Status.ReadFault) ⊎ (result ≡ Status.NoMemory)
+        → sink.new ≡ sink.old }
+    ensures unflushed { (IsAnswer result → ⊥)
+        → KeepsFlushed (K.told sink.old) (K.told sink.new) }
+    ensures drained { IsJudged result → IsDrained (S.left source.old) (S.left source.new) }
+    ensures few { IsAnswer result
+        → TakesAtMost (most_bundle + 1) (S.left source.old) (S.left source.new) }
+    ensures accepted { result ≡ Status.Done → IfSome (S.left source.old) (IsSound task) }
+    ensures passes { task ≡ tasks.Mine miners.Fill → result ≢ Status.No }
 {
-    match job_of(words) {
-        None => Ok(Due::Usage),
-        Some(Job::Replay) => replay_due(alloc, source),
-        Some(Job::OnBundle(task)) => bundle_due(alloc, source, task),
+    let Answer { text, status } = match bundle_answer(alloc, source, task) {
+        Ok(answer) => answer,
+        Err(status) => return status,
+    };
+    match deliver(sink, text.as_slice()) {
+        Ok(()) => status,
+        Err(Failed) => Status::WriteFault,
+    }
+}
+
+/// Writes the usage line.
+fn tell_usage<K: Sink>(sink: &mut K) -> Status
+    ensures ends { UsageEnds (K.told sink.old) (K.told sink.new) result }
+    ensures writes { HasWrote (K.faults sink.old) (K.faults sink.new) result }
+{
+    match deliver(sink, USAGE.as_bytes()) {
+        Ok(()) => Status::Usage,
+        Err(Failed) => Status::WriteFault,
+    }
+}
+
+/// Does the job, or writes the usage line where there is none.
+fn run_job<S: Source, K: Sink>(
+    alloc: Global,
+    job: Option<Job>,
+    source: &mut S,
+    sink: &mut K,
+) -> Status
+    ensures { Ran job (S.left source.old) (S.left source.new) (K.told sink.old)
+        (K.told sink.new) (S.faults source.old) (S.faults source.new) (K.faults sink.old)
+        (K.faults sink.new) (source.new ≡ source.old) (sink.new ≡ sink.old) result }
+{
+    match job {
+        None => tell_usage(sink),
+        Some(Job::Replay) => match replay(alloc, source, sink) {
+            Ok(status) => status,
+            Err(status) => status,
+        },
+        Some(Job::OnBundle(task)) => report(alloc, source, sink, task),
     }
 }
 
 /// Does all that the program does: finds the job that the words ask for, reads its input from the
 /// source, writes to the sink what is due, flushes it, and says how it ended. `words[0]` is the
 /// program's name and is not looked at.
-#[tactic(auto, using(crate::proofs::BookLaws::books_told, crate::proofs::SeatLaws::told_sound, crate::proofs::CrowdingLaws::told_crowded, crate::proofs::RunLaws::front_delivered, crate::proofs::RunLaws::front_found))]
+#[tactic(auto, using(crate::proofs::BookLaws::books_told, crate::proofs::SeatLaws::told_sound, crate::proofs::CrowdingLaws::told_crowded))]
 pub fn run<S: Source, K: Sink>(
     alloc: Global,
     words: &[String],
@@ -161,10 +137,23 @@ pub fn run<S: Source, K: Sink>(
         → Rose (K.faults sink.old) (K.faults sink.new) }
     ensures write_fault_comes { K.faults sink.old < K.faults sink.new
         → result ≡ Status.WriteFault }
-    ensures unwritten { (result ≡ Status.ReadFault) ⊎ (result ≡ Status.NoMemory)
-        → sink.new ≡ sink.old }
-    ensures unflushed { result ≡ Status.WriteFault
+    ensures unwritten { (job_of (map string_bytes words.now) ≡ Some jobs.Replay → ⊥)
+        → (result ≡ Status.ReadFault) ⊎ (result ≡ Status.NoMemory) → sink.new ≡ sink.old }
+    ensures unflushed { (IsAnswer result → ⊥)
         → KeepsFlushed (K.told sink.old) (K.told sink.new) }
+    ensures halted_reading { job_of (map string_bytes words.now) ≡ Some jobs.Replay
+        → result ≡ Status.ReadFault → HaltedReading (S.left source.old) (S.left source.new)
+        (K.told sink.old) (K.told sink.new) }
+    ensures halted_writing { job_of (map string_bytes words.now) ≡ Some jobs.Replay
+        → result ≡ Status.WriteFault → HaltedWriting (S.left source.old) (S.left source.new)
+        (K.told sink.old) (K.told sink.new) }
+    ensures starved { job_of (map string_bytes words.now) ≡ Some jobs.Replay
+        → result ≡ Status.NoMemory → HaltedStarving (S.left source.old) (S.left source.new)
+        (K.told sink.old) (K.told sink.new) }
+    ensures wary { job_of (map string_bytes words.now) ≡ Some jobs.Replay
+        → ReadsWhile (S.left source.old) (S.left source.new) }
+    ensures usage_memory { job_of (map string_bytes words.now) ≡ None
+        → result ≢ Status.NoMemory }
     ensures unread { (ReadsInput (job_of (map string_bytes words.now)) → ⊥)
         → source.new ≡ source.old }
     ensures drained { IsJudged result → ReadsInput (job_of (map string_bytes words.now))
@@ -183,12 +172,5 @@ pub fn run<S: Source, K: Sink>(
     // two laws, which do nothing
     replays_seat_sound_committees();
     replays_crowd_nothing_out();
-    let due = match prepare(alloc, words, source) {
-        Ok(due) => due,
-        Err(status) => return status,
-    };
-    match deliver(sink, due.text()) {
-        Ok(()) => due.status(),
-        Err(Failed) => Status::WriteFault,
-    }
+    run_job(alloc, job_of(words), source, sink)
 }

@@ -1,36 +1,59 @@
-use Rattle.std.proofs.Common.{rules, refl, ◌∙◌}
+use Rattle.std.proofs.Common.{rules, ◌≡◌, ◌+◌, ◌≤◌, ◌<◌, false, length, refl, ap, ◌∙◌, Ok, arith, length-append}
+use Rattle.std.proofs.lemmas.Result.{err_from_is_err_and}
+use Rattle.scale_wire.specs.Reading.{Place}
 use Rattle.npos_cli.specs.declared.replaying.Stop.TheVariants.{More, Last}
 use Rattle.npos_cli.specs.Chain.{npos_machine}
-use Rattle.npos_cli.specs.Ahead.{place}
-use Rattle.npos_cli.specs.Turning.{spot, RunsOn}
-use Rattle.npos_cli.proofs.TurnLaws.{come_nowhere, come_on, come_to_an_end, nearer_end}
+use Rattle.npos_cli.specs.Turning.{spot, WritesOn}
+use Rattle.npos_cli.proofs.TurnLaws.{ends_alike, nearer_end}
+use Rattle.npos_cli.proofs.CourseLaws.{course_on, course_last, course_cut, course_unread}
 use Rattle.npos_cli.proofs.replaying.take_all.Goals as goal
 
-pub pieces-init : goal.pieces-init
-pieces-init g c = record {
-  unspent = c.requires.unspent;
-  faults = refl;
-  come = come_nowhere (g.S.Source.left c.args.source.now) c.args.held.now c.args.runtime.now.state c.args.text.now.items;
-}
+pub returns-in_err-faulty-clause-runs : goal.returns-in_err-faulty-clause-runs
+returns-in_err-faulty-clause-runs g c =
+    let p = err_from_is_err_and c.from_residual.result c.from_residual.ensures.1 in
+    rw (p.1, p.2) (λ left old course. course_cut left (g.S.Source.left c.pieces.source) old (g.K.Sink.told c.pieces.sink) c.pieces.ended (spot c.pieces.reader c.pieces.runtime.state)
+    (spot c.take_turns.new.reader c.take_turns.new.runtime.state) (g.K.Sink.told c.take_turns.new.sink) c.take_turns.new.text.items (c.pieces.invariant.course left old course)
+    c.in_err-faulty.field-0.0 c.in_err-faulty.ensures.writes)
 
 pub returns-in-Last-clause-runs : goal.returns-in-Last-clause-runs
 returns-in-Last-clause-runs g c =
-    let runs : RunsOn npos_machine c.pieces.held.ended (spot (place c.pieces.held) c.pieces.runtime.state) (spot (place c.take_held.new.held) c.take_held.new.runtime.state) c.pieces.text.items c.take_held.new.text.items (Last c.in-Last.faulty) = search rules in
-    come_to_an_end (g.S.Source.left c.args.source.now) (g.S.Source.left c.pieces.source) c.args.held.now.ended (spot (place c.args.held.now) c.args.runtime.now.state)
-    (spot (place c.take_held.new.held) c.take_held.new.runtime.state) c.pieces.held c.pieces.runtime.state c.args.text.now.items c.pieces.text.items c.take_held.new.text.items c.in-Last.faulty c.pieces.invariant.come runs
+    let writes : WritesOn npos_machine c.pieces.ended (spot c.pieces.reader c.pieces.runtime.state) (spot c.take_turns.new.reader c.take_turns.new.runtime.state) (g.K.Sink.told c.pieces.sink) (g.K.Sink.told c.take_turns.new.sink)
+    c.take_turns.new.text.items (Ok (Last c.in-Last.faulty)) = search rules in
+    λ left old course. course_last left (g.S.Source.left c.pieces.source) old (g.K.Sink.told c.pieces.sink) c.pieces.ended (spot c.pieces.reader c.pieces.runtime.state)
+    (spot c.take_turns.new.reader c.take_turns.new.runtime.state) (g.K.Sink.told c.take_turns.new.sink) c.take_turns.new.text.items (c.pieces.invariant.course left old course) c.in-Last.faulty writes
+
+pub returns-in_err-ended-in-More-clause-runs : goal.returns-in_err-ended-in-More-clause-runs
+returns-in_err-ended-in-More-clause-runs g c =
+    let p = err_from_is_err_and c.from_residual-in_err-ended-in-More.result c.from_residual-in_err-ended-in-More.ensures.1 in
+    let writes : WritesOn npos_machine c.pieces.ended (spot c.pieces.reader c.pieces.runtime.state) (spot c.take_turns.new.reader c.take_turns.new.runtime.state) (g.K.Sink.told c.pieces.sink) (g.K.Sink.told c.take_turns.new.sink)
+    c.take_turns.new.text.items (Ok More) = search rules in
+    rw (p.1, p.2) (λ left old course. course_unread left (g.S.Source.left c.pieces.source) old (g.K.Sink.told c.pieces.sink) c.pieces.ended (spot c.pieces.reader c.pieces.runtime.state)
+    (spot c.take_turns.new.reader c.take_turns.new.runtime.state) (g.K.Sink.told c.take_turns.new.sink) c.take_turns.new.text.items (c.pieces.invariant.course left old course)
+    (g.S.Source.left c.read_piece.new.source) c.take_turns.new.reader c.read_piece.new.reader c.in_err-ended-in-More.field-0.0 writes c.in_err-ended-in-More.ensures.feeds)
 
 pub pieces-smaller : goal.pieces-smaller
 pieces-smaller g c =
-    let runs : RunsOn npos_machine c.pieces.held.ended (spot (place c.pieces.held) c.pieces.runtime.state) (spot (place c.take_held.new.held) c.take_held.new.runtime.state) c.pieces.text.items c.take_held.new.text.items More = search rules in
-    nearer_end c.pieces.held c.take_held.new.held c.read_on.new.self c.pieces.runtime.state c.take_held.new.runtime.state (g.S.Source.left c.pieces.source) (g.S.Source.left c.read_on.new.source)
-    c.pieces.text.items c.take_held.new.text.items runs c.in_ok-read_on-in-More.ensures.more c.in_ok-read_on-in-More.ensures.further c.in_ok-read_on-in-More.ensures.fits
+    let writes : WritesOn npos_machine c.pieces.ended (spot c.pieces.reader c.pieces.runtime.state) (spot c.take_turns.new.reader c.take_turns.new.runtime.state) (g.K.Sink.told c.pieces.sink) (g.K.Sink.told c.take_turns.new.sink)
+    c.take_turns.new.text.items (Ok More) = search rules in
+    let feeds = c.in_ok-ended-in-More.ensures.feeds in
+    let at : c.read_piece.new.reader.at ≡ c.take_turns.new.reader.at = ap (λ (p : Place). p.at) feeds.3.0 in
+    let rest : length c.read_piece.new.reader.rest ≡ length c.take_turns.new.reader.rest + length feeds.0 = ap (λ (p : Place). length p.rest) feeds.3.0 ∙ length-append c.take_turns.new.reader.rest feeds.0 in
+    nearer_end (c.pieces.reader.at + length c.pieces.reader.rest) (c.take_turns.new.reader.at + length c.take_turns.new.reader.rest) (c.read_piece.new.reader.at + length c.read_piece.new.reader.rest)
+    c.pieces.ended c.in_ok-ended-in-More.ended writes.0
+    (ends_alike (spot c.pieces.reader c.pieces.runtime.state) (spot c.take_turns.new.reader c.take_turns.new.runtime.state) writes.2.0 writes.2.1)
+    c.in_ok-ended-in-More.ensures.fits (omega (arith, at, rest)) (λ e. omega (arith, at, c.in_ok-ended-in-More.ensures.further e))
 
 pub pieces-preserved : goal.pieces-preserved
 pieces-preserved g c =
-    let runs : RunsOn npos_machine c.pieces.held.ended (spot (place c.pieces.held) c.pieces.runtime.state) (spot (place c.take_held.new.held) c.take_held.new.runtime.state) c.pieces.text.items c.take_held.new.text.items More = search rules in
+    let writes : WritesOn npos_machine c.pieces.ended (spot c.pieces.reader c.pieces.runtime.state) (spot c.take_turns.new.reader c.take_turns.new.runtime.state) (g.K.Sink.told c.pieces.sink) (g.K.Sink.told c.take_turns.new.sink)
+    c.take_turns.new.text.items (Ok More) = search rules in
     record {
       unspent = search rules;
-      faults = c.in_ok-read_on-in-More.ensures.halts ∙ c.pieces.invariant.faults;
-      come = come_on (g.S.Source.left c.args.source.now) (g.S.Source.left c.pieces.source) (g.S.Source.left c.read_on.new.source) c.args.held.now.ended (spot (place c.args.held.now) c.args.runtime.now.state)
-          c.pieces.held c.take_held.new.held c.read_on.new.self c.pieces.runtime.state c.take_held.new.runtime.state c.args.text.now.items c.pieces.text.items c.take_held.new.text.items c.pieces.invariant.come runs c.in_ok-read_on-in-More.ensures.more;
+      some = omega (arith, c.pieces.invariant.some, c.read_piece.auto.piece);
+      one_piece = omega (arith, c.pieces.invariant.one_piece, c.read_piece.auto.piece);
+      reads = c.in_ok-ended-in-More.ensures.halts ∙ c.pieces.invariant.reads;
+      writes = c.in_ok-faulty.ensures.faults ∙ c.pieces.invariant.writes;
+      course = λ left old course. course_on left (g.S.Source.left c.pieces.source) old (g.K.Sink.told c.pieces.sink) c.pieces.ended (spot c.pieces.reader c.pieces.runtime.state)
+          (spot c.take_turns.new.reader c.take_turns.new.runtime.state) (g.K.Sink.told c.take_turns.new.sink) c.take_turns.new.text.items (c.pieces.invariant.course left old course)
+          (g.S.Source.left c.read_piece.new.source) c.take_turns.new.reader c.read_piece.new.reader c.take_turns.new.runtime.state c.in_ok-ended-in-More.ended refl writes c.in_ok-ended-in-More.ensures.feeds;
     }

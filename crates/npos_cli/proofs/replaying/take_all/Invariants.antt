@@ -1,16 +1,21 @@
-use Rattle.std.proofs.Common.{◌≡◌, ◌+◌, ◌-◌, ◌^◌, false, length}
-use Rattle.npos_cli.specs.Ahead.{place}
+use Rattle.std.proofs.Common.{◌≡◌, ◌+◌, ◌-◌, ◌^◌, ◌<◌, ◌≤◌, ℕ, List, Option, false, length}
+use Rattle.npos_base.specs.Outside.{Told}
 use Rattle.npos_cli.specs.Turning.{spot}
-use Rattle.npos_cli.proofs.TurnLaws.{HasCome, one_if_open}
+use Rattle.npos_cli.specs.Streaming.{Course}
+use Rattle.npos_cli.proofs.TurnLaws.{one_if_open}
 use Rattle.npos_cli.proofs.replaying.take_all.Given as goal
 
--- all that was seen led to here, and no read failed
+-- whatever led to the start goes on to here, and no read or write failed
 abbrev pub invariant-pieces : goal.invariant-pieces
 invariant-pieces g l = record {
   unspent : l.runtime.spent ≡ false;
-  faults : g.S.Source.faults l.source ≡ g.S.Source.faults l.fn.source;
-  come : HasCome (g.S.Source.left l.fn.source) (g.S.Source.left l.source) l.fn.held.ended (spot (place l.fn.held) l.fn.runtime.state) l.held l.runtime.state l.fn.text.items l.text.items;
+  some : 0 < length l.piece;
+  one_piece : length l.piece ≤ 65536;
+  reads : g.S.Source.faults l.source ≡ g.S.Source.faults l.fn.source;
+  writes : g.K.Sink.faults l.sink ≡ g.K.Sink.faults l.fn.sink;
+  course : (left : Option (List ℕ)) (old : Option Told) → Course left (g.S.Source.left l.fn.source) old (g.K.Sink.told l.fn.sink) false (spot l.fn.reader l.fn.runtime.state)
+      → Course left (g.S.Source.left l.source) old (g.K.Sink.told l.sink) l.ended (spot l.reader l.runtime.state);
 }
 
 abbrev pub decreases-pieces : goal.decreases-pieces
-decreases-pieces g l = 2 ^ 64 - (l.held.at + length l.held.bytes) + one_if_open l.held.ended
+decreases-pieces g l = 2 ^ 64 - (l.reader.at + length l.reader.rest) + one_if_open l.ended

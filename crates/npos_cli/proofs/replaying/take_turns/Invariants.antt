@@ -1,18 +1,16 @@
-use Rattle.std.proofs.Common.{◌≡◌, ◌+◌, ◌<◌, ◌^◌, false, length}
-use Rattle.scale_wire.specs.Form.{IsBytes}
-use Rattle.npos_cli.specs.Chain.{npos_machine}
-use Rattle.npos_cli.specs.Turning.{spot, HasReached}
+use Rattle.std.proofs.Common.{◌≡◌, false, length}
+use Rattle.npos_cli.specs.Turning.{spot}
+use Rattle.npos_cli.proofs.TurnLaws.{HasWrit}
 use Rattle.npos_cli.proofs.replaying.take_turns.Given as goal
 
--- the blocks so far lead from the start to here, and what they write was appended
+-- the blocks so far lead from the start to here, and what they write was written
 abbrev pub invariant-turns : goal.invariant-turns
-invariant-turns l = record {
+invariant-turns g l = record {
   unspent : l.runtime.spent ≡ false;
-  fits : l.cursor.at + length l.cursor.rest < 2 ^ 64;
-  bytes : IsBytes l.cursor.rest;
-  reached : HasReached npos_machine (spot l.fn.cursor l.fn.runtime.state) (spot l.cursor l.runtime.state) l.fn.text.items l.text.items;
+  faults : g.K.Sink.faults l.sink ≡ g.K.Sink.faults l.fn.sink;
+  writ : HasWrit (spot l.fn.reader l.fn.runtime.state) (spot l.reader l.runtime.state) (g.K.Sink.told l.fn.sink) (g.K.Sink.told l.sink);
 }
 
 -- each turn leaves fewer bytes
 abbrev pub decreases-turns : goal.decreases-turns
-decreases-turns l = length l.cursor.rest
+decreases-turns g l = length l.reader.rest

@@ -1,6 +1,6 @@
 use Rattle.npos_cli.proofs.RunLaws.{bundle_found}
-use Rattle.npos_cli.proofs.top.bundle_due.Goals as goal
+use Rattle.npos_cli.proofs.top.bundle_answer.Goals as goal
 
 pub returns-clause-due : goal.returns-clause-due
 returns-clause-due g c = bundle_found c.args.task (g.S.Source.left c.args.source.now) (g.S.Source.left c.read_up_to.new.source) c.in_ok-bytes.bytes.items
-    c.in_ok-text.field-0.text.items c.in_ok-text.field-0.status c.in_ok-bytes.ensures.read c.in_ok-text.ensures.report
+    c.in_ok-answer.answer.text.items c.in_ok-answer.answer.status c.in_ok-bytes.ensures.read c.in_ok-answer.ensures.report

@@ -1,0 +1,372 @@
+-- How a replay comes on that reads piece by piece and writes block by block, and how it ends.
+use Rattle.std.proofs.Common.{◌≡◌, ◌⊎◌, inl, inr, ◌≤◌, ◌+◌, ◌-◌, ℕ, Bool, true, false, List, [], ◌++◌, length, take, drop, Option, Some, None, Result, Ok, Err, refl, sym, ◌∙◌, ap, subst, append_assoc, arith, length-append, true≢false}
+use Rattle.std.proofs.lemmas.List.{append-nil, take-append-drop, take-append-le}
+use Rattle.npos_base.specs.Outside.{Told, Appends, Flushes}
+use Rattle.scale_wire.specs.declared.fault.Why.TheVariants.{Short}
+use Rattle.scale_wire.specs.declared.fault.WireFault.{WireFault}
+use Rattle.scale_wire.specs.Reading.{Place, IsRead}
+use Rattle.block_wire.specs.declared.genesis.Genesis.{Genesis}
+use Rattle.block_wire.specs.Genesis.{genesis_form}
+use Rattle.npos_runtime.specs.declared.chain.Chain.{Chain}
+use Rattle.npos_runtime.specs.Outcome.{Election}
+use Rattle.npos_cli.specs.declared.replaying.Stop.TheVariants.{More, Last}
+use Rattle.npos_cli.specs.declared.job.Job.TheVariants as jobs
+use Rattle.npos_cli.specs.declared.status.Status.{Status}
+use Rattle.npos_cli.specs.declared.status.Status.TheVariants as statuses
+use Rattle.npos_cli.specs.Replay.{Spot, turn, Starts, Reaches, all_seated, Replayed, Outcome, IsReplay, IsWhole, NoStart, IsFront}
+use Rattle.npos_cli.specs.Chain.{npos_machine}
+use Rattle.npos_cli.specs.Ahead.{first_place, MayFollow, HasSeen, FeedsMore, CutsGenesis, AwaitsGenesis, BeginsBy, Begins}
+use Rattle.npos_cli.specs.Turning.{spot, grown, IsCutHere, StopsSurely, WritesOn, IsUndecided, InGenesis, Behind, KeepsUp}
+use Rattle.npos_cli.specs.Owed.{IsAll, LeftAfter, IsDrained, Delivers, DeliversFront, FindsReplay, BeginsFor, IsOwedFor, Puts, FlushesBy}
+use Rattle.npos_cli.specs.Report.{JobOwes, replay_status}
+use Rattle.npos_cli.specs.Streaming.{Course, Finished, WritesBlocks, CutBy, Halts, Runs, Delivered, ReplayEnds, HasWritten}
+use Rattle.npos_cli.proofs.ChainLaws.{genesis_laws, turn_laws}
+use Rattle.npos_cli.proofs.ReplayLaws.{reaches_itself, unreadable}
+use Rattle.npos_cli.proofs.WholeLaws.{passes_grow, start_grows, whole_grows, reached_front, undecided_whole}
+use Rattle.npos_cli.proofs.EdgeLaws.{left_join, left_none, seen_once, seen_more, delivered, fronted}
+use Rattle.npos_cli.proofs.TurnLaws.{appends_join, appends_none, reaches_join}
+use Rattle.npos_cli.proofs.StartLaws.{found, outcome}
+use Rattle.npos_cli.proofs.RunLaws.{front_found}
+
+-- ## Fronts
+
+front_more : (text written more : List ℕ) → IsFront text written → IsFront text (written ++ more)
+front_more text written more front = (front.0 ++ more, ap (λ (t : List ℕ). t ++ more) front.1 ∙ append_assoc text front.0 more)
+
+front_itself : (text : List ℕ) → IsFront text text
+front_itself text = ([], sym (append-nil text))
+
+keeps_up_more : (taken written more : List ℕ) → KeepsUp npos_machine taken written → KeepsUp npos_machine taken (written ++ more)
+keeps_up_more taken written more keeps = record {
+  earlier = keeps.earlier;
+  last = keeps.last;
+  text = keeps.text;
+  split = keeps.split;
+  one_piece = keeps.one_piece;
+  unsure = keeps.unsure;
+  before = front_more keeps.text written more keeps.before;
+}
+
+reaches_grow : (more : List ℕ) (p q : Spot Chain) (text : List ℕ) → Reaches npos_machine p q text → Reaches npos_machine (grown more p) (grown more q) text
+reaches_grow more p q text reaches = record {
+  blocks = reaches.blocks;
+  passes = passes_grow npos_machine genesis_laws turn_laws more reaches.blocks p q text reaches.passes;
+}
+
+-- nothing was written
+begins_nothing : (left : Option (List ℕ)) (old new : Option Told) → Appends old new [] → BeginsFor (Some jobs.Replay) left old new
+begins_nothing left old new appends text status owed = fronted old new [] text appends (text, refl)
+
+-- what was written is a front of what the blocks of the bytes taken write
+begins_reached : (left now : Option (List ℕ)) (old new : Option Told) (taken put text : List ℕ) (p q : Spot Chain) → LeftAfter left now taken → Starts npos_machine taken p
+    → Reaches npos_machine p q text → IsFront put text → Appends old new put → BeginsFor (Some jobs.Replay) left old new
+begins_reached left now old new taken put text p q left_is starts reaches front appends whole status owed = on left left_is owed where
+  within : (all : List ℕ) (r s : Spot Chain) → Starts npos_machine all r → Reaches npos_machine r s text → JobOwes (Some jobs.Replay) all whole status → DeliversFront old new whole
+  within all r s start reach owes =
+      let first = reached_front npos_machine genesis_laws turn_laws all text r s owes.0 start reach owes.1 in
+      fronted old new put whole appends (front.0 ++ first.0, owes.2 ∙ (first.1 ∙ (ap (λ (t : List ℕ). t ++ first.0) front.1 ∙ append_assoc put front.0 first.0)))
+
+  on : (left : Option (List ℕ)) → LeftAfter left now taken → IsOwedFor (Some jobs.Replay) left whole status → DeliversFront old new whole
+  on None left_is owed = within taken p q starts reaches (owed taken tt)
+  on (Some all) left_is owed =
+      within (taken ++ left_is.0) (grown left_is.0 p) (grown left_is.0 q) (start_grows npos_machine genesis_laws turn_laws left_is.0 taken p starts)
+      (reaches_grow left_is.0 p q text reaches) (owed (taken ++ left_is.0) (sym left_is.2))
+
+-- ## The genesis
+
+awaits_keeps : (taken : List ℕ) → AwaitsGenesis taken → KeepsUp npos_machine taken []
+awaits_keeps taken awaits = record {
+  earlier = awaits.0;
+  last = awaits.1;
+  text = [];
+  split = awaits.2;
+  one_piece = awaits.3;
+  unsure = InGenesis awaits.4.0 awaits.4.1 refl;
+  before = ([], refl);
+}
+
+pub genesis_halts : (left now : Option (List ℕ)) (told : Option Told) (taken : List ℕ) (status : Status) → LeftAfter left now taken → AwaitsGenesis taken → CutBy status taken []
+    → Halts left now told told status
+genesis_halts left now told taken status left_is awaits cut = record {
+  taken = taken;
+  written = [];
+  left_is = left_is;
+  told = appends_none told;
+  keeps_up = awaits_keeps taken awaits;
+  front = begins_nothing left told told (appends_none told);
+  cut = cut;
+}
+
+-- the empty input is cut within its genesis
+pub awaits_none : AwaitsGenesis []
+awaits_none = ([], [], refl, omega arith, (0, inl (refl, refl)))
+
+-- memory ran out before anything was read
+pub begins_starved : (left : Option (List ℕ)) (told : Option Told) → Halts left left told told statuses.NoMemory
+begins_starved left told = genesis_halts left left told [] statuses.NoMemory (left_none left [] refl) awaits_none (inl refl)
+
+-- the genesis was not read
+pub begins_cut : (left now : Option (List ℕ)) (told : Option Told) (place : Place) (status : Status) → Begins left now place (Err status) → Halts left now told told status
+begins_cut left now told place statuses.ReadFault begins =
+    genesis_halts left now told begins.0 statuses.ReadFault begins.1 begins.2
+    (NoStart (λ p start. unreadable npos_machine genesis_laws turn_laws begins.0 start.genesis p.rest begins.3.0 Short start.in_range start.whole begins.3.1) refl)
+begins_cut left now told place statuses.NoMemory begins = genesis_halts left now told begins.0 statuses.NoMemory begins.1 begins.2 (inl refl)
+begins_cut left now told place statuses.Done begins = absurd begins.3
+begins_cut left now told place statuses.No begins = absurd begins.3
+begins_cut left now told place statuses.Usage begins = absurd begins.3
+begins_cut left now told place statuses.BadInput begins = absurd begins.3
+begins_cut left now told place statuses.WriteFault begins = absurd begins.3
+
+-- memory ran out behind the genesis
+pub begun_starved : (left now : Option (List ℕ)) (told : Option Told) (place : Place) (genesis : Result Genesis WireFault) → Begins left now place (Ok genesis)
+    → Halts left now told told statuses.NoMemory
+begun_starved left now told place genesis begins = genesis_halts left now told begins.0 statuses.NoMemory begins.1 begins.2 (inl refl)
+
+-- a replay whose one line was told
+pub finished_first : (left now : Option (List ℕ)) (told : Option Told) (taken line : List ℕ) (faulty : Bool) → LeftAfter left now taken → AwaitsGenesis taken
+    → FindsReplay npos_machine left now line faulty → Finished left now told told line faulty
+finished_first left now told taken line faulty left_is awaits finds = record {
+  taken = taken;
+  written = [];
+  left_is = left_is;
+  told = appends_none told;
+  keeps_up = awaits_keeps taken awaits;
+  finds = finds;
+}
+
+-- the chain was started
+pub course_starts : (left now : Option (List ℕ)) (told : Option Told) (taken : List ℕ) (here : Spot Chain) → LeftAfter left now taken → AwaitsGenesis taken
+    → Starts npos_machine taken here → Course left now told told false here
+course_starts left now told taken here left_is awaits starts = record {
+  taken = taken;
+  written = [];
+  seen = record { taken = left_is; at_end = λ e. absurd (true≢false (sym e)) };
+  told = appends_none told;
+  start = here;
+  starts = starts;
+  reaches = reaches_itself npos_machine genesis_laws turn_laws here;
+  keeps_up = awaits_keeps taken awaits;
+}
+
+-- ## The blocks
+
+module _ (left mid : Option (List ℕ)) (old told : Option Told) (ended : Bool) (p q : Spot Chain) (new : Option Told) (line : List ℕ) (course : Course left mid old told ended p) where
+  -- blocks were taken, and the next piece was read
+  pub course_on : (now : Option (List ℕ)) (here read : Place) (chain : Chain) (going : Bool) → q ≡ spot here chain → WritesOn npos_machine ended p q told new line (Ok More)
+      → FeedsMore mid now here read (Ok going) → Course left now old new going (spot read chain)
+  course_on now here read chain going q_is writes feeds =
+      let more = feeds.0 in
+      let all = reaches_join course.start p q course.written writes.2.0 course.reaches writes.2.1 in
+      let there : grown more q ≡ spot read chain = ap (grown more) q_is ∙ ap (λ (place : Place). spot place chain) (sym feeds.3.0) in
+      record {
+        taken = course.taken ++ more;
+        written = course.written ++ writes.2.0;
+        seen = seen_more left mid now course.taken more false ended going course.seen
+            (subst (λ (b : Bool). HasSeen mid now more b going) (sym writes.0) (seen_once mid now more going feeds.1 feeds.3.1));
+        told = appends_join old told new course.written writes.2.0 course.told writes.2.2;
+        start = grown more course.start;
+        starts = start_grows npos_machine genesis_laws turn_laws more course.taken course.start course.starts;
+        reaches = subst (λ (s : Spot Chain). Reaches npos_machine (grown more course.start) s (course.written ++ writes.2.0)) there
+            (reaches_grow more course.start q (course.written ++ writes.2.0) all);
+        keeps_up = record {
+          earlier = course.taken;
+          last = more;
+          text = course.written ++ writes.2.0;
+          split = refl;
+          one_piece = feeds.2;
+          unsure = Behind course.start q course.starts all writes.1;
+          before = front_itself (course.written ++ writes.2.0);
+        };
+      }
+
+  -- the replay is known
+  pub course_last : (faulty : Bool) → WritesOn npos_machine ended p q told new line (Ok (Last faulty)) → Finished left mid old new line faulty
+  unfolding reaches_grow
+  course_last faulty writes =
+      let r = writes.0 in
+      let text = course.written ++ writes.1 in
+      let all = reaches_join course.start p r course.written writes.1 course.reaches writes.2 in
+      record {
+        taken = course.taken;
+        written = text;
+        left_is = course.seen.taken;
+        told = appends_join old told new course.written writes.1 course.told writes.5;
+        keeps_up = keeps_up_more course.taken course.written writes.1 course.keeps_up;
+        finds = found left mid course.taken (text ++ line) ended faulty course.seen
+            (λ more follow. (
+              all_seated npos_machine course.start.state all.blocks,
+              Some r.state,
+              Replayed (grown more course.start) (grown more r) text line faulty (start_grows npos_machine genesis_laws turn_laws more course.taken course.start course.starts)
+                  (reaches_grow more course.start r text all) (writes.3 more follow) refl,
+            ))
+            writes.4;
+      }
+
+  -- a write failed, or memory ran out
+  pub course_cut : (status : Status) → WritesOn npos_machine ended p q told new line (Err status) → Halts left mid old new status
+  course_cut statuses.NoMemory writes =
+      let all = reaches_join course.start p writes.0 course.written writes.1 course.reaches writes.2 in
+      let appends = appends_join old told new course.written writes.1 course.told writes.3 in
+      record {
+        taken = course.taken;
+        written = course.written ++ writes.1;
+        left_is = course.seen.taken;
+        told = appends;
+        keeps_up = keeps_up_more course.taken course.written writes.1 course.keeps_up;
+        front = begins_reached left mid old new course.taken (course.written ++ writes.1) (course.written ++ writes.1) course.start writes.0 course.seen.taken course.starts all
+            (front_itself (course.written ++ writes.1)) appends;
+        cut = inr (course.start, writes.0, course.starts, all);
+      }
+  course_cut statuses.WriteFault writes =
+      let all = reaches_join course.start p writes.0 course.written writes.1 course.reaches writes.3 in
+      let appends = appends_join old told new course.written writes.2 course.told writes.5 in
+      record {
+        taken = course.taken;
+        written = course.written ++ writes.2;
+        left_is = course.seen.taken;
+        told = appends;
+        keeps_up = keeps_up_more course.taken course.written writes.2 course.keeps_up;
+        front = begins_reached left mid old new course.taken (course.written ++ writes.2) (course.written ++ writes.1) course.start writes.0 course.seen.taken course.starts all
+            (writes.4.0, ap (λ (back : List ℕ). course.written ++ back) writes.4.1 ∙ sym (append_assoc course.written writes.2 writes.4.0)) appends;
+        cut = tt;
+      }
+  course_cut statuses.Done writes = absurd writes
+  course_cut statuses.No writes = absurd writes
+  course_cut statuses.Usage writes = absurd writes
+  course_cut statuses.BadInput writes = absurd writes
+  course_cut statuses.ReadFault writes = absurd writes
+
+  unread : (now : Option (List ℕ)) (more : List ℕ) (status : Status) (writes : WritesOn npos_machine ended p q told new line (Ok More)) → LeftAfter mid now more → length more ≤ 65536
+      → CutBy status (course.taken ++ more) (course.written ++ writes.2.0) → Halts left now old new status
+  unread now more status writes left_is one_piece cut =
+      let all = reaches_join course.start p q course.written writes.2.0 course.reaches writes.2.1 in
+      let appends = appends_join old told new course.written writes.2.0 course.told writes.2.2 in
+      let text = course.written ++ writes.2.0 in
+      let joined = left_join left mid now course.taken more course.seen.taken left_is in
+      record {
+        taken = course.taken ++ more;
+        written = text;
+        left_is = joined;
+        told = appends;
+        keeps_up = record {
+          earlier = course.taken;
+          last = more;
+          text = text;
+          split = refl;
+          one_piece = one_piece;
+          unsure = Behind course.start q course.starts all writes.1;
+          before = front_itself text;
+        };
+        front = begins_reached left now old new (course.taken ++ more) text text (grown more course.start) (grown more q) joined
+            (start_grows npos_machine genesis_laws turn_laws more course.taken course.start course.starts) (reaches_grow more course.start q text all) (front_itself text) appends;
+        cut = cut;
+      }
+
+  -- a read failed, or memory ran out in it
+  pub course_unread : (now : Option (List ℕ)) (here read : Place) (status : Status) → WritesOn npos_machine ended p q told new line (Ok More) → FeedsMore mid now here read (Err status)
+      → Halts left now old new status
+  course_unread now here read statuses.ReadFault writes feeds =
+      let all = reaches_join course.start p q course.written writes.2.0 course.reaches writes.2.1 in
+      let same : course.taken ≡ course.taken ++ feeds.0 = sym (append-nil course.taken) ∙ ap (λ (back : List ℕ). course.taken ++ back) (sym feeds.3) in
+      unread now feeds.0 statuses.ReadFault writes feeds.1 feeds.2
+      (subst (λ (bytes : List ℕ). IsWhole npos_machine bytes (course.written ++ writes.2.0)) same
+      (undecided_whole npos_machine genesis_laws turn_laws course.taken (course.written ++ writes.2.0) (Behind course.start q course.starts all writes.1)))
+  course_unread now here read statuses.NoMemory writes feeds =
+      let all = reaches_join course.start p q course.written writes.2.0 course.reaches writes.2.1 in
+      unread now feeds.0 statuses.NoMemory writes feeds.1 feeds.2
+      (inr (grown feeds.0 course.start, grown feeds.0 q, start_grows npos_machine genesis_laws turn_laws feeds.0 course.taken course.start course.starts,
+      reaches_grow feeds.0 course.start q (course.written ++ writes.2.0) all))
+  course_unread now here read statuses.Done writes feeds = absurd feeds.3
+  course_unread now here read statuses.No writes feeds = absurd feeds.3
+  course_unread now here read statuses.Usage writes feeds = absurd feeds.3
+  course_unread now here read statuses.BadInput writes feeds = absurd feeds.3
+  course_unread now here read statuses.WriteFault writes feeds = absurd feeds.3
+
+-- ## The last line
+
+pub finds_for : (left now : Option (List ℕ)) (text : List ℕ) (faulty : Bool) (status : Status) → FindsReplay npos_machine left now text faulty → status ≡ replay_status faulty
+    → (bytes : List ℕ) × IsAll left bytes × JobOwes (Some jobs.Replay) bytes text status
+finds_for left now text faulty status finds is =
+    (finds.0, finds.1, (record { text = text; faulty = faulty; seated = finds.2.0; last = finds.2.1 }, finds.2.2, refl, is))
+
+module _ (left now : Option (List ℕ)) (old told : Option Told) (line : List ℕ) (faulty : Bool) (done : Finished left now old told line faulty) where
+  halts_within : (new : Option Told) (put : List ℕ) → Appends told new put → IsFront put line → Halts left now old new statuses.WriteFault
+  halts_within new put appends front =
+      let all = appends_join old told new done.written put done.told appends in
+      record {
+        taken = done.taken;
+        written = done.written ++ put;
+        left_is = done.left_is;
+        told = all;
+        keeps_up = keeps_up_more done.taken done.written put done.keeps_up;
+        front = front_found (Some jobs.Replay) left old new (done.written ++ line) (replay_status faulty) (finds_for left now (done.written ++ line) faulty (replay_status faulty) done.finds refl)
+            (fronted old new (done.written ++ put) (done.written ++ line) all
+            (front.0, ap (λ (back : List ℕ). done.written ++ back) front.1 ∙ sym (append_assoc done.written put front.0)));
+        cut = tt;
+      }
+
+  -- the line was not written whole
+  pub finished_cut : (new : Option Told) (status : Status) → Puts told new line (Err status) → Halts left now old new status
+  finished_cut new statuses.WriteFault puts = halts_within new (take puts.0 line) puts.1 (drop puts.0 line, sym (take-append-drop puts.0 line))
+  finished_cut new statuses.Done puts = absurd puts
+  finished_cut new statuses.No puts = absurd puts
+  finished_cut new statuses.Usage puts = absurd puts
+  finished_cut new statuses.BadInput puts = absurd puts
+  finished_cut new statuses.ReadFault puts = absurd puts
+  finished_cut new statuses.NoMemory puts = absurd puts
+
+  -- the line was written, and the flush failed
+  pub finished_unflushed : (mid new : Option Told) (status : Status) → Puts told mid line (Ok tt) → FlushesBy mid new (Err status) → Halts left now old new status
+  finished_unflushed mid new statuses.WriteFault puts flushes =
+      halts_within new line (subst (λ (t : List ℕ). Appends told new t) (append-nil line) (appends_join told mid new line [] puts flushes)) (front_itself line)
+  finished_unflushed mid new statuses.Done puts flushes = absurd flushes
+  finished_unflushed mid new statuses.No puts flushes = absurd flushes
+  finished_unflushed mid new statuses.Usage puts flushes = absurd flushes
+  finished_unflushed mid new statuses.BadInput puts flushes = absurd flushes
+  finished_unflushed mid new statuses.ReadFault puts flushes = absurd flushes
+  finished_unflushed mid new statuses.NoMemory puts flushes = absurd flushes
+
+  pub finished_whole : (mid new : Option Told) (status : Status) → Puts told mid line (Ok tt) → FlushesBy mid new (Ok tt) → status ≡ replay_status faulty → Delivered left now old new status
+  finished_whole mid new status puts flushes is = record {
+    taken = done.taken;
+    written = done.written;
+    left_is = done.left_is;
+    keeps_up = done.keeps_up;
+    text = done.written ++ line;
+    faulty = faulty;
+    finds = done.finds;
+    status_is = is;
+    delivers = delivered old mid new (done.written ++ line) (appends_join old told mid done.written line done.told puts) flushes;
+  }
+
+-- ## What was written where a write failed
+
+pub has_written : (taken written : List ℕ) → KeepsUp npos_machine taken written → HasWritten taken written
+has_written taken written keeps text whole =
+    let size = length taken - 65536 in
+    let long : length taken ≡ length keeps.earlier + length keeps.last = ap length keeps.split ∙ length-append keeps.earlier keeps.last in
+    let within : size ≤ length keeps.earlier = omega (arith, long, keeps.one_piece) in
+    let first : take size taken ≡ take size keeps.earlier = ap (take size) keeps.split ∙ take-append-le size keeps.earlier keeps.last within in
+    let earlier : IsWhole npos_machine (take size keeps.earlier ++ drop size keeps.earlier) keeps.text =
+    subst (λ (bytes : List ℕ). IsWhole npos_machine bytes keeps.text) (sym (take-append-drop size keeps.earlier))
+    (undecided_whole npos_machine genesis_laws turn_laws keeps.earlier keeps.text keeps.unsure) in
+    let front = whole_grows npos_machine genesis_laws turn_laws (take size keeps.earlier) (drop size keeps.earlier) text keeps.text
+    (subst (λ (bytes : List ℕ). IsWhole npos_machine bytes text) first whole) earlier in
+    (front.0 ++ keeps.before.0, keeps.before.1 ∙ (ap (λ (t : List ℕ). t ++ keeps.before.0) front.1 ∙ append_assoc text front.0 keeps.before.0))
+
+-- the next piece of the genesis was not read
+pub begins_unread : (left mid now : Option (List ℕ)) (here read place : Place) (taken : List ℕ) (ended : Bool) (status : Status) → HasSeen left mid taken false ended → CutsGenesis taken
+    → FeedsMore mid now here read (Err status) → Begins left now place (Err status)
+begins_unread left mid now here read place taken ended statuses.ReadFault seen cut feeds = (
+  taken ++ feeds.0,
+  left_join left mid now taken feeds.0 seen.taken feeds.1,
+  (taken, feeds.0, refl, feeds.2, cut),
+  subst CutsGenesis (sym (append-nil taken) ∙ ap (λ (back : List ℕ). taken ++ back) (sym feeds.3)) cut,
+)
+begins_unread left mid now here read place taken ended statuses.NoMemory seen cut feeds =
+    (taken ++ feeds.0, left_join left mid now taken feeds.0 seen.taken feeds.1, (taken, feeds.0, refl, feeds.2, cut), tt)
+begins_unread left mid now here read place taken ended statuses.Done seen cut feeds = absurd feeds.3
+begins_unread left mid now here read place taken ended statuses.No seen cut feeds = absurd feeds.3
+begins_unread left mid now here read place taken ended statuses.Usage seen cut feeds = absurd feeds.3
+begins_unread left mid now here read place taken ended statuses.BadInput seen cut feeds = absurd feeds.3
+begins_unread left mid now here read place taken ended statuses.WriteFault seen cut feeds = absurd feeds.3

@@ -1,0 +1,39 @@
+-- What a read that feeds a reader comes to.
+use Rattle.std.proofs.Common.{◌≡◌, ◌+◌, ◌≤◌, ◌<◌, ℕ, Bool, true, false, List, [], ◌++◌, length, take, drop, Option, Some, None, Result, Ok, Err, refl, sym, ◌∙◌, ap, subst, arith}
+use Rattle.std.proofs.lemmas.List.{append-nil, take-append-drop, length-take-le}
+use Rattle.npos_base.specs.Outside.{Takes, Gives, IsAtEnd}
+use Rattle.scale_wire.specs.Reading.{Place}
+use Rattle.npos_cli.specs.declared.status.Status.TheVariants.{ReadFault, NoMemory}
+use Rattle.npos_cli.specs.Owed.{LeftAfter}
+use Rattle.npos_cli.specs.Ahead.{FeedsMore}
+use Rattle.npos_cli.proofs.EdgeLaws.{left_none}
+
+-- nothing was read
+pub feeds_nothing : (left : Option (List ℕ)) (old : Place) → FeedsMore left left old old (Err NoMemory)
+feeds_nothing left old = ([], left_none left [] refl, omega arith, tt)
+
+left_taken : (left now : Option (List ℕ)) (n : ℕ) (taken : List ℕ) → Takes left now n taken → LeftAfter left now taken
+left_taken None now n taken takes = tt
+left_taken (Some left) now n taken takes =
+    (drop n left, takes.2, sym (take-append-drop n left) ∙ ap (λ (front : List ℕ). front ++ drop n left) (sym takes.1))
+
+-- a failed read takes nothing
+pub feeds_none : (left now : Option (List ℕ)) (old new : Place) → Takes left now 0 [] → FeedsMore left now old new (Err ReadFault)
+feeds_none left now old new takes = ([], left_taken left now 0 [] takes, omega arith, refl)
+
+-- a read was fed
+pub feeds_some : (left now : Option (List ℕ)) (old new : Place) (n : ℕ) (buffer : List ℕ) (ended : Bool) → Takes left now n (take n buffer) × (n ≡ 0 → 0 < length buffer → IsAtEnd left)
+    → n ≤ length buffer → 0 < length buffer → length buffer ≤ 65536 → new ≡ record { at = old.at; rest = old.rest ++ take n buffer } → (ended ≡ true → n ≡ 0)
+    → FeedsMore left now old new (Ok ended)
+feeds_some left now old new n buffer ended gives within some few is at_end = (
+  take n buffer,
+  left_taken left now n (take n buffer) gives.0,
+  omega (arith, length-take-le n buffer within),
+  (is, λ end. (ap (λ (k : ℕ). take k buffer) (at_end end), gives.1 (at_end end) some)),
+)
+
+-- what was read could not be fed
+pub feeds_lost : (left now : Option (List ℕ)) (old new : Place) (n : ℕ) (buffer : List ℕ) → Takes left now n (take n buffer) × (n ≡ 0 → 0 < length buffer → IsAtEnd left)
+    → n ≤ length buffer → length buffer ≤ 65536 → FeedsMore left now old new (Err NoMemory)
+feeds_lost left now old new n buffer gives within few =
+    (take n buffer, left_taken left now n (take n buffer) gives.0, omega (arith, length-take-le n buffer within), tt)

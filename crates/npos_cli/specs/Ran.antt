@@ -1,0 +1,45 @@
+-- What a run of one job does: all that is said of it, for each status.
+use Rattle.std.specs.Prelude.{◌≡◌, ◌≢◌, ◌⊎◌, ◌<◌, ◌+◌, ℕ, List, Option, None, Some, IfSome}
+use Rattle.npos_base.specs.Outside.{Told, Rose}
+use Rattle.npos_cli.specs.declared.job.Job.{Job}
+use Rattle.npos_cli.specs.declared.job.Job.TheVariants as jobs
+use Rattle.npos_cli.specs.declared.job.Task.{Task}
+use Rattle.npos_cli.specs.declared.job.Task.TheVariants as tasks
+use Rattle.npos_cli.specs.declared.job.Miner.TheVariants as miners
+use Rattle.npos_cli.specs.declared.status.Status.{Status}
+use Rattle.npos_cli.specs.declared.status.Status.TheVariants as statuses
+use Rattle.npos_cli.specs.Report.{ReadsInput, ReadsBundle, IsAnswer, IsJudged}
+use Rattle.npos_cli.specs.Verdicts.{most_bundle}
+use Rattle.npos_cli.specs.Tasks.{IsSound}
+use Rattle.npos_cli.specs.Owed.{AnswersFor, BeginsFor, IsDrained, TakesAtMost, Delivers, DeliversFront, KeepsFlushed}
+use Rattle.npos_cli.specs.Words.{usage_line}
+use Rattle.npos_cli.specs.Streaming.{HaltedReading, HaltedWriting, HaltedStarving, ReadsWhile}
+
+-- `reads` and `writes` are the counts of faults before, `read` and `wrote` those after; `Unread` and `Unwritten` say that
+-- the source and the sink are as they were.
+pub record Ran (job : Option Job) (left now : Option (List ℕ)) (old new : Option Told) (reads read writes wrote : ℕ)
+    (Unread Unwritten : Type 0) (status : Status) : Type 0 where
+  pub answers : IsAnswer status → AnswersFor job left old new status
+  pub front : BeginsFor job left old new
+  pub read_fault : status ≡ statuses.ReadFault → ReadsInput job × Rose reads read
+  pub read_fault_comes : reads < read → status ≡ statuses.ReadFault
+  pub write_fault : status ≡ statuses.WriteFault → Rose writes wrote
+  pub write_fault_comes : writes < wrote → status ≡ statuses.WriteFault
+  pub unwritten : (job ≡ Some jobs.Replay → ⊥) → (status ≡ statuses.ReadFault) ⊎ (status ≡ statuses.NoMemory) → Unwritten
+  pub unflushed : (IsAnswer status → ⊥) → KeepsFlushed old new
+  pub unread : (ReadsInput job → ⊥) → Unread
+  pub drained : IsJudged status → ReadsInput job → IsDrained left now
+  pub few : ReadsBundle job → IsAnswer status → TakesAtMost (most_bundle + 1) left now
+  pub accepted : (task : Task) → job ≡ Some (jobs.OnBundle task) → status ≡ statuses.Done → IfSome left (IsSound task)
+  pub passes : job ≡ Some (jobs.OnBundle (tasks.Mine miners.Fill)) → status ≢ statuses.No
+  pub usage_memory : job ≡ None → status ≢ statuses.NoMemory
+  pub halted_reading : job ≡ Some jobs.Replay → status ≡ statuses.ReadFault → HaltedReading left now old new
+  pub halted_writing : job ≡ Some jobs.Replay → status ≡ statuses.WriteFault → HaltedWriting left now old new
+  pub starved : job ≡ Some jobs.Replay → status ≡ statuses.NoMemory → HaltedStarving left now old new
+  pub wary : job ≡ Some jobs.Replay → ReadsWhile left now
+
+-- the usage line was delivered, or a front of it
+abbrev pub UsageEnds : Option Told → Option Told → Status → Type 0
+UsageEnds old new statuses.Usage = Delivers old new usage_line
+UsageEnds old new statuses.WriteFault = DeliversFront old new usage_line × KeepsFlushed old new
+UsageEnds old new _ = ⊥

@@ -1,0 +1,84 @@
+//! An input that is read by pieces.
+ghost use Rattle.std.specs.Prelude.{◌≡◌, ◌+◌, ◌<◌, ◌≤◌, ◌^◌, false, length, vec_len, IfOk, IsTrue};
+ghost use Rattle.npos_cli.specs.Owed.{HaltsWell, TakesMore};
+ghost use Rattle.npos_cli.specs.Ahead.{FeedsMore};
+
+use crate::Status;
+use block_wire::StreamReader;
+use npos_base::{Failed, NoMemory, Source};
+use std::alloc::Global;
+
+/// The most bytes of one read.
+pub const PIECE: usize = 65_536;
+
+/// A buffer for one read.
+pub fn blank_piece(alloc: Global, size: usize) -> Result<Vec<u8>, NoMemory>
+    ensures { IfOk result (λ piece. vec_len piece ≡ size) }
+{
+    let piece = Vec::from_elem(alloc, 0, size)?;
+    Ok(piece)
+}
+
+/// Appends what one read gives, and answers whether the input has ended. The status of an Err is
+/// ReadFault or NoMemory.
+pub fn read_more<S: Source>(
+    source: &mut S,
+    piece: &mut [u8],
+    bytes: &mut Vec<u8>,
+) -> Result<bool, Status>
+    requires { 0 < length piece.old }
+    ensures taken { IfOk result
+        (λ ended. TakesMore (S.left source.old)
+        (S.left source.new) bytes.old.items bytes.new.items ended) }
+    ensures longer { IfOk result (λ ended. ended ≡ false → vec_len bytes.old < vec_len bytes.new) }
+    ensures within { vec_len bytes.new ≤ vec_len bytes.old + length piece.old }
+    ensures halts { HaltsWell (S.faults source.old) (S.faults source.new) result }
+{
+    let count = match source.read(piece) {
+        Ok(count) => count,
+        Err(Failed) => return Err(Status::ReadFault),
+    };
+    match bytes.extend_from_slice(&piece[..count]) {
+        Ok(()) => Ok(count == 0),
+        Err(_) => Err(Status::NoMemory),
+    }
+}
+
+/// Whether the reader may be fed so many bytes: places are numbers below 2^64.
+fn has_place(reader: &StreamReader, size: usize) -> bool
+    ensures room { IsTrue result
+        → reader.now.at + (length reader.now.rest + size) < 2 ^ 64 }
+    ensures fits { reader.now.at + length reader.now.rest < 2 ^ 64 }
+{
+    let next = reader.at() + reader.held().len() as u64;
+    next.checked_add(size as u64).is_some()
+}
+
+/// Reads once and feeds what came to the reader, and answers whether the input has ended. A read
+/// that could pass the last place, which no chain comes near, ends as want of memory does. The
+/// status of an Err is ReadFault or NoMemory.
+#[tactic(auto, using(crate::proofs::FeedLaws::feeds_nothing, crate::proofs::FeedLaws::feeds_none, crate::proofs::FeedLaws::feeds_some, crate::proofs::FeedLaws::feeds_lost))]
+pub fn read_piece<S: Source>(
+    source: &mut S,
+    piece: &mut [u8],
+    reader: &mut StreamReader,
+) -> Result<bool, Status>
+    requires some { 0 < length piece.old }
+    requires one_piece { length piece.old ≤ 65536 }
+    ensures feeds { FeedsMore (S.left source.old) (S.left source.new) reader.old reader.new result }
+    ensures further { IfOk result (λ ended. ended ≡ false
+        → length reader.old.rest < length reader.new.rest) }
+    ensures fits { reader.old.at + length reader.old.rest < 2 ^ 64 }
+    ensures halts { HaltsWell (S.faults source.old) (S.faults source.new) result }
+{
+    if !has_place(reader, piece.len()) {
+        return Err(Status::NoMemory);
+    }
+    let Ok(count) = source.read(piece) else {
+        return Err(Status::ReadFault);
+    };
+    match reader.feed(&piece[..count]) {
+        Ok(()) => Ok(count == 0),
+        Err(NoMemory) => Err(Status::NoMemory),
+    }
+}
