@@ -274,8 +274,12 @@ module _ (left mid : Option (List ℕ)) (old told : Option Told) (ended : Bool) 
   course_unread now here read statuses.NoMemory writes feeds =
       let all = reaches_join course.start p q course.written writes.2.0 course.reaches writes.2.1 in
       unread now feeds.0 statuses.NoMemory writes feeds.1 feeds.2
-      (inr (grown feeds.0 course.start, grown feeds.0 q, start_grows npos_machine genesis_laws turn_laws feeds.0 course.taken course.start course.starts,
-      reaches_grow feeds.0 course.start q (course.written ++ writes.2.0) all))
+      (inr (
+        grown feeds.0 course.start,
+        grown feeds.0 q,
+        start_grows npos_machine genesis_laws turn_laws feeds.0 course.taken course.start course.starts,
+        reaches_grow feeds.0 course.start q (course.written ++ writes.2.0) all,
+      ))
   course_unread now here read statuses.Done writes feeds = absurd feeds.3
   course_unread now here read statuses.No writes feeds = absurd feeds.3
   course_unread now here read statuses.Usage writes feeds = absurd feeds.3
