@@ -88,7 +88,8 @@ pub(crate) fn seat_one(
     requires within { (voter : ℕ) → voter < length snapshot.now.voters
         → spent backing.old.weights.edges voter ≤ stake_of snapshot.now voter }
     requires tables { AreTables snapshot.now
-        tables.old.rates.items tables.old.left.items tables.old.prescores.items tables.old.outside.items
+        tables.old.rates.items tables.old.left.items tables.old.prescores.items
+        tables.old.outside.items
         tables.old.approvals.items }
     ensures snapshot { backing.new.snapshot ≡ snapshot.now }
     ensures next { OnOk result
@@ -96,7 +97,8 @@ pub(crate) fn seat_one(
     ensures within { OnOk result ((voter : ℕ) → voter < length snapshot.now.voters
         → spent backing.new.weights.edges voter ≤ stake_of snapshot.now voter) }
     ensures tables { AreTables snapshot.now
-        tables.new.rates.items tables.new.left.items tables.new.prescores.items tables.new.outside.items
+        tables.new.rates.items tables.new.left.items tables.new.prescores.items
+        tables.new.outside.items
         tables.new.approvals.items }
 {
     let pick = pick_next(
