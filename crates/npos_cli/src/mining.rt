@@ -74,16 +74,16 @@ fn answer_solution(
     ensures { IfOk result (λ answer. report_of answer ≡ solution_report snapshot solution) }
 {
     let _seats = snapshot.seats();
-    let mut expanded = Weights::with_room(alloc, &snapshot)?;
+    let mut weights = Weights::with_room(alloc, &snapshot)?;
     let mut judged = Weights::with_room(alloc, &snapshot)?;
     let mut checker = checker_of(alloc, snapshot)?;
-    let _yes = checker.expand(&solution, &mut expanded);
-    let claim = expanded.score();
+    let _yes = checker.expand(&solution, &mut weights);
+    let claim = weights.score();
     let bytes = solution.encode(alloc)?;
     drop(solution);
     let verdict = checker.judge_bytes(alloc, bytes.as_slice(), &claim, &mut judged)?;
     let mut lines = Vec::new(alloc);
-    tell_weights(&mut lines, checker.snapshot(), expanded)?;
+    tell_weights(&mut lines, checker.snapshot(), weights)?;
     tell_solution(alloc, &mut lines, bytes.as_slice())?;
     told(lines, verdict)
 }
