@@ -54,7 +54,6 @@ fn bundle_answer<S: Source>(alloc: Global, source: &mut S, task: Task) -> Result
 }
 
 /// Reports on the bundle that is left in the source, and flushes the report.
-#[tactic(auto, using(crate::proofs::RunLaws::front_delivered, crate::proofs::RunLaws::front_found))]
 fn report<S: Source, K: Sink>(alloc: Global, source: &mut S, sink: &mut K, task: Task) -> Status
     ensures answers { IsAnswer result → AnswersFor (Some (jobs.OnBundle task)) (S.left source.old)
         (K.told sink.old) (K.told sink.new) result }
