@@ -4,7 +4,7 @@ ghost use Rattle.stake_ledger.specs.Calls.{minted_free, room_of};
 ghost use Rattle.era_book.specs.Exposures.{amount_sum};
 ghost use Rattle.npos_runtime.specs.Outcome.{Goes, Meets};
 ghost use Rattle.npos_runtime.specs.Live.{IsLive};
-ghost use Rattle.npos_runtime.specs.Offices.{is_root, points_stop, points_done, payout_stop, payout_done, payout_told, all_minted, paid_line, offence_stop, offence_done, offence_told, slash_outcome, slashes};
+ghost use Rattle.npos_runtime.specs.Offices.{is_root, points_stop, points_done, payout_stop, payout_done, payout_told, opened, all_minted, paid_line, offence_stop, offence_done, offence_told, slash_outcome, slashes};
 
 use crate::deposits::hold;
 use crate::lists::retire;
@@ -38,15 +38,23 @@ pub fn points(
     Ok(())
 }
 
-/// Mints to an account, and opens its row where it has none.
+/// Opens the account's row, where it has none.
+fn open(book: &mut Book, who: AccountId) -> Result<(), NoMemory>
+    ensures { OnOk result (book.new ≡ opened who book.old) }
+{
+    if !book.knows(who) {
+        hold(book, who, 0)?;
+    }
+    Ok(())
+}
+
+/// Mints to an account. Who was exposed is known, so its row is there; else it opens.
+#[tactic(auto, using(crate::proofs::OfficeLemmas::opened_known, crate::proofs::OfficeLemmas::opened_fits, crate::proofs::OfficeLemmas::opened_minted))]
 fn mint(book: &mut Book, who: AccountId, amount: u64) -> Result<(), NoMemory>
     requires { amount ≤ room_of book.old }
     ensures { OnOk result (book.new ≡ minted_free who amount book.old) }
 {
-    if !book.knows(who) {
-        // A deposit of nothing opens the row.
-        hold(book, who, 0)?;
-    }
+    open(book, who)?;
     match book.mint_free(who, amount) {
         Ok(()) => Ok(()),
         Err(_) => unreachable!(),
