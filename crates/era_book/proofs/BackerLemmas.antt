@@ -23,7 +23,7 @@ at_place x (y ∷ ys) zero all h = all.0
 at_place x (y ∷ ys) (suc i) all h = at_place x ys i all.1 (omega arith)
 
 -- voters at different places are different accounts
-apart_at : (xs : List AccountId) (i j : ℕ) → IsDistinct same_account xs → i < length xs → j < length xs → nat_eq i j ≡ false → same_account (account_at xs i) (account_at xs j) ≡ false
+pub apart_at : (xs : List AccountId) (i j : ℕ) → IsDistinct same_account xs → i < length xs → j < length xs → nat_eq i j ≡ false → same_account (account_at xs i) (account_at xs j) ≡ false
 unfolding IsDistinct
 apart_at [] i j distinct h k differ = absurd (omega arith)
 apart_at (x ∷ xs) zero zero distinct h k differ = absurd (grind (arith, nat_tests))

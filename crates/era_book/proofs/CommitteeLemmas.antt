@@ -12,7 +12,7 @@ use Rattle.era_book.specs.Exposures.{amount_for, exposed_for}
 use Rattle.era_book.specs.Committee.{account_at, gives_to, backer_of, is_of, backers_among, backers_of, exposure_of, SupportLaw, SpentLaw}
 use Rattle.era_book.proofs.LawLemmas.{for_sum}
 
-filter_sum : {X : Type 0} (f : X → ℕ) (p : X → Bool) (xs : List X) → sum_by f (filter p xs) ≡ sum_by (λ x. cond (p x) (f x) 0) xs
+pub filter_sum : {X : Type 0} (f : X → ℕ) (p : X → Bool) (xs : List X) → sum_by f (filter p xs) ≡ sum_by (λ x. cond (p x) (f x) 0) xs
 filter_sum f p [] = refl
 filter_sum {X = X} f p (x ∷ xs) = at (p x) refl (filter_sum f p xs) where
   at : (b : Bool) → p x ≡ b → sum_by f (filter p xs) ≡ sum_by (λ y. cond (p y) (f y) 0) xs → sum_by f (cond b (x ∷ filter p xs) (filter p xs)) ≡ sum_by (λ y. cond (p y) (f y) 0) (x ∷ xs)

@@ -7,3 +7,6 @@ pub mod LawLemmas
 pub mod OtherLemmas
 pub mod CommitteeLemmas
 pub mod BackerLemmas
+pub mod OrderLemmas
+pub mod SoundLemmas
+pub mod EventLemmas

@@ -1,12 +1,13 @@
 -- The exposures of a committee, from the edges by which it was elected.
-use Rattle.std.specs.Prelude.{◌≡◌, ℕ, ◌<◌, ◌≤◌, Bool, true, false, not, ◌&&◌, nat_eq, nat_lt, if◌then◌else◌, List, ◌++◌, length, map, filter, sum_by, slice_index_or, All}
+use Rattle.std.specs.Prelude.{◌≡◌, ℕ, zero, suc, ◌<◌, ◌≤◌, Bool, true, false, not, ◌&&◌, nat_eq, nat_lt, if◌then◌else◌, List, [], ◌++◌, length, map, filter, sum_by, slice_index_or, All}
 use Rattle.std.specs.List.{IsDistinct}
 use Rattle.npos_base.specs.declared.account.AccountId.{AccountId}
 use Rattle.npos_base.specs.declared.figures.Edge.{Edge}
 use Rattle.npos_base.specs.Account.{same_account}
+use Rattle.npos_base.specs.declared.limits.TheConstants.{WHOLE_FRACTION}
 use Rattle.era_book.specs.declared.exposure.Backer.{Backer}
 use Rattle.era_book.specs.declared.exposure.Exposure.{Exposure}
-use Rattle.era_book.specs.Exposures.{amount_sum, exposed_for}
+use Rattle.era_book.specs.Exposures.{amount_sum, exposed_for, AreSound}
 use Rattle.era_book.specs.Payouts.{line}
 
 abbrev pub account_at : List AccountId → ℕ → AccountId
@@ -81,3 +82,38 @@ BackersLaw = (targets voters : List AccountId) (edges : List Edge) (target : ℕ
 pub record IsWithin (targets voters : List AccountId) (edge : Edge) : Type 0 where
   pub target : edge.target < length targets
   pub voter : edge.voter < length voters
+
+-- the edges of the first voters, so many of them, in the order of the voters: those of voter 0 as
+-- they stand, then those of voter 1, and so on
+abbrev pub edges_by_voter : ℕ → List Edge → List Edge
+edges_by_voter zero edges = []
+edges_by_voter (suc voter) edges =
+    edges_by_voter voter edges ++ filter (λ edge. nat_eq edge.voter voter) edges
+
+-- A committee and the edges by which it was elected: no account stands twice among the targets or
+-- among the voters, the members are different targets, no voter gives twice to a target, and a
+-- member's support is what the edges give to it. Commissions and supports stand by target.
+pub record IsElected (targets voters : List AccountId) (commissions supports : List ℕ)
+    (edges : List Edge) (members : List ℕ) : Type 0 where
+  pub targets_distinct : IsDistinct same_account targets
+  pub voters_distinct : IsDistinct same_account voters
+  pub commissions_within : All (λ commission. commission ≤ WHOLE_FRACTION) commissions
+  pub edges_within : All (IsWithin targets voters) edges
+  pub pairs_distinct : IsDistinct same_pair edges
+  pub members_within : All (λ member. member < length targets) members
+  pub members_distinct : IsDistinct nat_eq members
+  pub supports_given : All (λ member. slice_index_or supports member 0 ≡ given_to member edges) members
+
+-- the exposures of an elected committee are sound
+abbrev pub SoundLaw : Type 0
+SoundLaw = (targets voters : List AccountId) (commissions supports : List ℕ) (edges : List Edge)
+    (members : List ℕ) → IsElected targets voters commissions supports edges members →
+    AreSound (map (exposure_of targets commissions supports voters edges) members)
+
+-- in the order of the voters the edges elect the same committee, and each account gives as much
+abbrev pub OrderLaw : Type 0
+OrderLaw = (targets voters : List AccountId) (commissions supports : List ℕ) (edges : List Edge)
+    (members : List ℕ) → IsElected targets voters commissions supports edges members →
+    IsElected targets voters commissions supports (edges_by_voter (length voters) edges) members
+    × ((who : AccountId) → spent_by voters who (edges_by_voter (length voters) edges)
+    ≡ spent_by voters who edges)

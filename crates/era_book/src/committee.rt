@@ -1,7 +1,8 @@
 //! The exposures of a committee.
 ghost use Rattle.std.specs.Prelude.{◌≡◌, ℕ, ◌<◌, ◌++◌, [], ◌∷◌, length, map, slice_index_or, All, IfOk, OnOk};
 ghost use Rattle.era_book.specs.Payouts.{line};
-ghost use Rattle.era_book.specs.Committee.{IsWithin, backers_among, exposure_of};
+ghost use Rattle.era_book.specs.Exposures.{AreSound};
+ghost use Rattle.era_book.specs.Committee.{IsWithin, IsElected, backers_among, edges_by_voter, exposure_of};
 
 use crate::{Backer, Exposure};
 use npos_base::{AccountId, Edge, List, NoMemory, Room};
@@ -43,6 +44,39 @@ pub fn exposures_of(
         });
     }
     Ok(exposures.into_list())
+}
+
+/// The exposures of an elected committee's members, in their order, with the others among the
+/// backers of each in the order of the voters. It leaves the edges sorted by voter, which takes the
+/// time of a sort. What else is taken and given is as of `exposures_of`.
+pub fn exposures_by_voter(
+    alloc: Global,
+    targets: &[AccountId],
+    commissions: &[u32],
+    supports: &[u64],
+    voters: &[AccountId],
+    members: &[u16],
+    edges: &mut [Edge],
+) -> Result<List<Exposure>, NoMemory>
+    requires commissions { length commissions.now ≡ length targets.now }
+    requires supports { length supports.now ≡ length targets.now }
+    requires elected { IsElected targets.now voters.now commissions.now supports.now edges.old
+        members.now }
+    ensures exposures { IfOk result (λ exposures. exposures ≡ map
+        (exposure_of targets.now commissions.now supports.now voters.now
+        (edges_by_voter (length voters.now) edges.old)) members.now) }
+    ensures sound { IfOk result (λ exposures. AreSound exposures) }
+{
+    edges.sort_unstable_by_key(|edge| edge.voter);
+    exposures_of(
+        alloc,
+        targets,
+        commissions,
+        supports,
+        voters,
+        members,
+        edges,
+    )
 }
 
 /// So many lists without an item.

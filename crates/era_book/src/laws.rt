@@ -1,5 +1,5 @@
 //! What holds of payouts and slashes. Each law is the contract of a function that does nothing.
-ghost use Rattle.era_book.specs.Committee.{SupportLaw, SpentLaw, BackersLaw};
+ghost use Rattle.era_book.specs.Committee.{SupportLaw, SpentLaw, BackersLaw, SoundLaw, OrderLaw};
 ghost use Rattle.era_book.specs.Laws.{PayoutLaw, TelescopeLaw, RewardLaw, DueLaw};
 
 /// A validator and its backers together are paid at most what is to be paid to them: each part is
@@ -28,9 +28,12 @@ pub fn dues_are_within_the_exposures()
 
 /// What is exposed of a committee are its edges: the backers of a member give what the edges to it
 /// do, no account backs a member twice, and all exposures together hold for an account at most what
-/// its own edges give.
+/// its own edges give. So the exposures of an elected committee are sound, and the edges in the
+/// order of the voters elect it likewise.
 pub fn exposures_are_the_edges()
     ensures support { SupportLaw }
     ensures spent { SpentLaw }
     ensures distinct { BackersLaw }
+    ensures sound { SoundLaw }
+    ensures order { OrderLaw }
 {}

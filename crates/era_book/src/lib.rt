@@ -14,7 +14,7 @@ mod payout;
 mod refusal;
 
 pub use book::EraBook;
-pub use committee::exposures_of;
+pub use committee::{exposures_by_voter, exposures_of};
 pub use exposure::{Backer, Exposure};
 pub use payout::Payout;
 pub use refusal::EraRefusal;
