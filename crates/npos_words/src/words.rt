@@ -1,0 +1,131 @@
+//! From words to a command.
+ghost use Rattle.std.specs.Prelude.{◌≡◌, ◌≢◌, ◌≤◌, Err, false, drop, map, option_map, IfOk, IfSome, string_bytes};
+ghost use Rattle.std.specs.List.{list_any};
+ghost use Rattle.clap.specs.Words.{found_of, first_value};
+ghost use Rattle.npos_words.specs.Words.{command_of, command_by, alone, mine_of, demo_of, miner_of, rounds_of, number_of, is_bare, verbs, has_verb};
+ghost use Rattle.npos_words.specs.Options.{is_among};
+
+use crate::numbers::number_within;
+use crate::options::options_of;
+use crate::{Command, Miner};
+use clap::ArgMatches;
+use npos_base::NoMemory;
+use std::alloc::Global;
+
+/// The rounds where none are given.
+const ROUNDS: u32 = 8;
+
+/// The miner of this name.
+fn miner_of(text: &str) -> Option<Miner>
+    ensures { result ≡ miner_of text.now }
+{
+    match text {
+        "fill" => Some(Miner::Fill),
+        "seq" => Some(Miner::Seq),
+        "mms" => Some(Miner::Mms),
+        _ => None,
+    }
+}
+
+/// The rounds that the option gives.
+fn rounds_of(text: Option<&str>) -> Option<u32>
+    ensures { result ≡ rounds_of (option_map (λ text. text.now) text) }
+{
+    match text {
+        Some(text) => Some(number_within(text, 1, 100)? as u32),
+        None => Some(ROUNDS),
+    }
+}
+
+/// The number that an option gives, from the least to the most.
+fn number_of(options: &ArgMatches, name: &str, least: u64, most: u64) -> Option<u64>
+    ensures number { result ≡ number_of (first_value (found_of options.now)) name.now least most }
+    ensures most { IfSome result (λ number. number ≤ most) }
+{
+    number_within(options.get_str(name)?, least, most)
+}
+
+/// The command of the verb `mine`.
+fn mine_of(options: &ArgMatches) -> Option<Command>
+    ensures { result ≡ mine_of (first_value (found_of options.now)) }
+{
+    let miner = miner_of(options.get_str("miner")?)?;
+    let rounds = rounds_of(options.get_str("rounds"))?;
+    Some(Command::Mine { miner, rounds })
+}
+
+/// The command of the verb `demo`.
+fn demo_of(options: &ArgMatches) -> Option<Command>
+    ensures { result ≡ demo_of (first_value (found_of options.now)) }
+{
+    let seed = number_of(options, "seed", 0, u64::MAX)?;
+    let voters = number_of(options, "voters", 1, 16_384)? as u32;
+    let seats = number_of(options, "seats", 1, 512)? as u32;
+    Some(Command::Demo {
+        seed,
+        voters,
+        seats,
+    })
+}
+
+/// A command that has no options.
+fn alone(
+    alloc: Global,
+    command: Command,
+    words: &[String],
+) -> Result<Option<Command>, NoMemory>
+    requires { list_any is_bare (drop 1 (map string_bytes words.now)) ≡ false }
+    ensures { IfOk result (λ found. found
+        ≡ alone command (drop 1 (map string_bytes words.now))) }
+{
+    match options_of(alloc, words, &[])? {
+        Some(_) => Ok(Some(command)),
+        None => Ok(None),
+    }
+}
+
+/// The command of a verb with the options that the words behind the first give.
+fn command_by(alloc: Global, verb: &str, words: &[String]) -> Result<Option<Command>, NoMemory>
+    requires { list_any is_bare (drop 1 (map string_bytes words.now)) ≡ false }
+    ensures found { IfOk result (λ found. found
+        ≡ command_by verb.now (drop 1 (map string_bytes words.now))) }
+    ensures memory { is_among verbs verb.now ≡ false → result ≢ Err NoMemory }
+{
+    match verb {
+        "replay" => alone(alloc, Command::Replay, words),
+        "check" => alone(alloc, Command::Check, words),
+        "pack" => alone(alloc, Command::Pack, words),
+        "show" => alone(alloc, Command::Show, words),
+        "mine" => match options_of(alloc, words, &["miner", "rounds"])? {
+            Some(options) => Ok(mine_of(&options)),
+            None => Ok(None),
+        },
+        "demo" => match options_of(alloc, words, &["seed", "voters", "seats"])? {
+            Some(options) => Ok(demo_of(&options)),
+            None => Ok(None),
+        },
+        _ => Ok(None),
+    }
+}
+
+/// Whether the word is one or two hyphens alone. clap would end the options at the second.
+fn is_bare(word: &str) -> bool
+    ensures { result ≡ is_bare word.now }
+{
+    word == "-" || word == "--"
+}
+
+/// The command that the words ask for, or None where they ask for none. `words[0]` is the program's
+/// name and is not looked at. Memory is wanted only where the second word is a verb and none of the
+/// others is of hyphens alone.
+pub fn command_of(alloc: Global, words: &[String]) -> Result<Option<Command>, NoMemory>
+    ensures ok { IfOk result (λ command. command ≡ command_of (map string_bytes words.now)) }
+    ensures memory { has_verb (map string_bytes words.now) ≡ false → result ≢ Err NoMemory }
+{
+    match words {
+        [_, verb, rest @ ..] if !rest.iter().any(|word| is_bare(word.as_str())) => {
+            command_by(alloc, verb.as_str(), &words[1..])
+        }
+        _ => Ok(None),
+    }
+}
