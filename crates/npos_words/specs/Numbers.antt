@@ -1,10 +1,11 @@
 -- Numbers in words: 1 to 20 decimal digits, of which the first may be 0.
 use Rattle.std.specs.Prelude.{ℕ, Bool, ◌&&◌, List, length, nat_le, Option, Some, None, if◌then◌else◌}
-use Rattle.std.specs.Str.{all_ascii_digits}
+use Rattle.std.specs.Char.{is_ascii_digit}
+use Rattle.std.specs.List.{list_all}
 use Rattle.std.specs.Str.Parse.{digits_value}
 
 abbrev pub is_number : List ℕ → Bool
-is_number text = nat_le 1 (length text) && nat_le (length text) 20 && all_ascii_digits text
+is_number text = nat_le 1 (length text) && nat_le (length text) 20 && list_all is_ascii_digit text
 
 abbrev pub is_within : ℕ → ℕ → ℕ → Bool
 is_within least most number = nat_le least number && nat_le number most

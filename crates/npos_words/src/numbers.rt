@@ -1,6 +1,7 @@
 //! Numbers in words.
 ghost use Rattle.std.specs.Prelude.{◌≡◌, ◌≤◌, IfSome};
-ghost use Rattle.std.specs.Str.{all_ascii_digits};
+ghost use Rattle.std.specs.Char.{is_ascii_digit};
+ghost use Rattle.std.specs.List.{list_all};
 ghost use Rattle.npos_words.specs.Numbers.{number_within};
 
 /// The most digits of a number. The greatest u64 has as many.
@@ -8,7 +9,7 @@ const MOST_DIGITS: usize = 20;
 
 /// Whether all bytes are decimal digits. Without this test a number could have a sign.
 fn are_digits(text: &[u8]) -> bool
-    ensures { result ≡ all_ascii_digits text.now }
+    ensures { result ≡ list_all is_ascii_digit text.now }
 {
     text.iter().all(|byte| byte.is_ascii_digit())
 }

@@ -1,5 +1,5 @@
 //! From words to a command.
-ghost use Rattle.std.specs.Prelude.{◌≡◌, ◌≢◌, ◌≤◌, Err, false, drop, map, option_map, IfOk, IfSome, string_bytes};
+ghost use Rattle.std.specs.Prelude.{◌≡◌, ◌≤◌, IsOk, false, drop, map, option_map, IfOk, IfSome, string_bytes};
 ghost use Rattle.std.specs.List.{list_any};
 ghost use Rattle.clap.specs.Words.{found_of, first_value};
 ghost use Rattle.npos_words.specs.Words.{command_of, command_by, alone, mine_of, demo_of, miner_of, rounds_of, number_of, is_bare, verbs, has_verb};
@@ -29,7 +29,7 @@ fn miner_of(text: &str) -> Option<Miner>
 
 /// The rounds that the option gives.
 fn rounds_of(text: Option<&str>) -> Option<u32>
-    ensures { result ≡ rounds_of (option_map (λ text. text.now) text) }
+    ensures { result ≡ rounds_of (option_map (λ text. text.now) text.entry) }
 {
     match text {
         Some(text) => Some(number_within(text, 1, 100)? as u32),
@@ -89,7 +89,7 @@ fn command_by(alloc: Global, verb: &str, words: &[String]) -> Result<Option<Comm
     requires { list_any is_bare (drop 1 (map string_bytes words.now)) ≡ false }
     ensures found { IfOk result (λ found. found
         ≡ command_by verb.now (drop 1 (map string_bytes words.now))) }
-    ensures memory { is_among verbs verb.now ≡ false → result ≢ Err NoMemory }
+    ensures memory { is_among verbs verb.now ≡ false → IsOk result }
 {
     match verb {
         "replay" => alone(alloc, Command::Replay, words),
@@ -120,7 +120,7 @@ fn is_bare(word: &str) -> bool
 /// others is of hyphens alone.
 pub fn command_of(alloc: Global, words: &[String]) -> Result<Option<Command>, NoMemory>
     ensures ok { IfOk result (λ command. command ≡ command_of (map string_bytes words.now)) }
-    ensures memory { has_verb (map string_bytes words.now) ≡ false → result ≢ Err NoMemory }
+    ensures memory { has_verb (map string_bytes words.now) ≡ false → IsOk result }
 {
     match words {
         [_, verb, rest @ ..] if !rest.iter().any(|word| is_bare(word.as_str())) => {

@@ -1,0 +1,3 @@
+pub mod OptionLemmas
+pub mod FoundLemmas
+pub mod NumberLemmas

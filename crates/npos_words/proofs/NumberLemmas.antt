@@ -1,0 +1,23 @@
+-- Numbers that std does not read.
+use Rattle.std.proofs.Common.{◌≡◌, ◌<◌, ◌^◌, ◌&&◌, ℕ, Bool, true, false, rules, refl, sym, arith, List, length, Option, None, leb-true}
+use Rattle.std.specs.Char.{is_ascii_digit}
+use Rattle.std.specs.List.{list_all}
+use Rattle.std.specs.Str.Parse.{digits_value}
+use Rattle.std.proofs.lemmas.Str.Parse.{IsNumeralModel, numerals_by_value}
+use Rattle.clap.proofs.WalkLemmas.{both}
+use Rattle.npos_words.specs.Numbers.{is_number, is_within, number_within}
+
+pub own : IsNumeralModel (λ ds. list_all is_ascii_digit ds ≡ true) (digits_value 10)
+own = numerals_by_value _ (search rules)
+
+pub not_read : (least most : ℕ) (text : List ℕ) → most < 2 ^ 64 → ((0 < length text) × (digits_value 10 text < 2 ^ 64) → ⊥) → None ≡ number_within least most text
+not_read least most text small none = go (is_number text && is_within least most (digits_value 10 text)) refl
+  where
+    go : (b : Bool) → (is_number text && is_within least most (digits_value 10 text)) ≡ b → None ≡ number_within least most text
+    go false e = rw e refl
+    go true e =
+        let parts = both _ _ e in
+        let lengths = both _ _ (both _ _ parts.0).0 in
+        let least_length = leb-true _ _ lengths.0 in
+        let below = leb-true _ _ (both _ _ parts.1).1 in
+        absurd (none (omega arith, omega arith))
