@@ -1,5 +1,6 @@
 -- Numbers that std does not read.
-use Rattle.std.proofs.Common.{◌≡◌, ◌<◌, ◌^◌, ◌&&◌, ℕ, Bool, true, false, rules, refl, sym, arith, List, length, Option, None, leb-true}
+use Rattle.std.proofs.Common.{◌≡◌, ◌<◌, ◌≤◌, ◌^◌, ◌&&◌, ℕ, Bool, true, false, rules, refl, sym, arith, List, length, Option, None, leb-true}
+use Rattle.std.specs.Prelude.{nat_le}
 use Rattle.std.specs.Char.{is_ascii_digit}
 use Rattle.std.specs.List.{list_all}
 use Rattle.std.specs.Str.Parse.{digits_value}
@@ -16,8 +17,10 @@ not_read least most text small none = go (is_number text && is_within least most
     go : (b : Bool) → (is_number text && is_within least most (digits_value 10 text)) ≡ b → None ≡ number_within least most text
     go false e = rw e refl
     go true e =
-        let parts = both _ _ e in
-        let lengths = both _ _ (both _ _ parts.0).0 in
-        let least_length = leb-true _ _ lengths.0 in
-        let below = leb-true _ _ (both _ _ parts.1).1 in
+        let parts = both (is_number text) (is_within least most (digits_value 10 text)) e in
+        let front = both (nat_le 1 (length text) && nat_le (length text) 20) (list_all is_ascii_digit text) parts.0 in
+        let lengths = both (nat_le 1 (length text)) (nat_le (length text) 20) front.0 in
+        let bounds = both (nat_le least (digits_value 10 text)) (nat_le (digits_value 10 text) most) parts.1 in
+        let some : 1 ≤ length text = leb-true 1 (length text) lengths.0 in
+        let below : digits_value 10 text ≤ most = leb-true (digits_value 10 text) most bounds.1 in
         absurd (none (omega arith, omega arith))

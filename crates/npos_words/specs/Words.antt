@@ -1,5 +1,5 @@
 -- The words of a call, and the command that they ask for.
-use Rattle.std.specs.Prelude.{ℕ, Bool, false, not, ◌&&◌, ◌||◌, ◌^◌, ◌-◌, List, [], ◌∷◌, codes, Option, Some, None, option_map, option_and_then, if◌then◌else◌}
+use Rattle.std.specs.Prelude.{ℕ, Bool, false, not, ◌&&◌, ◌||◌, ◌^◌, ◌-◌, List, [], ◌∷◌, drop, codes, Option, Some, None, option_map, option_and_then, if◌then◌else◌}
 use Rattle.std.specs.List.{list_any}
 use Rattle.std.specs.Str.{bytes_eq}
 use Rattle.npos_words.specs.declared.command.Command.{Command}
@@ -54,6 +54,12 @@ demo_names = codes "seed" ∷ codes "voters" ∷ codes "seats" ∷ []
 abbrev pub alone : Command → List Text → Option Command
 alone command words = option_map (λ given. command) (options_of [] words)
 
+abbrev pub mine_by : List Text → Option Command
+mine_by words = option_and_then (λ given. mine_of (value_of given)) (options_of mine_names words)
+
+abbrev pub demo_by : List Text → Option Command
+demo_by words = option_and_then (λ given. demo_of (value_of given)) (options_of demo_names words)
+
 -- the command of a verb, by the words behind it
 abbrev pub command_by : Text → List Text → Option Command
 command_by verb words =
@@ -61,31 +67,31 @@ command_by verb words =
     else if bytes_eq verb (codes "check") then alone commands.Check words
     else if bytes_eq verb (codes "pack") then alone commands.Pack words
     else if bytes_eq verb (codes "show") then alone commands.Show words
-    else if bytes_eq verb (codes "mine") then option_and_then (λ given. mine_of (value_of given)) (options_of mine_names words)
-    else if bytes_eq verb (codes "demo") then option_and_then (λ given. demo_of (value_of given)) (options_of demo_names words)
+    else if bytes_eq verb (codes "mine") then mine_by words
+    else if bytes_eq verb (codes "demo") then demo_by words
     else None
 
 -- a word of one or two hyphens alone, which is neither an option nor a value
 abbrev pub is_bare : Text → Bool
 is_bare word = bytes_eq word (codes "-") || bytes_eq word (codes "--")
 
+abbrev pub command_after : List Text → Option Command
+command_after [] = None
+command_after (verb ∷ words) = command_by verb words
+
+-- The first word is the program's name, which is not looked at. The second is the verb. No word behind the first is bare.
+abbrev pub command_of : List Text → Option Command
+command_of words = if list_any is_bare (drop 1 words) then None else command_after (drop 1 words)
+
+-- ## Where memory is wanted
+
 abbrev pub verbs : List Text
 verbs = codes "replay" ∷ codes "check" ∷ codes "mine" ∷ codes "pack" ∷ codes "show" ∷ codes "demo" ∷ []
 
--- the words behind the program's name are a verb and words of which none is bare
 abbrev pub begins_with_verb : List Text → Bool
 begins_with_verb [] = false
-begins_with_verb (verb ∷ words) = is_among verbs verb && not (list_any is_bare words)
+begins_with_verb (verb ∷ words) = is_among verbs verb
 
+-- the second word is a verb, and no word behind the first is bare
 abbrev pub has_verb : List Text → Bool
-has_verb [] = false
-has_verb (name ∷ words) = begins_with_verb words
-
-abbrev pub command_after : List Text → Option Command
-command_after [] = None
-command_after (verb ∷ words) = if list_any is_bare words then None else command_by verb words
-
--- The first word is the program's name, which is not looked at. The second is the verb.
-abbrev pub command_of : List Text → Option Command
-command_of [] = None
-command_of (name ∷ words) = command_after words
+has_verb words = begins_with_verb (drop 1 words) && not (list_any is_bare (drop 1 words))

@@ -20,7 +20,10 @@ const WORDS: [(&str, &str); 49] = [
     ("--", ""),
     ("mine --rounds 3 --miner=mms", "mine mms 3"),
     ("mine --miner fill", "mine fill 8"),
-    ("mine --miner=seq --rounds=00000000000000000100", "mine seq 100"),
+    (
+        "mine --miner=seq --rounds=00000000000000000100",
+        "mine seq 100",
+    ),
     ("mine --miner mms --rounds 0", ""),
     ("mine --miner mms --rounds 101", ""),
     ("mine", ""),
@@ -47,7 +50,10 @@ const WORDS: [(&str, &str); 49] = [
     ("mine --miner fill --seed 1", ""),
     ("mine --=fill", ""),
     ("mine -h", ""),
-    ("demo --seed 18446744073709551615 --voters 16384 --seats 512", "demo 18446744073709551615 16384 512"),
+    (
+        "demo --seed 18446744073709551615 --voters 16384 --seats 512",
+        "demo 18446744073709551615 16384 512",
+    ),
     ("demo --seats=1 --seed=0 --voters=1", "demo 0 1 1"),
     ("demo --seed 1 --voters 1", ""),
     ("demo --seed 18446744073709551616 --voters 1 --seats 1", ""),
@@ -73,11 +79,13 @@ fn told(alloc: Global, command: &Option<Command>) -> Result<String, Fail> {
             };
             format!(in alloc; "mine {name} {rounds}")?
         }
-        Some(Command::Demo {
-            seed,
-            voters,
-            seats,
-        }) => format!(in alloc; "demo {seed} {voters} {seats}")?,
+        Some(
+            Command::Demo {
+                seed,
+                voters,
+                seats,
+            },
+        ) => format!(in alloc; "demo {seed} {voters} {seats}")?,
     };
     Ok(text)
 }

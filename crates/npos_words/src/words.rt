@@ -2,7 +2,7 @@
 ghost use Rattle.std.specs.Prelude.{◌≡◌, ◌≤◌, IsOk, false, drop, map, option_map, IfOk, IfSome, string_bytes};
 ghost use Rattle.std.specs.List.{list_any};
 ghost use Rattle.clap.specs.Words.{found_of, first_value};
-ghost use Rattle.npos_words.specs.Words.{command_of, command_by, alone, mine_of, demo_of, miner_of, rounds_of, number_of, is_bare, verbs, has_verb};
+ghost use Rattle.npos_words.specs.Words.{command_of, command_after, command_by, alone, mine_by, demo_by, mine_of, demo_of, miner_of, rounds_of, number_of, is_bare, verbs, begins_with_verb, has_verb};
 ghost use Rattle.npos_words.specs.Options.{is_among};
 
 use crate::numbers::number_within;
@@ -45,7 +45,7 @@ fn number_of(options: &ArgMatches, name: &str, least: u64, most: u64) -> Option<
     number_within(options.get_str(name)?, least, most)
 }
 
-/// The command of the verb `mine`.
+/// The command of the verb `mine` with these options.
 fn mine_of(options: &ArgMatches) -> Option<Command>
     ensures { result ≡ mine_of (first_value (found_of options.now)) }
 {
@@ -54,7 +54,7 @@ fn mine_of(options: &ArgMatches) -> Option<Command>
     Some(Command::Mine { miner, rounds })
 }
 
-/// The command of the verb `demo`.
+/// The command of the verb `demo` with these options.
 fn demo_of(options: &ArgMatches) -> Option<Command>
     ensures { result ≡ demo_of (first_value (found_of options.now)) }
 {
@@ -69,17 +69,35 @@ fn demo_of(options: &ArgMatches) -> Option<Command>
 }
 
 /// A command that has no options.
-fn alone(
-    alloc: Global,
-    command: Command,
-    words: &[String],
-) -> Result<Option<Command>, NoMemory>
+fn alone(alloc: Global, command: Command, words: &[String]) -> Result<Option<Command>, NoMemory>
     requires { list_any is_bare (drop 1 (map string_bytes words.now)) ≡ false }
     ensures { IfOk result (λ found. found
         ≡ alone command (drop 1 (map string_bytes words.now))) }
 {
     match options_of(alloc, words, &[])? {
         Some(_) => Ok(Some(command)),
+        None => Ok(None),
+    }
+}
+
+/// The command of the verb `mine`, by the words behind the first.
+fn mine_by(alloc: Global, words: &[String]) -> Result<Option<Command>, NoMemory>
+    requires { list_any is_bare (drop 1 (map string_bytes words.now)) ≡ false }
+    ensures { IfOk result (λ found. found ≡ mine_by (drop 1 (map string_bytes words.now))) }
+{
+    match options_of(alloc, words, &["miner", "rounds"])? {
+        Some(options) => Ok(mine_of(&options)),
+        None => Ok(None),
+    }
+}
+
+/// The command of the verb `demo`, by the words behind the first.
+fn demo_by(alloc: Global, words: &[String]) -> Result<Option<Command>, NoMemory>
+    requires { list_any is_bare (drop 1 (map string_bytes words.now)) ≡ false }
+    ensures { IfOk result (λ found. found ≡ demo_by (drop 1 (map string_bytes words.now))) }
+{
+    match options_of(alloc, words, &["seed", "voters", "seats"])? {
+        Some(options) => Ok(demo_of(&options)),
         None => Ok(None),
     }
 }
@@ -96,14 +114,8 @@ fn command_by(alloc: Global, verb: &str, words: &[String]) -> Result<Option<Comm
         "check" => alone(alloc, Command::Check, words),
         "pack" => alone(alloc, Command::Pack, words),
         "show" => alone(alloc, Command::Show, words),
-        "mine" => match options_of(alloc, words, &["miner", "rounds"])? {
-            Some(options) => Ok(mine_of(&options)),
-            None => Ok(None),
-        },
-        "demo" => match options_of(alloc, words, &["seed", "voters", "seats"])? {
-            Some(options) => Ok(demo_of(&options)),
-            None => Ok(None),
-        },
+        "mine" => mine_by(alloc, words),
+        "demo" => demo_by(alloc, words),
         _ => Ok(None),
     }
 }
@@ -115,17 +127,34 @@ fn is_bare(word: &str) -> bool
     word == "-" || word == "--"
 }
 
+/// Whether one of the words is bare.
+fn has_bare(words: &[String]) -> bool
+    ensures { result ≡ list_any is_bare (map string_bytes words.now) }
+{
+    words.iter().any(|word| is_bare(word.as_str()))
+}
+
+/// The command that the words ask for, of which the first is the verb.
+fn command_after(alloc: Global, words: &[String]) -> Result<Option<Command>, NoMemory>
+    requires { list_any is_bare (map string_bytes words.now) ≡ false }
+    ensures found { IfOk result (λ found. found ≡ command_after (map string_bytes words.now)) }
+    ensures memory { begins_with_verb (map string_bytes words.now) ≡ false → IsOk result }
+{
+    match words.first() {
+        Some(verb) => command_by(alloc, verb.as_str(), words),
+        None => Ok(None),
+    }
+}
+
 /// The command that the words ask for, or None where they ask for none. `words[0]` is the program's
-/// name and is not looked at. Memory is wanted only where the second word is a verb and none of the
-/// others is of hyphens alone.
+/// name and is not looked at. Memory is wanted only where the second word is a verb and no word
+/// behind the first is of hyphens alone.
 pub fn command_of(alloc: Global, words: &[String]) -> Result<Option<Command>, NoMemory>
     ensures ok { IfOk result (λ command. command ≡ command_of (map string_bytes words.now)) }
     ensures memory { has_verb (map string_bytes words.now) ≡ false → IsOk result }
 {
-    match words {
-        [_, verb, rest @ ..] if !rest.iter().any(|word| is_bare(word.as_str())) => {
-            command_by(alloc, verb.as_str(), &words[1..])
-        }
+    match words.split_first() {
+        Some((_, words)) if !has_bare(words) => command_after(alloc, words),
         _ => Ok(None),
     }
 }

@@ -25,9 +25,9 @@ returns-else-eq c =
     let free : is_simple_and_free (app_of c.in_ok-command.command) ≡ true = ap (λ (a : App). is_simple_and_free a) app_is ∙ simple_and_free names in
     elim (c.in-Err.ensures.kinds free) [
       | inl memory ↦
-        let same : c.eq.result ≡ true = rw (c.eq.ensures, c.kind.ensures, memory) refl in
-        absurd (true≢false (sym same ∙ c.if-eq.false))
+          let same : c.eq.result ≡ true = rw (c.eq.ensures, c.kind.ensures, memory) refl in
+          absurd (true≢false (sym same ∙ c.if-eq.false))
       | inr among ↦
-        finds_none _ (kind_of c.in-Err.error) (fault_of (app_with names) all) _ (clap_reads names all (words_utf8 c.args.words.now) c.requires)
-        (subst (λ (a : App). IsAmong (kind_of c.in-Err.error) (fault_of a all)) app_is among)
+          finds_none _ (kind_of c.in-Err.error) (fault_of (app_with names) all) _ (clap_reads names all (words_utf8 c.args.words.now) c.requires)
+          (subst (λ (a : App). IsAmong (kind_of c.in-Err.error) (fault_of a all)) app_is among)
     ]
