@@ -1,26 +1,26 @@
 -- What clap answers on a command with options alone.
-use Rattle.std.proofs.Common.{◌≡◌, ◌∙◌, ◌&&◌, ◌+◌, ℕ, Bool, true, false, refl, sym, ap, ap₂, subst, List, [], ◌∷◌, ◌++◌, map, length, drop, take, take-suc, get_or, arith, ◌<◌, suc, codes, Option, Some, None}
-use Rattle.std.specs.List.{All, find, list_all, list_any}
-use Rattle.std.specs.Option.{is_some, option_map}
-use Rattle.std.specs.Prelude.{option_and_then, slice_get, IsUtf8, string_bytes, String}
+use Rattle.std.proofs.Common.{◌≡◌, ◌∙◌, ◌+◌, ℕ, Bool, true, false, refl, sym, ap, subst, List, [], ◌∷◌, ◌++◌, map, length, drop, take, take-suc, get_or, arith, ◌<◌, suc, codes, Option, Some, None}
+use Rattle.std.specs.List.{All, list_all, list_any}
+use Rattle.std.specs.Option.{is_some}
+use Rattle.std.specs.Prelude.{IsUtf8, string_bytes, String}
 use Rattle.std.specs.Str.{bytes_eq}
 use Rattle.std.proofs.lemmas.Str.{IsUtf8-string_bytes}
 use Rattle.std.specs.Borrow.{Bor}
 use Rattle.std.proofs.lemmas.List.{map-append}
 use Rattle.std.proofs.lemmas.List.Elements.{All-cons, All-drop, All-nil}
-use Rattle.clap.proofs.WalkLemmas.{both, first_value-rows}
+use Rattle.clap.proofs.WalkLemmas.{first_value-rows}
 use Rattle.clap.specs.Walk.{Row, Rule, Text, first_of, is_early_multiple, nothing_held, rows_after, rows_of, walk, walk_from}
 use Rattle.clap.specs.Matches.{found_of}
-use Rattle.clap.specs.Simple.{App, Shape, built, filled_from, has_simple_rules, is_ready, is_ready_leaf, matches_of, names_of, new_app, on_top, with_rule}
-use Rattle.clap.specs.Kinds.{FailsBy, HasKind, IsAmong, Kinds}
-use Rattle.clap.specs.Faults.{built_fault, entered_fault, fault_of, is_free_app, is_simple_and_free, level_fault}
+use Rattle.clap.specs.Simple.{App, built, filled_from, matches_of, names_of, new_app, on_top, with_rule}
+use Rattle.clap.specs.Kinds.{IsAmong, Kinds}
+use Rattle.clap.specs.Faults.{built_fault, entered_fault, fault_of, is_simple_and_free, level_fault}
 use Rattle.clap.specs.Simple.{entered}
 use Rattle.clap.specs.declared.error.kind.ErrorKind.{ErrorKind}
 use Rattle.clap.specs.declared.parser.matches.ArgMatches.{ArgMatches}
 use Rattle.npos_words.specs.Found.{Finds, app_with, option_rule}
 use Rattle.npos_words.specs.Options.{Setting, options_of, value_of}
 use Rattle.npos_words.specs.Words.{is_bare}
-use Rattle.npos_words.proofs.OptionLemmas.{Fails, Reads, faults_at, known, reads, rest_rests, rows, rows_at, rule, top}
+use Rattle.npos_words.proofs.OptionLemmas.{Reads, faults_at, known, reads, rest_rests, rows, rows_at, rule, top}
 
 -- ## The built command
 

@@ -1,7 +1,7 @@
 -- clap, on a command with options alone, finds the options of the definition.
-use Rattle.std.proofs.Common.{◌≡◌, ◌∙◌, ◌&&◌, ◌||◌, ◌+◌, ℕ, Bool, cond, true, false, zero, suc, refl, sym, ap, ap₂, subst, subst₂, arith, List, [], ◌∷◌, ◌++◌, map, length, Option, Some, None, true≢false, append-nil, eqb-true}
-use Rattle.std.specs.List.{All, find, fold, list_all, list_any}
-use Rattle.std.specs.Option.{option_map, option_map_or, is_some, unwrap_or}
+use Rattle.std.proofs.Common.{◌≡◌, ◌∙◌, ◌&&◌, ◌||◌, ℕ, Bool, cond, true, false, refl, sym, ap, ap₂, subst, subst₂, List, [], ◌∷◌, ◌++◌, map, Option, Some, None, true≢false, append-nil, eqb-true}
+use Rattle.std.specs.List.{All, fold, list_any}
+use Rattle.std.specs.Option.{is_some}
 use Rattle.std.specs.Prelude.{◌==◌, slice_get, not, IsUtf8, codes}
 use Rattle.std.specs.Char.{encode_utf8}
 use Rattle.std.specs.Str.{bytes_eq, chars, encode_utf8_all}
@@ -11,15 +11,15 @@ use Rattle.std.proofs.lemmas.Str.{encodes-chars, IsUtf8-past_char}
 use Rattle.std.proofs.lemmas.List.Elements.{All-head, All-tail}
 use Rattle.clap.proofs.WalkLemmas.{list_any-map}
 use Rattle.clap.specs.Lexer.{long_of, short_of}
-use Rattle.clap.specs.Walk.{Held, Names, Row, Rule, Text, Waiting, Walk, idle, option, after_step, at_row, arg_by_id, arg_by_index, arg_by_long, arg_by_short, finished, has_row, long_or_other, more_values, reacted, reading_by, settled, subcommand_met, used, walk_from, walked, with_default, with_values}
-use Rattle.clap.specs.Simple.{App, Shape, built, filled}
+use Rattle.clap.specs.Walk.{Held, Row, Rule, Text, Waiting, Walk, idle, option, after_step, at_row, arg_by_id, arg_by_index, arg_by_long, arg_by_short, finished, has_row, long_or_other, more_values, reading_by, settled, subcommand_met, used, walk_from, walked, with_default, with_values}
+use Rattle.clap.specs.Simple.{Shape, built, filled}
 use Rattle.clap.specs.Kinds.{Kinds, or_else}
 use Rattle.clap.specs.Takes.{is_given as is_given_row}
-use Rattle.clap.specs.Faults.{bundle_fault, bundle_step_fault, check_fault, defaults_fault, flag_word_fault, flags_fault, long_fault, settle_fault, step_fault, turn_fault, use_fault, walk_fault}
+use Rattle.clap.specs.Faults.{bundle_fault, check_fault, defaults_fault, flag_word_fault, flags_fault, long_fault, settle_fault, step_fault, turn_fault, use_fault, walk_fault}
 use Rattle.clap.specs.declared.error.kind.ErrorKind.{ErrorKind}
 use Rattle.clap.specs.declared.parser.matches.ValueSource.TheVariants.{CommandLine}
 use Rattle.npos_words.specs.Found.{app_with, option_rule}
-use Rattle.npos_words.specs.Options.{Setting, begins_with_hyphen, flag_of, is_among, is_given, options_from, with_flag, with_next_word, with_setting}
+use Rattle.npos_words.specs.Options.{Setting, begins_with_hyphen, is_among, is_given, options_from, with_flag, with_next_word, with_setting}
 use Rattle.npos_words.specs.Words.{is_bare}
 
 -- ## Kinds

@@ -1,5 +1,5 @@
 -- What clap finds of the options of a verb: the command that it is given, and what it answers.
-use Rattle.std.specs.Prelude.{◌≡◌, ℕ, true, List, [], ◌∷◌, map, codes, Option, Some, None}
+use Rattle.std.specs.Prelude.{◌≡◌, true, List, map, codes, Option, Some, None}
 use Rattle.clap.specs.Words.{App, Rule, found_of, first_value, new_app, new_rule}
 use Rattle.clap.specs.Simple.{on_top}
 use Rattle.clap.specs.declared.builder.action.ArgAction.TheVariants.{Set}

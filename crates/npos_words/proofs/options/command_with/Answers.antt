@@ -1,4 +1,4 @@
-use Rattle.std.proofs.Common.{◌≡◌, ◌∙◌, rules, ap₂}
+use Rattle.std.proofs.Common.{◌∙◌, rules, ap₂}
 use Rattle.clap.specs.Words.{with_rule}
 use Rattle.npos_words.proofs.FoundLemmas.{more_options}
 use Rattle.npos_words.proofs.options.command_with.Goals as goal

@@ -1,8 +1,7 @@
-use Rattle.std.proofs.Common.{◌≡◌, ◌∙◌, rules, List, [], map, ℕ, ap, subst, refl, sym, true, false, true≢false, inl, inr, Bor, string_bytes}
-use Rattle.clap.specs.Words.{IsAmong, kind_of, app_of, fault_of, found_of, is_simple, is_simple_and_free, matches_of, rows_of, App}
+use Rattle.std.proofs.Common.{◌≡◌, ◌∙◌, List, [], map, ℕ, ap, subst, refl, sym, true, true≢false, inl, inr, Bor, string_bytes}
+use Rattle.clap.specs.Words.{IsAmong, kind_of, app_of, fault_of, found_of, is_simple_and_free, matches_of, rows_of, App}
 use Rattle.clap.proofs.WalkLemmas.{both}
 use Rattle.npos_words.specs.Found.{app_with}
-use Rattle.npos_words.specs.Options.{options_of}
 use Rattle.npos_words.proofs.FoundLemmas.{clap_reads, finds, finds_none, simple_and_free, words_utf8}
 use Rattle.npos_words.proofs.options.options_of.Goals as goal
 

@@ -1,4 +1,4 @@
-use Rattle.std.proofs.Common.{◌∙◌, rules, List, Option, drop, map, string_bytes, subst}
+use Rattle.std.proofs.Common.{◌∙◌, Option, drop, map, string_bytes, subst}
 use Rattle.clap.specs.declared.parser.matches.ArgMatches.{ArgMatches}
 use Rattle.npos_words.specs.Found.{Finds}
 use Rattle.npos_words.specs.Options.{options_of}
