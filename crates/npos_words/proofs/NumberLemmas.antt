@@ -1,5 +1,5 @@
 -- Numbers that std does not read.
-use Rattle.std.proofs.Common.{◌≡◌, ◌<◌, ◌≤◌, ◌^◌, ◌&&◌, ℕ, Bool, true, false, rules, refl, arith, List, length, None, leb-true}
+use Rattle.std.proofs.Common.{◌≡◌, ◌<◌, ◌≤◌, ◌^◌, ◌&&◌, ℕ, Bool, true, false, rules, refl, arith, List, length, IfSome, None, leb-true}
 use Rattle.std.specs.Prelude.{nat_le}
 use Rattle.std.specs.Char.{is_ascii_digit}
 use Rattle.std.specs.List.{list_all}
@@ -24,3 +24,14 @@ not_read least most text small none = go (is_number text && is_within least most
         let some : 1 ≤ length text = leb-true 1 (length text) lengths.0 in
         let below : digits_value 10 text ≤ most = leb-true (digits_value 10 text) most bounds.1 in
         absurd (none (omega arith, omega arith))
+
+pub within_bounds : (least most : ℕ) (text : List ℕ) → IfSome (number_within least most text) (λ number. (least ≤ number) × (number ≤ most))
+within_bounds least most text = go (is_number text && is_within least most (digits_value 10 text)) refl
+  where
+    go : (b : Bool) → (is_number text && is_within least most (digits_value 10 text)) ≡ b
+        → IfSome (number_within least most text) (λ number. (least ≤ number) × (number ≤ most))
+    go false e = rw e tt
+    go true e =
+        let within = both (is_number text) (is_within least most (digits_value 10 text)) e in
+        let bounds = both (nat_le least (digits_value 10 text)) (nat_le (digits_value 10 text) most) within.1 in
+        rw e (leb-true least (digits_value 10 text) bounds.0, leb-true (digits_value 10 text) most bounds.1)

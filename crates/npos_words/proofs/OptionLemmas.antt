@@ -53,7 +53,7 @@ same_text a b e = (bytes_eq-Decides a b).0 e
 equal_self : (a : Text) → bytes_eq a a ≡ true
 equal_self a = (bytes_eq-Decides a a).1 refl
 
-or_false : (a b : Bool) → (a || b) ≡ false → (a ≡ false) × (b ≡ false)
+pub or_false : (a b : Bool) → (a || b) ≡ false → (a ≡ false) × (b ≡ false)
 or_false true b e = absurd (true≢false e)
 or_false false b e = (refl, e)
 

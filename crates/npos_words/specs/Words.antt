@@ -1,5 +1,5 @@
 -- The words of a call, and the command that they ask for.
-use Rattle.std.specs.Prelude.{ℕ, Bool, false, not, ◌&&◌, ◌||◌, ◌^◌, ◌-◌, List, [], ◌∷◌, drop, codes, Option, Some, None, option_map, option_and_then, if◌then◌else◌}
+use Rattle.std.specs.Prelude.{⊤, ℕ, ◌≤◌, Bool, false, not, ◌&&◌, ◌||◌, ◌^◌, ◌-◌, List, [], ◌∷◌, drop, codes, Option, Some, None, option_map, option_and_then, if◌then◌else◌}
 use Rattle.std.specs.List.{list_any}
 use Rattle.std.specs.Str.{bytes_eq}
 use Rattle.npos_words.specs.declared.command.Command.{Command}
@@ -7,7 +7,7 @@ use Rattle.npos_words.specs.declared.command.Command.TheVariants as commands
 use Rattle.npos_words.specs.declared.command.Miner.{Miner}
 use Rattle.npos_words.specs.declared.command.Miner.TheVariants as miners
 use Rattle.npos_words.specs.Numbers.{number_within}
-use Rattle.npos_words.specs.Options.{Text, is_among, options_of, value_of}
+use Rattle.npos_words.specs.Options.{Text, options_of, value_of}
 
 -- ## The values
 
@@ -65,9 +65,9 @@ abbrev pub command_by : Text → List Text → Option Command
 command_by verb words =
     if bytes_eq verb (codes "replay") then alone commands.Replay words
     else if bytes_eq verb (codes "check") then alone commands.Check words
+    else if bytes_eq verb (codes "mine") then mine_by words
     else if bytes_eq verb (codes "pack") then alone commands.Pack words
     else if bytes_eq verb (codes "show") then alone commands.Show words
-    else if bytes_eq verb (codes "mine") then mine_by words
     else if bytes_eq verb (codes "demo") then demo_by words
     else None
 
@@ -88,10 +88,21 @@ command_of words = if list_any is_bare (drop 1 words) then None else command_aft
 abbrev pub verbs : List Text
 verbs = codes "replay" ∷ codes "check" ∷ codes "mine" ∷ codes "pack" ∷ codes "show" ∷ codes "demo" ∷ []
 
+abbrev pub is_verb : Text → Bool
+is_verb text = list_any (λ verb. bytes_eq text verb) verbs
+
 abbrev pub begins_with_verb : List Text → Bool
 begins_with_verb [] = false
-begins_with_verb (verb ∷ words) = is_among verbs verb
+begins_with_verb (verb ∷ words) = is_verb verb
 
 -- the second word is a verb, and no word behind the first is bare
 abbrev pub has_verb : List Text → Bool
 has_verb words = begins_with_verb (drop 1 words) && not (list_any is_bare (drop 1 words))
+
+-- ## What is known of a command
+
+-- each number of a command is one that its option may have
+abbrev pub KeepsBounds : Option Command → Type 0
+KeepsBounds (Some (commands.Mine miner rounds)) = (1 ≤ rounds) × (rounds ≤ 100)
+KeepsBounds (Some (commands.Demo seed voters seats)) = (1 ≤ voters) × (voters ≤ 16384) × (1 ≤ seats) × (seats ≤ 512)
+KeepsBounds command = ⊤

@@ -2,8 +2,7 @@
 ghost use Rattle.std.specs.Prelude.{◌≡◌, ◌≤◌, IsOk, false, drop, map, option_map, IfOk, IfSome, string_bytes};
 ghost use Rattle.std.specs.List.{list_any};
 ghost use Rattle.clap.specs.Words.{found_of, first_value};
-ghost use Rattle.npos_words.specs.Words.{command_of, command_after, command_by, alone, mine_by, demo_by, mine_of, demo_of, miner_of, rounds_of, number_of, is_bare, verbs, begins_with_verb, has_verb};
-ghost use Rattle.npos_words.specs.Options.{is_among};
+ghost use Rattle.npos_words.specs.Words.{command_of, command_after, command_by, alone, mine_by, demo_by, mine_of, demo_of, miner_of, rounds_of, number_of, is_bare, is_verb, begins_with_verb, has_verb, KeepsBounds};
 
 use crate::numbers::number_within;
 use crate::options::options_of;
@@ -107,14 +106,14 @@ fn command_by(alloc: Global, verb: &str, words: &[String]) -> Result<Option<Comm
     requires { list_any is_bare (drop 1 (map string_bytes words.now)) ≡ false }
     ensures found { IfOk result (λ found. found
         ≡ command_by verb.now (drop 1 (map string_bytes words.now))) }
-    ensures memory { is_among verbs verb.now ≡ false → IsOk result }
+    ensures memory { is_verb verb.now ≡ false → IsOk result }
 {
     match verb {
         "replay" => alone(alloc, Command::Replay, words),
         "check" => alone(alloc, Command::Check, words),
+        "mine" => mine_by(alloc, words),
         "pack" => alone(alloc, Command::Pack, words),
         "show" => alone(alloc, Command::Show, words),
-        "mine" => mine_by(alloc, words),
         "demo" => demo_by(alloc, words),
         _ => Ok(None),
     }
@@ -151,6 +150,7 @@ fn command_after(alloc: Global, words: &[String]) -> Result<Option<Command>, NoM
 /// behind the first is of hyphens alone.
 pub fn command_of(alloc: Global, words: &[String]) -> Result<Option<Command>, NoMemory>
     ensures ok { IfOk result (λ command. command ≡ command_of (map string_bytes words.now)) }
+    ensures bounds { IfOk result KeepsBounds }
     ensures memory { has_verb (map string_bytes words.now) ≡ false → IsOk result }
 {
     match words.split_first() {
