@@ -1,5 +1,5 @@
 //! What `mine` makes of an election.
-ghost use Rattle.std.specs.Prelude.{◌≡◌, ◌≢◌, ℕ, ◌<◌, ◌++◌, flat_map, length, All, None, IfOk, IfErr, OnOk};
+ghost use Rattle.std.specs.Prelude.{◌≡◌, ◌≢◌, ℕ, ◌<◌, ◌≤◌, ◌++◌, flat_map, length, All, None, IfOk, IfErr, OnOk};
 ghost use Rattle.weight_book.specs.Weights.{IsFeasible};
 ghost use Rattle.npos_cli.specs.declared.job.Miner.TheVariants as miners;
 ghost use Rattle.election_check.specs.Laws.{packed_of};
@@ -8,6 +8,7 @@ ghost use Rattle.compact_solution.specs.Solution.{solution_form};
 ghost use Rattle.election_check.specs.Packed.{expand_fault, expanded, verdict_packed};
 ghost use Rattle.npos_cli.specs.Mining.{line_of, weights_lines, solution_report, packed_report, IsMineReport};
 ghost use Rattle.npos_cli.specs.Answer.{report_of};
+ghost use Rattle.npos_cli.specs.Words.{MinerHasRounds};
 
 use crate::answers::{Answer, lost, told};
 use crate::checking::checker_of;
@@ -22,9 +23,6 @@ use quota_fill::fill;
 use seq_phragmen::mine_seq;
 use std::alloc::Global;
 use weight_book::Weights;
-
-/// How many balancing rounds of PHRAGMMS follow each pick.
-const ROUNDS: u32 = 8;
 
 /// Appends the lines of the members in the order of the committee.
 fn tell_members(text: &mut Vec<u8>, snapshot: &Snapshot, weights: &Weights) -> Result<(), NoMemory>
@@ -177,21 +175,24 @@ fn mine_by_load(alloc: Global, snapshot: Snapshot) -> Result<Answer, NoMemory>
     answer_packed(alloc, snapshot, weights)
 }
 
-/// The answer of PHRAGMMS on an election.
-fn mine_by_score(alloc: Global, snapshot: Snapshot) -> Result<Answer, NoMemory>
-    ensures { IfOk result (λ answer. IsMineReport miners.Mms snapshot (report_of answer)) }
+/// The answer of PHRAGMMS on an election, with so many balancing rounds after each pick.
+fn mine_by_score(alloc: Global, snapshot: Snapshot, rounds: u32) -> Result<Answer, NoMemory>
+    requires { 1 ≤ rounds }
+    ensures { IfOk result (λ answer. IsMineReport (miners.Mms rounds) snapshot
+        (report_of answer)) }
 {
-    let weights = mine_mms(alloc, &snapshot, ROUNDS)?;
+    let weights = mine_mms(alloc, &snapshot, rounds)?;
     answer_packed(alloc, snapshot, weights)
 }
 
 /// The answer of a miner on an election.
 pub fn mine(alloc: Global, snapshot: Snapshot, miner: Miner) -> Result<Answer, NoMemory>
+    requires { MinerHasRounds miner }
     ensures { IfOk result (λ answer. IsMineReport miner snapshot (report_of answer)) }
 {
     match miner {
         Miner::Fill => mine_by_fill(alloc, snapshot),
         Miner::Seq => mine_by_load(alloc, snapshot),
-        Miner::Mms => mine_by_score(alloc, snapshot),
+        Miner::Mms(rounds) => mine_by_score(alloc, snapshot, rounds),
     }
 }
