@@ -1,5 +1,6 @@
 -- What a run of each job says.
 use Rattle.std.proofs.Common.{◌≡◌, ◌≢◌, ◌⊎◌, inl, inr, ◌<◌, ◌+◌, ℕ, Bool, true, false, List, [], ◌++◌, Option, Some, None, Result, Ok, Err, IfSome, refl, sym, ◌∙◌, ap, subst, arith}
+use Rattle.std.proofs.lemmas.List.{append-nil}
 use Rattle.npos_base.specs.Outside.{Told, Rose}
 use Rattle.npos_cli.specs.declared.job.Job.{Job}
 use Rattle.npos_cli.specs.declared.job.Job.TheVariants as jobs
@@ -13,12 +14,13 @@ use Rattle.npos_cli.specs.Verdicts.{most_bundle}
 use Rattle.npos_cli.specs.Tasks.{IsSound}
 use Rattle.npos_cli.specs.Words.{usage_line}
 use Rattle.npos_cli.specs.Chain.{npos_machine}
-use Rattle.npos_cli.specs.Owed.{LeftAfter, AnswersFor, BeginsFor, IsDrained, TakesAtMost, Delivers, DeliversFront, FindsReplay, KeepsFlushed, HasRead, HasWrote, ReadsWell, WritesWell}
+use Rattle.npos_cli.specs.Owed.{LeftAfter, FindsFor, AnswersFor, BeginsFor, IsDrained, TakesAtMost, Delivers, DeliversFront, FindsReplay, KeepsFlushed, HasRead, HasWrote, ReadsWell, WritesWell}
 use Rattle.npos_cli.specs.Turning.{KeepsUp}
 use Rattle.npos_cli.specs.Streaming.{Delivered, Halts, CutBy, ReplayEnds, HaltedReading, HaltedWriting, HaltedStarving, ReadsWhile}
-use Rattle.npos_cli.specs.Ran.{Ran, UsageEnds}
+use Rattle.npos_cli.specs.Demo.{demo_report}
+use Rattle.npos_cli.specs.Ran.{Ran, UsageEnds, DemoEnds}
 use Rattle.npos_cli.proofs.EdgeLaws.{fronted, unflushed}
-use Rattle.npos_cli.proofs.RunLaws.{nothing_asked, front_found, front_delivered}
+use Rattle.npos_cli.proofs.RunLaws.{found_unread, nothing_asked, front_found, front_delivered}
 use Rattle.npos_cli.proofs.CourseLaws.{finds_for, has_written, begins_starved}
 
 -- ## Counts of faults
@@ -94,6 +96,84 @@ usage_ran left old new reads writes wrote Unread Unwritten statuses.No unread en
 usage_ran left old new reads writes wrote Unread Unwritten statuses.BadInput unread ends has = absurd ends
 usage_ran left old new reads writes wrote Unread Unwritten statuses.ReadFault unread ends has = absurd ends
 usage_ran left old new reads writes wrote Unread Unwritten statuses.NoMemory unread ends has = absurd ends
+
+-- ## A generated election
+
+pub demo_ran : (seed voters seats : ℕ) (left : Option (List ℕ)) (old new : Option Told) (reads writes wrote : ℕ) (Unread Unwritten : Type 0) (status : Status) → Unread
+    → DemoEnds (demo_report seed voters seats).text old new Unwritten status → HasWrote writes wrote status
+    → Ran (Some (jobs.Demo seed voters seats)) left left old new reads reads writes wrote Unread Unwritten status
+demo_ran seed voters seats left old new reads writes wrote Unread Unwritten status unread ends has = record {
+  answers = at_answer status ends;
+  front = at_front status ends;
+  read_fault = λ e. absurd (no_read status ends e);
+  read_fault_comes = λ rose. absurd (omega (arith, rose));
+  write_fault = write_rose writes wrote status has;
+  write_fault_comes = write_comes writes wrote status has;
+  unwritten = λ _ cut. elim cut [ inl e ↦ absurd (no_read status ends e) | inr e ↦ (subst (λ (s : Status). DemoEnds text old new Unwritten s) e ends).0 ];
+  unflushed = at_flush status ends;
+  unread = λ _. unread;
+  drained = λ _ reads. absurd reads;
+  few = λ reads. absurd reads;
+  accepted = λ task e. cc;
+  passes = λ e. cc;
+  halted_reading = λ e. cc;
+  halted_writing = λ e. cc;
+  starved = λ e. cc;
+  wary = λ e. cc;
+} where
+  text : List ℕ
+  text = (demo_report seed voters seats).text
+
+  job : Option Job
+  job = Some (jobs.Demo seed voters seats)
+
+  owed : FindsFor job left text statuses.Done
+  owed = found_unread job left text statuses.Done (λ bytes. refl)
+
+  at_answer : (s : Status) → DemoEnds text old new Unwritten s → IsAnswer s → AnswersFor job left old new s
+  at_answer statuses.Done ends answer = (text, owed, ends)
+  at_answer statuses.WriteFault ends answer = absurd answer
+  at_answer statuses.NoMemory ends answer = absurd answer
+  at_answer statuses.ReadFault ends answer = absurd answer
+  at_answer statuses.No ends answer = absurd ends
+  at_answer statuses.Usage ends answer = absurd ends
+  at_answer statuses.BadInput ends answer = absurd ends
+
+  nothing : (now : Option Told) → DeliversFront now now text
+  nothing None = tt
+  nothing (Some now) = (now, 0, refl, sym (append-nil now.written))
+
+  at_front : (s : Status) → DemoEnds text old new Unwritten s → BeginsFor job left old new
+  at_front statuses.Done ends = front_delivered job left old new text statuses.Done owed ends
+  at_front statuses.WriteFault ends = front_found job left old new text statuses.Done owed ends.0
+  at_front statuses.NoMemory ends =
+      front_found job left old new text statuses.Done owed (subst (λ (now : Option Told). DeliversFront old now text) (sym ends.1) (nothing old))
+  at_front statuses.ReadFault ends = absurd ends
+  at_front statuses.No ends = absurd ends
+  at_front statuses.Usage ends = absurd ends
+  at_front statuses.BadInput ends = absurd ends
+
+  kept : (now : Option Told) → KeepsFlushed now now
+  kept None = tt
+  kept (Some now) = (now, refl, refl)
+
+  at_flush : (s : Status) → DemoEnds text old new Unwritten s → (IsAnswer s → ⊥) → KeepsFlushed old new
+  at_flush statuses.Done ends no = absurd (no tt)
+  at_flush statuses.WriteFault ends no = ends.1
+  at_flush statuses.NoMemory ends no = subst (λ (now : Option Told). KeepsFlushed old now) (sym ends.1) (kept old)
+  at_flush statuses.ReadFault ends no = absurd ends
+  at_flush statuses.No ends no = absurd (no tt)
+  at_flush statuses.Usage ends no = absurd (no tt)
+  at_flush statuses.BadInput ends no = absurd (no tt)
+
+  no_read : (s : Status) → DemoEnds text old new Unwritten s → s ≡ statuses.ReadFault → ⊥
+  no_read statuses.ReadFault ends e = ends
+  no_read statuses.Done ends e = cc
+  no_read statuses.WriteFault ends e = cc
+  no_read statuses.NoMemory ends e = cc
+  no_read statuses.No ends e = cc
+  no_read statuses.Usage ends e = cc
+  no_read statuses.BadInput ends e = cc
 
 -- ## A bundle
 

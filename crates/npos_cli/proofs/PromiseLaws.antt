@@ -74,6 +74,7 @@ usage_by (Some jobs.Replay) bytes text owes = absurd (not_usage owes.0.faulty ow
   not_usage true e = cc
   not_usage false e = cc
 usage_by (Some (jobs.OnBundle task)) bytes text owes = absurd (no_usage task bytes (record { text = text; status = statuses.Usage }) owes refl)
+usage_by (Some (jobs.Demo seed voters seats)) bytes text owes = absurd (let e : statuses.Usage ≡ statuses.Done = ap (λ (r : Report). r.status) owes in cc)
 
 pub usage_due : (words : List (List ℕ)) (left : Option (List ℕ)) (old new : Option Told) (answer : Status)
     → (IsAnswer answer → Answers words left old new answer) → answer ≡ statuses.Usage → (HasForm words → ⊥) × Delivers old new usage_line

@@ -8,7 +8,7 @@ use Rattle.npos_cli.specs.declared.job.Job.{Job}
 use Rattle.npos_cli.specs.declared.job.Job.TheVariants as jobs
 use Rattle.npos_cli.specs.declared.status.Status.{Status}
 use Rattle.npos_cli.specs.declared.status.Status.TheVariants as statuses
-use Rattle.npos_cli.specs.Words.{job_by, job_of, usage_line, HasRounds}
+use Rattle.npos_cli.specs.Words.{job_by, job_of, usage_line, KeepsBounds as JobKeepsBounds}
 use Rattle.npos_cli.specs.Report.{JobOwes, Owes, replay_status, IsAnswer, IsJudged}
 use Rattle.npos_cli.specs.Replay.{Outcome, IsReplay}
 use Rattle.npos_runtime.specs.declared.chain.Chain.{Chain}
@@ -21,6 +21,7 @@ use Rattle.npos_cli.specs.Verdicts.{long_line, most_bundle}
 use Rattle.npos_cli.specs.declared.job.Task.{Task}
 use Rattle.npos_cli.specs.declared.reading.Election.{Election as bundle_election}
 use Rattle.npos_cli.specs.Bundles.{Report, faulty, read_election, election_in}
+use Rattle.npos_cli.specs.Demo.{demo_report}
 use Rattle.npos_cli.specs.Tasks.{IsReportOn, IsBundleReport, IsSound}
 use Rattle.npos_cli.specs.Owed.{IsAll, LeftAfter, ReadsUpTo, TakesAtMost, IsDrained, Delivers, DeliversFront, FindsFor, BeginsFor}
 use Rattle.std.specs.Prelude.{option_and_then}
@@ -35,15 +36,15 @@ use Rattle.npos_cli.proofs.ReplayLaws.{one_replay, any_replay}
 use Rattle.npos_cli.proofs.ReportLaws.{one_report, any_report}
 use Rattle.npos_cli.proofs.ChainLaws.{genesis_laws, turn_laws}
 
+-- what is owed whatever the bytes are
+pub found_unread : (job : Option Job) (left : Option (List ℕ)) (text : List ℕ) (status : Status) → ((bytes : List ℕ) → JobOwes job bytes text status) → FindsFor job left text status
+found_unread job None text status owed = ([], tt, owed [])
+found_unread job (Some bytes) text status owed = (bytes, refl, owed bytes)
+
 -- words that ask for no job owe the usage line
 pub nothing_asked : (job : Option Job) (left : Option (List ℕ)) → job ≡ None → FindsFor job left usage_line statuses.Usage
-nothing_asked job left none = on left where
-  owed : (bytes : List ℕ) → JobOwes job bytes usage_line statuses.Usage
-  owed bytes = subst (λ (j : Option Job). JobOwes j bytes usage_line statuses.Usage) (sym none) (refl, refl)
-
-  on : (left : Option (List ℕ)) → FindsFor job left usage_line statuses.Usage
-  on None = ([], tt, owed [])
-  on (Some bytes) = (bytes, refl, owed bytes)
+nothing_asked job left none =
+    found_unread job left usage_line statuses.Usage (λ bytes. subst (λ (j : Option Job). JobOwes j bytes usage_line statuses.Usage) (sym none) (refl, refl))
 
 pub delivered_front : (old new : Option Told) (text : List ℕ) → Delivers old new text → DeliversFront old new text
 delivered_front old None text delivers = tt
@@ -59,6 +60,8 @@ one_for (Some jobs.Replay) bytes text other status end first second =
 one_for (Some (jobs.OnBundle task)) bytes text other status end first second =
     let same = one_report task bytes (record { text = text; status = status }) (record { text = other; status = end }) first second in
     (ap (λ (r : Report). r.text) same, ap (λ (r : Report). r.status) same)
+one_for (Some (jobs.Demo seed voters seats)) bytes text other status end first second =
+    let same = first ∙ sym second in (ap (λ (r : Report). r.text) same, ap (λ (r : Report). r.status) same)
 
 pub one_owed : (words : List (List ℕ)) (bytes text other : List ℕ) (status end : Status) → Owes words bytes text status → Owes words bytes other end
     → (text ≡ other) × (status ≡ end)
@@ -77,31 +80,32 @@ front_delivered job left old new text status finds delivers =
     front_found job left old new text status finds (delivered_front old new text delivers)
 
 -- PHRAGMMS has at least one round in words that have a form
-pub job_has_rounds : (words : List (List ℕ)) → HasRounds (job_of words)
+pub job_has_rounds : (words : List (List ℕ)) → JobKeepsBounds (job_of words)
 job_has_rounds words = by (command_of words) (keeps_bounds words) where
   by_miner : (miner : named_miner) (rounds : ℕ) → 1 ≤ rounds → MinerHasRounds (miner_by miner rounds)
   by_miner named.Fill rounds some = tt
   by_miner named.Seq rounds some = tt
   by_miner named.Mms rounds some = some
 
-  by : (command : Option Command) → KeepsBounds command → HasRounds (option_and_then job_by command)
+  by : (command : Option Command) → KeepsBounds command → JobKeepsBounds (option_and_then job_by command)
   by None bounds = tt
   by (Some commands.Replay) bounds = tt
   by (Some commands.Check) bounds = tt
   by (Some (commands.Mine miner rounds)) bounds = by_miner miner rounds bounds.0
   by (Some commands.Pack) bounds = tt
   by (Some commands.Show) bounds = tt
-  by (Some (commands.Demo seed voters seats)) bounds = tt
+  by (Some (commands.Demo seed voters seats)) bounds = bounds
 
 -- every list of bytes is answered
 pub any_owed : (words : List (List ℕ)) (bytes : List ℕ) → IsBytes bytes → (text : List ℕ) × (status : Status) × Owes words bytes text status
 any_owed words bytes are = by (job_of words) (job_has_rounds words) where
-  by : (job : Option Job) → HasRounds job → (text : List ℕ) × (status : Status) × JobOwes job bytes text status
+  by : (job : Option Job) → JobKeepsBounds job → (text : List ℕ) × (status : Status) × JobOwes job bytes text status
   by None some = (usage_line, statuses.Usage, (refl, refl))
   by (Some jobs.Replay) some =
       let r = any_replay npos_machine genesis_laws turn_laws bytes are in
       (r.outcome.text, replay_status r.outcome.faulty, (r.outcome, r.is_replay, refl, refl))
   by (Some (jobs.OnBundle task)) some = let r = any_report task some bytes in (r.0.text, r.0.status, r.1)
+  by (Some (jobs.Demo seed voters seats)) some = let r = demo_report seed voters seats in (r.text, r.status, refl)
 
 -- ## A bundle
 

@@ -96,3 +96,4 @@ found_answers (Some jobs.Replay) left text status finds = subst (λ (s : Status)
   replayed false = tt
 found_answers (Some (jobs.OnBundle task)) left text status finds =
     of_bundle IsAnswer tt tt tt task finds.0 (record { text = text; status = status }) finds.2
+found_answers (Some (jobs.Demo seed voters seats)) left text status finds = subst (λ (s : Status). IsAnswer s) (sym (ap (λ (r : Report). r.status) finds.2)) tt

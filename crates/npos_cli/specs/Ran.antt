@@ -37,6 +37,13 @@ pub record Ran (job : Option Job) (left now : Option (List ℕ)) (old new : Opti
   pub starved : job ≡ Some jobs.Replay → status ≡ statuses.NoMemory → HaltedStarving left now old new
   pub wary : job ≡ Some jobs.Replay → ReadsWhile left now
 
+-- The text of a demo was delivered, or a front of it, or memory ran out before anything was written.
+abbrev pub DemoEnds : List ℕ → Option Told → Option Told → Type 0 → Status → Type 0
+DemoEnds text old new Unwritten statuses.Done = Delivers old new text
+DemoEnds text old new Unwritten statuses.WriteFault = DeliversFront old new text × KeepsFlushed old new
+DemoEnds text old new Unwritten statuses.NoMemory = Unwritten × (new ≡ old)
+DemoEnds text old new Unwritten _ = ⊥
+
 -- the usage line was delivered, or a front of it
 abbrev pub UsageEnds : Option Told → Option Told → Status → Type 0
 UsageEnds old new statuses.Usage = Delivers old new usage_line

@@ -19,14 +19,14 @@ miner_by named.Fill rounds = miners.Fill
 miner_by named.Seq rounds = miners.Seq
 miner_by named.Mms rounds = miners.Mms rounds
 
--- the job of a command; `pack`, `show` and `demo` have none yet
+-- the job of a command; `pack` and `show` have none yet
 abbrev pub job_by : Command → Option Job
 job_by commands.Replay = Some jobs.Replay
 job_by commands.Check = Some (jobs.OnBundle tasks.Check)
 job_by (commands.Mine miner rounds) = Some (jobs.OnBundle (tasks.Mine (miner_by miner rounds)))
 job_by commands.Pack = None
 job_by commands.Show = None
-job_by (commands.Demo seed voters seats) = None
+job_by (commands.Demo seed voters seats) = Some (jobs.Demo seed voters seats)
 
 abbrev pub job_of : List (List ℕ) → Option Job
 job_of words = option_and_then job_by (command_of words)
@@ -45,10 +45,12 @@ abbrev pub TaskHasRounds : Task → Type 0
 TaskHasRounds tasks.Check = ⊤
 TaskHasRounds (tasks.Mine miner) = MinerHasRounds miner
 
-abbrev pub HasRounds : Option Job → Type 0
-HasRounds None = ⊤
-HasRounds (Some jobs.Replay) = ⊤
-HasRounds (Some (jobs.OnBundle task)) = TaskHasRounds task
+-- and a generated election has voters and seats, and no more than an election may have
+abbrev pub KeepsBounds : Option Job → Type 0
+KeepsBounds None = ⊤
+KeepsBounds (Some jobs.Replay) = ⊤
+KeepsBounds (Some (jobs.OnBundle task)) = TaskHasRounds task
+KeepsBounds (Some (jobs.Demo seed voters seats)) = (1 ≤ voters) × (voters ≤ 16384) × (1 ≤ seats) × (seats ≤ 512)
 
 abbrev pub usage_line : List ℕ
 usage_line = codes "usage: npos replay|check|mine|pack|show|demo" ++ newline

@@ -6,10 +6,7 @@ ghost use Rattle.election_check.specs.Packed.{expand_fault};
 ghost use Rattle.election_check.specs.Laws.{packed_of};
 ghost use Rattle.seq_phragmen.specs.Mined.{mined};
 ghost use Rattle.npos_cli.specs.Demo.{fill_line, seq_line, election_text, demo_report};
-ghost use Rattle.npos_cli.specs.Answer.{report_of};
 
-use crate::Status;
-use crate::answers::Answer;
 use crate::checking::checker_of;
 use crate::mining::{Judged, judge, packed_weights};
 use crate::numbers::{tell_judged, tell_lost, tell_size};
@@ -87,19 +84,16 @@ fn tell_election(alloc: Global, text: &mut Vec<u8>, snapshot: Snapshot) -> Resul
     tell_packed(alloc, text, &mut checker, packed)
 }
 
-/// The answer of the election that a seed generates.
-pub fn answer_demo(alloc: Global, seed: u64, voters: u32, seats: u32) -> Result<Answer, NoMemory>
+/// The text on the election that a seed generates.
+pub fn demo_text(alloc: Global, seed: u64, voters: u32, seats: u32) -> Result<Vec<u8>, NoMemory>
     requires some_voters { 1 ≤ voters }
     requires few_voters { voters ≤ 16384 }
     requires some_seats { 1 ≤ seats }
     requires few_seats { seats ≤ 512 }
-    ensures { IfOk result (λ answer. report_of answer ≡ demo_report seed voters seats) }
+    ensures { IfOk result (λ text. text.items ≡ (demo_report seed voters seats).text) }
 {
     let snapshot = generated(alloc, seed, voters, seats)?;
     let mut text = Vec::new(alloc);
     tell_election(alloc, &mut text, snapshot)?;
-    Ok(Answer {
-        text,
-        status: Status::Done,
-    })
+    Ok(text)
 }

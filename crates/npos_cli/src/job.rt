@@ -11,6 +11,8 @@ pub enum Job {
     Replay,
     /// To read a bundle and to report on it.
     OnBundle(Task),
+    /// To report on the election that the seed generates. Nothing is read.
+    Demo { seed: u64, voters: u32, seats: u32 },
 }
 
 /// What is to be reported of a bundle.
@@ -53,6 +55,15 @@ pub fn job_of(command: Command) -> Option<Job>
         Command::Replay => Some(Job::Replay),
         Command::Check => Some(Job::OnBundle(Task::Check)),
         Command::Mine { miner, rounds } => Some(Job::OnBundle(Task::Mine(miner_of(miner, rounds)))),
-        Command::Pack | Command::Show | Command::Demo { .. } => None,
+        Command::Demo {
+            seed,
+            voters,
+            seats,
+        } => Some(Job::Demo {
+            seed,
+            voters,
+            seats,
+        }),
+        Command::Pack | Command::Show => None,
     }
 }

@@ -6,7 +6,7 @@ ghost use Rattle.npos_cli.specs.declared.job.Task.{Task as task_kind};
 ghost use Rattle.npos_cli.specs.declared.job.Task.TheVariants as tasks;
 ghost use Rattle.npos_cli.specs.declared.job.Miner.TheVariants as miners;
 ghost use Rattle.npos_words.specs.Words.{has_verb};
-ghost use Rattle.npos_cli.specs.Words.{job_of, HasRounds, TaskHasRounds};
+ghost use Rattle.npos_cli.specs.Words.{job_of, KeepsBounds, TaskHasRounds};
 ghost use Rattle.npos_cli.specs.Report.{ReadsInput, ReadsBundle, IsAnswer, IsJudged};
 ghost use Rattle.npos_cli.specs.Books.{BooksBalance};
 ghost use Rattle.npos_cli.specs.Headline.{SeatsAreSound};
@@ -16,10 +16,12 @@ ghost use Rattle.npos_cli.specs.Tasks.{IsSound};
 ghost use Rattle.npos_cli.specs.declared.status.Status.TheVariants as statuses;
 ghost use Rattle.npos_cli.specs.Owed.{FindsFor, AnswersFor, Answers, BeginsFor, BeginsToAnswer, IsDrained, TakesAtMost, HaltsWell, HasRead, HasWrote, KeepsFlushed};
 ghost use Rattle.npos_cli.specs.Streaming.{HaltedReading, HaltedWriting, HaltedStarving, ReadsWhile};
-ghost use Rattle.npos_cli.specs.Ran.{Ran, UsageEnds};
+ghost use Rattle.npos_cli.specs.Demo.{demo_report};
+ghost use Rattle.npos_cli.specs.Ran.{Ran, UsageEnds, DemoEnds};
 
 use crate::Status;
 use crate::answers::Answer;
+use crate::demo::demo_text;
 use crate::edges::deliver;
 use crate::input::read_up_to;
 use crate::job::{Job, Task, job_of};
@@ -96,6 +98,23 @@ fn tell_usage<K: Sink>(sink: &mut K) -> Status
     }
 }
 
+/// Reports on the election that the seed generates.
+fn tell_demo<K: Sink>(alloc: Global, sink: &mut K, seed: u64, voters: u32, seats: u32) -> Status
+    requires bounds { KeepsBounds (Some (jobs.Demo seed voters seats)) }
+    ensures ends { DemoEnds (demo_report seed voters seats).text (K.told sink.old)
+        (K.told sink.new) (sink.new ≡ sink.old) result }
+    ensures writes { HasWrote (K.faults sink.old) (K.faults sink.new) result }
+{
+    let text = match demo_text(alloc, seed, voters, seats) {
+        Ok(text) => text,
+        Err(NoMemory) => return Status::NoMemory,
+    };
+    match deliver(sink, text.as_slice()) {
+        Ok(()) => Status::Done,
+        Err(Failed) => Status::WriteFault,
+    }
+}
+
 /// Does the job, or writes the usage line where there is none.
 fn run_job<S: Source, K: Sink>(
     alloc: Global,
@@ -103,7 +122,7 @@ fn run_job<S: Source, K: Sink>(
     source: &mut S,
     sink: &mut K,
 ) -> Status
-    requires { HasRounds job }
+    requires { KeepsBounds job }
     ensures ran { Ran job (S.left source.old) (S.left source.new) (K.told sink.old)
         (K.told sink.new) (S.faults source.old) (S.faults source.new) (K.faults sink.old)
         (K.faults sink.new) (source.new ≡ source.old) (sink.new ≡ sink.old) result }
@@ -116,6 +135,13 @@ fn run_job<S: Source, K: Sink>(
             Err(status) => status,
         },
         Some(Job::OnBundle(task)) => report(alloc, source, sink, task),
+        Some(
+            Job::Demo {
+                seed,
+                voters,
+                seats,
+            },
+        ) => tell_demo(alloc, sink, seed, voters, seats),
     }
 }
 

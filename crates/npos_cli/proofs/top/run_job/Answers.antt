@@ -1,6 +1,6 @@
 use Rattle.std.proofs.Common.{rules, ◌≡◌, Some, refl}
 use Rattle.npos_cli.specs.declared.job.Job.TheVariants as jobs
-use Rattle.npos_cli.proofs.JobLaws.{usage_ran, report_ran, replay_ran, replay_halted}
+use Rattle.npos_cli.proofs.JobLaws.{usage_ran, demo_ran, report_ran, replay_ran, replay_halted}
 use Rattle.npos_cli.proofs.top.run_job.Goals as goal
 
 pub returns-in-None-clause-ran : goal.returns-in-None-clause-ran
@@ -29,3 +29,10 @@ returns-in-Some-OnBundle-clause-ran g c =
     (g.S.Source.faults c.args.source.now) (g.S.Source.faults c.report.new.source) (g.K.Sink.faults c.args.sink.now) (g.K.Sink.faults c.report.new.sink) (c.report.new.source ≡ c.args.source.now)
     (c.report.new.sink ≡ c.args.sink.now) c.report.result c.report.ensures.answers c.report.ensures.front c.report.ensures.reads c.report.ensures.writes c.report.ensures.unwritten c.report.ensures.unflushed
     c.report.ensures.drained c.report.ensures.few c.report.ensures.accepted c.report.ensures.passes)
+
+pub returns-in-Some-Demo-clause-ran : goal.returns-in-Some-Demo-clause-ran
+returns-in-Some-Demo-clause-ran g c =
+    let job : c.args.job ≡ Some (jobs.Demo c.in-Some-Demo.seed c.in-Some-Demo.voters c.in-Some-Demo.seats) = search rules in
+    rw job (demo_ran c.in-Some-Demo.seed c.in-Some-Demo.voters c.in-Some-Demo.seats (g.S.Source.left c.args.source.now) (g.K.Sink.told c.args.sink.now) (g.K.Sink.told c.tell_demo.new.sink)
+    (g.S.Source.faults c.args.source.now) (g.K.Sink.faults c.args.sink.now) (g.K.Sink.faults c.tell_demo.new.sink) (c.args.source.now ≡ c.args.source.now) (c.tell_demo.new.sink ≡ c.args.sink.now)
+    c.tell_demo.result refl c.tell_demo.ensures.ends c.tell_demo.ensures.writes)
