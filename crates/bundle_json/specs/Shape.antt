@@ -6,7 +6,7 @@ use Rattle.std.specs.Str.Parse.{digits_value}
 use Rattle.hex.specs.Hex.{decode_of, decode_sized}
 use Rattle.serde_json.specs.Data.{Data, Items, no_items, item}
 use Rattle.serde_json.specs.Events.{items_len, members_len}
-use Rattle.serde_json.specs.Find.{get, as_array, as_null, as_number, as_object, as_str, as_u64}
+use Rattle.serde_json.specs.Find.{get, at, as_array, as_null, as_number, as_object, as_str, as_u64}
 use Rattle.npos_base.specs.Account.{account_of}
 use Rattle.npos_base.specs.declared.account.AccountId.{AccountId}
 use Rattle.npos_base.specs.declared.figures.Edge.{Edge}
@@ -67,13 +67,11 @@ list_in read most d = do
   items ← as_array d
   if nat_le (items_len items) most then each read items else None
 
-abbrev pub items_of_three : Items → Option (Data × Data × Data)
-items_of_three (item a (item b (item c no_items))) = Some (a, b, c)
-items_of_three _ = None
-
--- an array of three
-abbrev pub three : Data → Option (Data × Data × Data)
-three d = as_array d >>= items_of_three
+-- the value itself, where it is an array of exactly so many items
+abbrev pub with_items : ℕ → Data → Option Data
+with_items count d = do
+  items ← as_array d
+  if items_len items == count then Some d else None
 
 -- the value itself, where it is an object with exactly so many keys
 abbrev pub with_keys : ℕ → Data → Option Data
@@ -85,18 +83,18 @@ with_keys count d = do
 
 abbrev pub edge_in : Data → Option Edge
 edge_in d = do
-  parts ← three d
-  voter ← whole_in 32 parts.0
-  target ← whole_in 16 parts.1
-  amount ← whole_in 64 parts.2
+  array ← with_items 3 d
+  voter ← at 0 array >>= whole_in 32
+  target ← at 1 array >>= whole_in 16
+  amount ← at 2 array >>= whole_in 64
   Some (record { voter = voter; target = target; amount = amount })
 
 abbrev pub claim_in : Data → Option Score
 claim_in d = do
-  parts ← three d
-  minimal ← whole_in 64 parts.0
-  sum ← whole_in 64 parts.1
-  text ← as_str parts.2
+  array ← with_items 3 d
+  minimal ← at 0 array >>= whole_in 64
+  sum ← at 1 array >>= whole_in 64
+  text ← at 2 array >>= as_str
   squares ← figure_in text
   Some (record { minimal = minimal; sum = sum; squares = squares })
 

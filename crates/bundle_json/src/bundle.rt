@@ -1,11 +1,10 @@
 //! Bundles in JSON.
-ghost use Rattle.std.specs.Prelude.{◌≡◌, Some, None, IfOk};
-ghost use Rattle.serde_json.specs.Data.{Data};
+ghost use Rattle.std.specs.Prelude.{◌≡◌, ◌≢◌, IfOk};
 ghost use Rattle.serde_json.specs.View.{view};
 ghost use Rattle.serde_json.specs.Written.{compact_text};
 ghost use Rattle.bundle_json.specs.Json.{json_of};
 ghost use Rattle.bundle_json.specs.Shape.{bundle_of};
-ghost use Rattle.bundle_json.specs.Text.{Appends, Reads, IsNoJson};
+ghost use Rattle.bundle_json.specs.Text.{Appends, bundle_in_text};
 ghost use Rattle.block_wire.specs.Bundles.{bundle_form};
 
 use crate::fault::JsonFault;
@@ -49,14 +48,11 @@ fn write_bundle(bundle: &Bundle, alloc: Global, out: &mut Writer) -> Result<(), 
 
 /// The bundle that a text of JSON stands for. Of a key that is written twice, the last counts. The
 /// text is refused as `Json` where it has no reading as JSON, and as `Shape` where it has one that
-/// stands for no bundle.
+/// stands for no bundle; it determines every answer but want of memory.
+#[tactic(auto, using(crate::proofs::RangeLemmas::bundle_range, crate::proofs::Readings::has_reading, crate::proofs::Readings::has_no_reading))]
 pub fn bundle_from_json(alloc: Global, text: &[u8]) -> Result<Bundle, JsonFault>
-    ensures ok { IfOk result (λ bundle. (value : Data) × Reads text.now value
-        × (bundle_of value ≡ Some bundle)) }
+    ensures determined { result ≢ Err JsonFault.NoMemory → result ≡ bundle_in_text text.now }
     ensures in_range { IfOk result bundle_form.in_range }
-    ensures json { result ≡ Err JsonFault.Json → IsNoJson text.now }
-    ensures shape { result ≡ Err JsonFault.Shape → (value : Data) × Reads text.now value
-        × (bundle_of value ≡ None) }
 {
     let value = match Value::from_slice(alloc, text) {
         Ok(value) => value,

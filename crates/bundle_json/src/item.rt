@@ -1,10 +1,11 @@
 //! What stands in the arrays of a bundle.
 ghost use Rattle.std.specs.Prelude.{◌≡◌, Option, IfOk};
-ghost use Rattle.serde_json.specs.Data.{Data};
+ghost use Rattle.hex.specs.Hex.{encode_lower};
+ghost use Rattle.serde_json.specs.Data.{Data, string};
 ghost use Rattle.serde_json.specs.View.{view, items_view};
 ghost use Rattle.bundle_json.specs.Json.{list_json};
 ghost use Rattle.bundle_json.specs.Shape.{list_in, each};
-ghost use Rattle.bundle_json.specs.Text.{Appends};
+ghost use Rattle.bundle_json.specs.Text.{Appends, AppendsTokens, tokens_of};
 
 use crate::parts::{account_in, edge_in, u16_in};
 use json::Writer;
@@ -29,7 +30,17 @@ pub(crate) trait Item: Drop {
         ensures { IfOk result (λ item. item ≡ read (view value.now)) };
 }
 
+/// Writes a text of hexadecimal digits in lower case, two for each byte.
+pub(crate) fn write_hex(bytes: &[u8], alloc: Global, out: &mut Writer) -> Result<(), NoMemory>
+    ensures { Appends (string (encode_lower bytes.now)) out.old result out.new }
+{
+    let digits = hex::encode(alloc, bytes)?;
+    out.string(digits.as_str())?;
+    Ok(())
+}
+
 /// Writes an array.
+#[tactic(auto, using(crate::proofs::Lists::array_written))]
 pub(crate) fn write_list<T: Item>(
     items: &List<T>,
     alloc: Global,
@@ -38,14 +49,23 @@ pub(crate) fn write_list<T: Item>(
     ensures { Appends (list_json T.json items.now) out.old result out.new }
 {
     out.begin_array()?;
-    for item in items.as_slice() {
-        item.write(alloc, out)?;
-    }
+    write_items(items.as_slice(), alloc, out)?;
     out.end_array()?;
     Ok(())
 }
 
+// The items, one behind the other.
+fn write_items<T: Item>(items: &[T], alloc: Global, out: &mut Writer) -> Result<(), NoMemory>
+    ensures { AppendsTokens (tokens_of T.json items.now) out.old result out.new }
+{
+    for item in items {
+        item.write(alloc, out)?;
+    }
+    Ok(())
+}
+
 /// The items of an array of at most so many. Room for them is made at once.
+#[tactic(auto, using(crate::proofs::Lists::length_items))]
 pub(crate) fn list_in<T: Item>(
     alloc: Global,
     value: &Value,
@@ -103,9 +123,7 @@ impl Item for AccountId {
     ghost read = { account_in };
 
     fn write(&self, alloc: Global, out: &mut Writer) -> Result<(), NoMemory> {
-        let digits = hex::encode(alloc, self.to_bytes())?;
-        out.string(digits.as_str())?;
-        Ok(())
+        write_hex(&self.to_bytes(), alloc, out)
     }
 
     fn from_json(_alloc: Global, value: &Value) -> Result<Option<AccountId>, NoMemory> {

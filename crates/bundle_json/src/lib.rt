@@ -4,6 +4,7 @@
 mod bundle;
 mod fault;
 mod item;
+pub mod laws;
 mod limits;
 mod parts;
 #[cfg(test)]

@@ -2,7 +2,7 @@
 //! have.
 ghost use Rattle.std.specs.Prelude.{◌≡◌, option_map};
 ghost use Rattle.serde_json.specs.View.{view};
-ghost use Rattle.bundle_json.specs.Shape.{whole_in, figure_in, account_in, three, with_keys, edge_in, claim_in};
+ghost use Rattle.bundle_json.specs.Shape.{whole_in, figure_in, account_in, with_items, with_keys, edge_in, claim_in};
 
 use hex::FromHex;
 use itoa::Buffer;
@@ -35,11 +35,13 @@ pub(crate) fn u64_in(value: &Value) -> Option<u64>
 pub(crate) fn figure_in(text: &str) -> Option<u128>
     ensures { result ≡ figure_in text.now }
 {
-    let number: u128 = text.parse().ok()?;
-    if Buffer::new().format(number) == text {
-        Some(number)
-    } else {
-        None
+    match text.parse::<u128>() {
+        Ok(number) => if Buffer::new().format(number) == text {
+            Some(number)
+        } else {
+            None
+        },
+        Err(_) => None,
     }
 }
 
@@ -53,19 +55,20 @@ pub(crate) fn account_in(value: &Value) -> Option<AccountId>
     }
 }
 
-/// The items of an array of three.
-pub(crate) fn three(value: &Value) -> Option<(&Value, &Value, &Value)>
-    ensures { option_map
-        (λ items. (view items.0.now, view items.1.now, view items.2.now)) result
-        ≡ three (view value.now) }
+/// The value itself, where it is an array of exactly so many items.
+#[tactic(auto, using(crate::proofs::Lists::length_items))]
+fn with_items(value: &Value, count: usize) -> Option<&Value>
+    ensures { option_map (λ array. view array.now) result ≡ with_items count (view value.now) }
 {
-    match value.as_array()?.as_slice() {
-        [first, second, third] => Some((first, second, third)),
-        _ => None,
+    if value.as_array()?.len() == count {
+        Some(value)
+    } else {
+        None
     }
 }
 
 /// The value itself, where it is an object with exactly so many keys.
+#[tactic(auto, using(crate::proofs::Lists::length_members))]
 pub(crate) fn with_keys(value: &Value, count: usize) -> Option<&Value>
     ensures { option_map (λ object. view object.now) result ≡ with_keys count (view value.now) }
 {
@@ -80,11 +83,11 @@ pub(crate) fn with_keys(value: &Value, count: usize) -> Option<&Value>
 pub(crate) fn edge_in(value: &Value) -> Option<Edge>
     ensures { result ≡ edge_in (view value.now) }
 {
-    let (voter, target, amount) = three(value)?;
+    let array = with_items(value, 3)?;
     Some(Edge {
-        voter: u32_in(voter)?,
-        target: u16_in(target)?,
-        amount: u64_in(amount)?,
+        voter: u32_in(array.get(0)?)?,
+        target: u16_in(array.get(1)?)?,
+        amount: u64_in(array.get(2)?)?,
     })
 }
 
@@ -92,10 +95,10 @@ pub(crate) fn edge_in(value: &Value) -> Option<Edge>
 pub(crate) fn claim_in(value: &Value) -> Option<Score>
     ensures { result ≡ claim_in (view value.now) }
 {
-    let (minimal, sum, squares) = three(value)?;
+    let array = with_items(value, 3)?;
     Some(Score {
-        minimal: u64_in(minimal)?,
-        sum: u64_in(sum)?,
-        squares: figure_in(squares.as_str()?)?,
+        minimal: u64_in(array.get(0)?)?,
+        sum: u64_in(array.get(1)?)?,
+        squares: figure_in(array.get(2)?.as_str()?)?,
     })
 }

@@ -6,7 +6,7 @@ ghost use Rattle.bundle_json.specs.Shape.{solution_in, packed_in, plain_in, work
 ghost use Rattle.bundle_json.specs.Text.{Appends};
 ghost use Rattle.block_wire.specs.declared.bundle.Work.TheVariants.{Packed as PackedWork, Plain as PlainWork};
 
-use crate::item::{list_in, write_list};
+use crate::item::{list_in, write_hex, write_list};
 use crate::limits::MOST_EDGES;
 use crate::parts::{claim_in, with_keys};
 use block_wire::Work;
@@ -43,8 +43,7 @@ fn write_packed(
     out.key("claim")?;
     write_claim(claim, out)?;
     out.key("solution")?;
-    let digits = hex::encode(alloc, bytes.as_slice())?;
-    out.string(digits.as_str())?;
+    write_hex(bytes.as_slice(), alloc, out)?;
     out.end_object()?;
     Ok(())
 }
