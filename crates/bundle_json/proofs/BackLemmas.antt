@@ -1,12 +1,7 @@
 -- What a bundle in range is written as stands for that bundle.
-use Rattle.std.proofs.Common.{◌≡◌, ℕ, zero, suc, ◌^◌, ◌*◌, ◌<◌, ◌≤◌, List, [], ◌∷◌, ◌++◌, length, get_or, map, Option, Some, None, IsTrue, decimal, refl, sym, ap, ◌∙◌, arith, lt-ltb, le-leb, lit≤, length-append}
+use Rattle.std.proofs.Common.{◌≡◌, ℕ, suc, ◌^◌, ◌*◌, ◌<◌, ◌≤◌, List, [], ◌∷◌, length, map, Option, Some, decimal, refl, ap, arith, lt-ltb, le-leb}
 use Rattle.std.specs.List.{AllByRecursion}
-use Rattle.std.specs.Str.{bytes_eq}
-use Rattle.std.specs.Str.Parse.{digits_value}
-use Rattle.std.specs.Int.{w128, to_be_bytes}
-use Rattle.std.proofs.lemmas.Fmt.{decimal_is_IsNumeral_wide}
 use Rattle.std.proofs.lemmas.Slice.Eq.{bytes_eq-Decides}
-use Rattle.hex.specs.Hex as hex
 use Rattle.hex.specs.Hex.{encode_lower, lower_digits}
 use Rattle.hex.proofs.HexLemmas.{decode_sized-encode_lower, decode_of-encode_lower, length-encode_with}
 use Rattle.serde_json.specs.Data.{Data, string}
@@ -18,9 +13,7 @@ use Rattle.npos_base.specs.declared.figures.Edge.{Edge}
 use Rattle.npos_base.specs.declared.figures.Score.{Score}
 use Rattle.npos_base.specs.declared.limits.TheConstants.{MOST_SOLUTION_BYTES, MOST_TARGETS, MOST_VOTERS}
 use Rattle.npos_base.proofs.AccountBytes.{account_kept}
-use Rattle.npos_base.proofs.BigEndian.{length_high_first}
 use Rattle.scale_wire.specs.Form.{IsBytes}
-use Rattle.scale_wire.specs.FormLaws.{IsBytes-append}
 use Rattle.scale_wire.specs.Parts.{account_form}
 use Rattle.scale_wire.specs.Values.{edge_form, score_form}
 use Rattle.block_wire.specs.Bundles.{voter_form, work_form, bundle_form}
@@ -83,19 +76,26 @@ claim_back claim h = rw (lt-ltb _ _ h.0, lt-ltb _ _ h.1, figure_back claim.squar
 
 pub voter_back : (voter : BundleVoter) → voter_form.in_range voter → voter_in (voter_json voter) ≡ Some voter
 voter_back voter h =
-    rw (account_back voter.account h.0, whole_back 64 voter.stake h.1,
-    list_back whole_json (whole_in 16) (λ n. n < 2 ^ 16) (whole_back 16) voter.votes MOST_VOTES h.2.0 h.2.1)
+    rw (
+      account_back voter.account h.0,
+      whole_back 64 voter.stake h.1,
+      list_back whole_json (whole_in 16) (λ n. n < 2 ^ 16) (whole_back 16) voter.votes MOST_VOTES h.2.0 h.2.1,
+    )
 
 pub work_back : (work : Work) → work_form.in_range work → work_in (work_json work) ≡ Some work
 work_back Nothing h = refl
 work_back (Packed claim bytes) h = rw (claim_back claim h.0, solution_back bytes h.1.0 h.1.1)
 work_back (Plain committee edges) h =
-    rw (list_back whole_json (whole_in 16) (λ n. n < 2 ^ 16) (whole_back 16) committee MOST_TARGETS h.0.0 h.0.1,
-    list_back edge_json edge_in edge_form.in_range edge_back edges MOST_EDGES h.1.0 h.1.1)
+    rw (
+      list_back whole_json (whole_in 16) (λ n. n < 2 ^ 16) (whole_back 16) committee MOST_TARGETS h.0.0 h.0.1,
+      list_back edge_json edge_in edge_form.in_range edge_back edges MOST_EDGES h.1.0 h.1.1,
+    )
 
 pub bundle_back : (bundle : Bundle) → bundle_form.in_range bundle → bundle_of (json_of bundle) ≡ Some bundle
 bundle_back bundle h =
-    rw (whole_back 32 bundle.seats h.0,
-    list_back account_json account_in account_form.in_range account_back bundle.targets MOST_TARGETS h.1.0.0 h.1.0.1,
-    list_back voter_json voter_in voter_form.in_range voter_back bundle.voters MOST_VOTERS h.1.1.0 h.1.1.1,
-    work_back bundle.work h.1.2)
+    rw (
+      whole_back 32 bundle.seats h.0,
+      list_back account_json account_in account_form.in_range account_back bundle.targets MOST_TARGETS h.1.0.0 h.1.0.1,
+      list_back voter_json voter_in voter_form.in_range voter_back bundle.voters MOST_VOTERS h.1.1.0 h.1.1.1,
+      work_back bundle.work h.1.2,
+    )

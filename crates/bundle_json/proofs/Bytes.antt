@@ -1,5 +1,5 @@
 -- Bytes, as SCALE and hexadecimal texts speak of them.
-use Rattle.std.proofs.Common.{◌≡◌, ℕ, zero, suc, ◌^◌, ◌/◌, ◌%◌, ◌<◌, List, [], ◌∷◌, ◌++◌, length, get_or, refl, arith, lit<, length-append}
+use Rattle.std.proofs.Common.{◌≡◌, ℕ, zero, suc, ◌^◌, ◌/◌, ◌<◌, List, [], ◌∷◌, length, arith, lit<, length-append}
 use Rattle.std.proofs.Math.Nat.{mod-lt}
 use Rattle.std.specs.Int.{w128, to_be_bytes, bytes_high_first, byte_at}
 use Rattle.hex.specs.Hex as hex

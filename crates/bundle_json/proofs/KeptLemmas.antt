@@ -1,5 +1,5 @@
 -- What a bundle in range is written as is a text that reads as it, also with a line feed behind it.
-use Rattle.std.proofs.Common.{◌≡◌, ◌⊎◌, ℕ, suc, ◌^◌, ◌<◌, ◌≤◌, max, List, [], ◌∷◌, ◌++◌, length, map, Option, Some, None, option_map, option_and_then, IsUtf8, IsAscii, Bool, true, codes, decimal, refl, sym, ap, ap₂, ◌∙◌, subst, arith, lit≤, ltb-true, append-nil}
+use Rattle.std.proofs.Common.{◌≡◌, ℕ, suc, ◌^◌, ◌<◌, ◌≤◌, List, [], ◌∷◌, ◌++◌, map, Some, option_and_then, IsUtf8, IsAscii, Bool, true, decimal, refl, sym, ap, ◌∙◌, subst, arith, lit≤, ltb-true, append-nil}
 use Rattle.std.specs.List.{AllByRecursion}
 use Rattle.std.proofs.lemmas.Fmt.{IsAscii-decimal, IsAscii-decimal_wide}
 use Rattle.std.proofs.lemmas.Str.{IsUtf8-append, IsUtf8-nil, IsUtf8-from_ascii}
@@ -10,16 +10,16 @@ use Rattle.hex.proofs.HexLemmas.{IsAscii-encode_with}
 use Rattle.json.specs.Token.{Token}
 use Rattle.json.specs.Lex.{tokens}
 use Rattle.json.specs.Json as json
-use Rattle.json.specs.Print.{ends, separator, token_text, print_from, print}
-use Rattle.json.specs.Tree.{json_tokens, items_tokens, members_tokens, depth, items_depth, members_depth, HasNumbers, ItemsHaveNumbers, MembersHaveNumbers}
+use Rattle.json.specs.Print.{ends, separator, token_text, print_from}
+use Rattle.json.specs.Tree.{json_tokens, items_tokens, depth, items_depth, HasNumbers, ItemsHaveNumbers}
 use Rattle.json.proofs.Printed.Decimals.{IsNumber-decimal}
 use Rattle.json.proofs.Printed.Tokens.{tokens-print}
 use Rattle.json.proofs.Printed.Trees.{value-json_tokens, ArePrintable-json_tokens}
 use Rattle.json.proofs.Printed.Utf8.{are_ascii, IsUtf8-are_ascii, IsUtf8-quoted, IsUtf8-key, IsUtf8-separator}
-use Rattle.serde_json.specs.Data.{unsigned, Data, null, number, string, array, object, Items, no_items, item, Members, no_members, member, put}
-use Rattle.serde_json.specs.Read.{read, of_json, of_items, of_members}
+use Rattle.serde_json.specs.Data.{Data, string, array, object, Items, no_items, item, no_members, member, put}
+use Rattle.serde_json.specs.Read.{read, of_json, of_items}
 use Rattle.serde_json.specs.View.{items_of}
-use Rattle.serde_json.specs.Written.{outline, items_outline, members_outline, compact_text}
+use Rattle.serde_json.specs.Written.{outline, items_outline, compact_text}
 use Rattle.serde_json.proofs.Numbers.{number_of-decimal}
 use Rattle.serde_json.proofs.Texts.{print-outline}
 use Rattle.npos_base.specs.Account.{account_bytes}
@@ -155,8 +155,17 @@ three_keys_kept : (n : ℕ) (j k l : List ℕ) (d e f : Data) → are_ascii j �
     → IsKept (suc n) (object (member j d (member k e (member l f no_members))))
 three_keys_kept n j k l d e f first second third rising h g i = record {
   numbers = (h.numbers, (g.numbers, (i.numbers, tt)));
-  utf8 = (IsUtf8-are_ascii _ refl, (ascii_key j first, utf8_append _ _ h.utf8 (ascii_key k second, utf8_append _ _ g.utf8
-      (ascii_key l third, utf8_append _ _ i.utf8 (IsUtf8-are_ascii _ refl, tt)))));
+  utf8 = (
+    IsUtf8-are_ascii _ refl,
+    (
+      ascii_key j first,
+      utf8_append _ _ h.utf8 (
+        ascii_key k second,
+        utf8_append _ _ g.utf8
+            (ascii_key l third, utf8_append _ _ i.utf8 (IsUtf8-are_ascii _ refl, tt)),
+      ),
+    ),
+  );
   back = rw (h.back, g.back, i.back) (ap (λ ms. Some (object ms)) rising);
   deep = omega (arith, h.deep, g.deep, i.deep);
 }
@@ -167,8 +176,17 @@ four_keys_kept : (n : ℕ) (j k l m : List ℕ) (d e f g : Data) → are_ascii j
     → IsKept (suc n) (object (member j d (member k e (member l f (member m g no_members)))))
 four_keys_kept n j k l m d e f g first second third fourth rising a b h i = record {
   numbers = (a.numbers, (b.numbers, (h.numbers, (i.numbers, tt))));
-  utf8 = (IsUtf8-are_ascii _ refl, (ascii_key j first, utf8_append _ _ a.utf8 (ascii_key k second, utf8_append _ _ b.utf8
-      (ascii_key l third, utf8_append _ _ h.utf8 (ascii_key m fourth, utf8_append _ _ i.utf8 (IsUtf8-are_ascii _ refl, tt))))));
+  utf8 = (
+    IsUtf8-are_ascii _ refl,
+    (
+      ascii_key j first,
+      utf8_append _ _ a.utf8 (
+        ascii_key k second,
+        utf8_append _ _ b.utf8
+            (ascii_key l third, utf8_append _ _ h.utf8 (ascii_key m fourth, utf8_append _ _ i.utf8 (IsUtf8-are_ascii _ refl, tt))),
+      ),
+    ),
+  );
   back = rw (a.back, b.back, h.back, i.back) (ap (λ ms. Some (object ms)) rising);
   deep = omega (arith, a.deep, b.deep, h.deep, i.deep);
 }

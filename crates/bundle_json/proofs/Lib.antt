@@ -7,3 +7,4 @@ pub mod RangeLemmas
 pub mod BackLemmas
 pub mod LineLemmas
 pub mod KeptLemmas
+pub mod Rereading

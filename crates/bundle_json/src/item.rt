@@ -13,7 +13,6 @@ use npos_base::{AccountId, Edge, List, NoMemory};
 use serde_json::Value;
 use std::alloc::Global;
 
-
 /// A type whose values stand in arrays: `json` is what a value is written as, and `read` the value
 /// that JSON stands for.
 pub(crate) trait Item: Drop {

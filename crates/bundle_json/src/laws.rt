@@ -2,18 +2,18 @@
 //! more than the calls that it speaks of.
 ghost use Rattle.std.specs.Prelude.{◌≡◌, IfOk, IfErr};
 ghost use Rattle.block_wire.specs.Bundles.{bundle_form};
-ghost use Rattle.bundle_json.specs.Laws.{StandsForItself, ReadsAsWritten, ReadsAsLine, IsInRange};
+ghost use Rattle.bundle_json.specs.Laws.{StandsForItself, ReadsAsWritten, LineStands, IsInRange};
 
 use crate::{JsonFault, bundle_from_json, bundle_to_json};
 use block_wire::Bundle;
 use std::alloc::Global;
 
 /// The value that a bundle in range is written as stands for that bundle, and its text reads as
-/// that value, also where a line feed ends it.
+/// that value. With a line feed behind it, the text still stands for the bundle.
 pub fn written_bundles_stand()
     ensures shape { StandsForItself }
     ensures text { ReadsAsWritten }
-    ensures line { ReadsAsLine }
+    ensures line { LineStands }
 {}
 
 /// No JSON stands for a bundle out of range.

@@ -1,4 +1,4 @@
-use Rattle.std.proofs.Common.{◌≡◌, ◌∙◌, sym, ap}
+use Rattle.std.proofs.Common.{◌∙◌, sym, ap}
 use Rattle.std.specs.Str.{bytes_eq}
 use Rattle.bundle_json.proofs.Figures.{figure_unread, figure_other, figure_parsed}
 use Rattle.bundle_json.proofs.parts.figure_in.Goals as goal
