@@ -21,6 +21,7 @@ use Rattle.npos_cli.specs.Verdicts.{long_line, most_bundle}
 use Rattle.npos_cli.specs.declared.job.Task.{Task}
 use Rattle.npos_cli.specs.declared.reading.Election.{Election as bundle_election}
 use Rattle.npos_cli.specs.Bundles.{Report, faulty, read_election, election_in}
+use Rattle.npos_cli.specs.Rewriting.{rewrite_report}
 use Rattle.npos_cli.specs.Tasks.{IsReportOn, IsBundleReport, IsSound}
 use Rattle.npos_cli.specs.Owed.{IsAll, LeftAfter, ReadsUpTo, TakesAtMost, IsDrained, Delivers, DeliversFront, FindsFor, BeginsFor}
 use Rattle.npos_cli.proofs.ReplayLaws.{one_replay, any_replay}
@@ -51,6 +52,11 @@ one_for (Some jobs.Replay) bytes text other status end first second =
 one_for (Some (jobs.OnBundle task)) bytes text other status end first second =
     let same = one_report task bytes (record { text = text; status = status }) (record { text = other; status = end }) first second in
     (ap (λ (r : Report). r.text) same, ap (λ (r : Report). r.status) same)
+one_for (Some (jobs.Rewrite way)) bytes text other status end first second =
+    let one : Report = record { text = text; status = status } in
+    let two : Report = record { text = other; status = end } in
+    let same : one ≡ two = first ∙ sym second in
+    (ap (λ (r : Report). r.text) same, ap (λ (r : Report). r.status) same)
 
 pub one_owed : (words : List (List ℕ)) (bytes text other : List ℕ) (status end : Status) → Owes words bytes text status → Owes words bytes other end
     → (text ≡ other) × (status ≡ end)
@@ -77,6 +83,7 @@ any_owed words bytes are = by (job_of words) where
       let r = any_replay npos_machine genesis_laws turn_laws bytes are in
       (r.outcome.text, replay_status r.outcome.faulty, (r.outcome, r.is_replay, refl, refl))
   by (Some (jobs.OnBundle task)) = let r = any_report task bytes in (r.0.text, r.0.status, r.1)
+  by (Some (jobs.Rewrite way)) = ((rewrite_report way bytes).text, (rewrite_report way bytes).status, refl)
 
 -- ## A bundle
 

@@ -10,6 +10,7 @@ use Rattle.npos_cli.specs.Words.{job_of, usage_line}
 use Rattle.npos_cli.specs.Replay.{Outcome, IsReplay}
 use Rattle.npos_cli.specs.Chain.{npos_machine}
 use Rattle.npos_cli.specs.Tasks.{IsBundleReport}
+use Rattle.npos_cli.specs.Rewriting.{rewrite_report}
 
 -- a replay is done, unless it ends with a fault line
 abbrev pub replay_status : Bool → Status
@@ -22,6 +23,7 @@ JobOwes None bytes text status = (text ≡ usage_line) × (status ≡ statuses.U
 JobOwes (Some jobs.Replay) bytes text status =
     (out : Outcome Chain Election) × IsReplay npos_machine bytes out × (text ≡ out.text) × (status ≡ replay_status out.faulty)
 JobOwes (Some (jobs.OnBundle task)) bytes text status = IsBundleReport task bytes (record { text = text; status = status })
+JobOwes (Some (jobs.Rewrite way)) bytes text status = record { text = text; status = status } ≡ rewrite_report way bytes
 
 abbrev pub Owes : List (List ℕ) → List ℕ → List ℕ → Status → Type 0
 Owes words = JobOwes (job_of words)
@@ -31,12 +33,14 @@ abbrev pub ReadsInput : Option Job → Type 0
 ReadsInput None = ⊥
 ReadsInput (Some jobs.Replay) = ⊤
 ReadsInput (Some (jobs.OnBundle task)) = ⊤
+ReadsInput (Some (jobs.Rewrite way)) = ⊤
 
 -- whether a job reads a bundle
 abbrev pub ReadsBundle : Option Job → Type 0
 ReadsBundle None = ⊥
 ReadsBundle (Some jobs.Replay) = ⊥
 ReadsBundle (Some (jobs.OnBundle task)) = ⊤
+ReadsBundle (Some (jobs.Rewrite way)) = ⊤
 
 -- a status that answers what is owed; the others say that the run was cut off
 abbrev pub IsAnswer : Status → Type 0

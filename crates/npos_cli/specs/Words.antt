@@ -6,6 +6,7 @@ use Rattle.npos_cli.specs.declared.job.Job.TheVariants as jobs
 use Rattle.npos_cli.specs.declared.job.Task.TheVariants as tasks
 use Rattle.npos_cli.specs.declared.job.Miner.{Miner}
 use Rattle.npos_cli.specs.declared.job.Miner.TheVariants as miners
+use Rattle.npos_cli.specs.declared.job.Rewriting.TheVariants as ways
 use Rattle.npos_cli.specs.Texts.{newline}
 
 abbrev pub is_word : Option (List ℕ) → List ℕ → Bool
@@ -35,6 +36,8 @@ abbrev pub job_of : List (List ℕ) → Option Job
 job_of words =
     if nat_eq (length words) 2 && has_word words 1 (codes "replay") then Some jobs.Replay
     else if nat_eq (length words) 2 && has_word words 1 (codes "check") then Some (jobs.OnBundle tasks.Check)
+    else if nat_eq (length words) 2 && has_word words 1 (codes "pack") then Some (jobs.Rewrite ways.Pack)
+    else if nat_eq (length words) 2 && has_word words 1 (codes "show") then Some (jobs.Rewrite ways.Show)
     else if asks_to_mine words then option_map mining_by (miner_of words)
     else None
 

@@ -9,6 +9,17 @@ pub enum Job {
     Replay,
     /// To read a bundle and to report on it.
     OnBundle(Task),
+    /// To read a bundle and to write it in its other form.
+    Rewrite(Rewriting),
+}
+
+/// The form in which a bundle is written.
+#[derive(Clone, Copy, Debug, PartialEq, Eq)]
+pub enum Rewriting {
+    /// In SCALE; it is read in JSON.
+    Pack,
+    /// In JSON; it is read in SCALE.
+    Show,
 }
 
 /// What is to be reported of a bundle.
@@ -72,6 +83,10 @@ pub fn job_of(words: &[String]) -> Option<Job>
         Some(Job::Replay)
     } else if words.len() == 2 && has_word(words, 1, "check") {
         Some(Job::OnBundle(Task::Check))
+    } else if words.len() == 2 && has_word(words, 1, "pack") {
+        Some(Job::Rewrite(Rewriting::Pack))
+    } else if words.len() == 2 && has_word(words, 1, "show") {
+        Some(Job::Rewrite(Rewriting::Show))
     } else if asks_to_mine(words) {
         miner_of(words).map(|miner| Job::OnBundle(Task::Mine(miner)))
     } else {

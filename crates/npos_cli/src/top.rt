@@ -25,6 +25,7 @@ use crate::job::{Job, Task, job_of};
 use crate::laws::{replays_crowd_nothing_out, replays_seat_sound_committees};
 use crate::reading::MOST_BUNDLE;
 use crate::replaying::replay;
+use crate::rewriting::rewrite;
 use crate::tasks::answer_bytes;
 use npos_base::{Failed, Sink, Source};
 use std::alloc::Global;
@@ -110,6 +111,7 @@ fn run_job<S: Source, K: Sink>(
             Err(status) => status,
         },
         Some(Job::OnBundle(task)) => report(alloc, source, sink, task),
+        Some(Job::Rewrite(way)) => rewrite(alloc, source, sink, way),
     }
 }
 

@@ -1,6 +1,6 @@
 use Rattle.std.proofs.Common.{rules, ◌≡◌, Some, refl}
 use Rattle.npos_cli.specs.declared.job.Job.TheVariants as jobs
-use Rattle.npos_cli.proofs.JobLaws.{usage_ran, report_ran, replay_ran, replay_halted}
+use Rattle.npos_cli.proofs.JobLaws.{usage_ran, report_ran, rewrite_ran, replay_ran, replay_halted}
 use Rattle.npos_cli.proofs.top.run_job.Goals as goal
 
 pub returns-in-None : goal.returns-in-None
@@ -29,3 +29,11 @@ returns-in-Some-OnBundle g c =
     (g.S.Source.faults c.args.source.now) (g.S.Source.faults c.report.new.source) (g.K.Sink.faults c.args.sink.now) (g.K.Sink.faults c.report.new.sink) (c.report.new.source ≡ c.args.source.now)
     (c.report.new.sink ≡ c.args.sink.now) c.report.result c.report.ensures.answers c.report.ensures.front c.report.ensures.reads c.report.ensures.writes c.report.ensures.unwritten c.report.ensures.unflushed
     c.report.ensures.drained c.report.ensures.few c.report.ensures.accepted c.report.ensures.passes)
+
+pub returns-in-Some-Rewrite : goal.returns-in-Some-Rewrite
+returns-in-Some-Rewrite g c =
+    let job : c.args.job ≡ Some (jobs.Rewrite c.in-Some-Rewrite.way) = search rules in
+    rw job (rewrite_ran c.in-Some-Rewrite.way (g.S.Source.left c.args.source.now) (g.S.Source.left c.rewrite.new.source) (g.K.Sink.told c.args.sink.now) (g.K.Sink.told c.rewrite.new.sink)
+    (g.S.Source.faults c.args.source.now) (g.S.Source.faults c.rewrite.new.source) (g.K.Sink.faults c.args.sink.now) (g.K.Sink.faults c.rewrite.new.sink) (c.rewrite.new.source ≡ c.args.source.now)
+    (c.rewrite.new.sink ≡ c.args.sink.now) c.rewrite.result c.rewrite.ensures.answers c.rewrite.ensures.front c.rewrite.ensures.reads c.rewrite.ensures.writes c.rewrite.ensures.unwritten
+    c.rewrite.ensures.unflushed c.rewrite.ensures.drained c.rewrite.ensures.few)
