@@ -6,6 +6,7 @@ use Rattle.npos_cli.specs.declared.job.Job.{Job}
 use Rattle.npos_cli.specs.declared.job.Job.TheVariants as jobs
 use Rattle.npos_cli.specs.declared.job.Task.{Task}
 use Rattle.npos_cli.specs.declared.job.Task.TheVariants as tasks
+use Rattle.npos_cli.specs.declared.job.Rewriting.{Rewriting}
 use Rattle.npos_cli.specs.declared.job.Miner.TheVariants as miners
 use Rattle.npos_cli.specs.declared.status.Status.{Status}
 use Rattle.npos_cli.specs.declared.status.Status.TheVariants as statuses
@@ -197,6 +198,34 @@ report_ran task left now old new reads read writes wrote Unread Unwritten status
   few = λ _. few;
   accepted = λ other e done. let same : task ≡ other = cc in subst (λ (t : Task). IfSome left (IsSound t)) same (accepted done);
   passes = λ e. let same : task ≡ tasks.Mine miners.Fill = cc in passes same;
+  halted_reading = λ e. cc;
+  halted_writing = λ e. cc;
+  starved = λ e. cc;
+  wary = λ e. cc;
+}
+
+-- ## A bundle in its other form
+
+pub rewrite_ran : (way : Rewriting) (left now : Option (List ℕ)) (old new : Option Told) (reads read writes wrote : ℕ) (Unread Unwritten : Type 0) (status : Status)
+    → (IsAnswer status → AnswersFor (Some (jobs.Rewrite way)) left old new status) → BeginsFor (Some (jobs.Rewrite way)) left old new
+    → HasRead reads read status → HasWrote writes wrote status → ((status ≡ statuses.ReadFault) ⊎ (status ≡ statuses.NoMemory) → Unwritten)
+    → ((IsAnswer status → ⊥) → KeepsFlushed old new) → (IsJudged status → IsDrained left now) → (IsAnswer status → TakesAtMost (most_bundle + 1) left now)
+    → Ran (Some (jobs.Rewrite way)) left now old new reads read writes wrote Unread Unwritten status
+rewrite_ran way left now old new reads read writes wrote Unread Unwritten status answers front has_read has_wrote unwritten keeps drained few = record {
+  answers = answers;
+  front = front;
+  read_fault = λ is. (tt, read_rose reads read status has_read is);
+  read_fault_comes = read_comes reads read status has_read;
+  write_fault = write_rose writes wrote status has_wrote;
+  write_fault_comes = write_comes writes wrote status has_wrote;
+  unwritten = λ _. unwritten;
+  unflushed = keeps;
+  unread = λ no. absurd (no tt);
+  drained = λ judged _. drained judged;
+  few = λ _. few;
+  accepted = λ task e. cc;
+  passes = λ e. cc;
+  usage_memory = λ e. cc;
   halted_reading = λ e. cc;
   halted_writing = λ e. cc;
   starved = λ e. cc;

@@ -21,3 +21,4 @@ pub mod ReportLaws
 pub mod FeedLaws
 pub mod CourseLaws
 pub mod JobLaws
+pub mod RewriteLaws

@@ -36,6 +36,7 @@ use Rattle.npos_cli.specs.Chain.{npos_machine}
 use Rattle.npos_cli.specs.Books.{BooksBalance}
 use Rattle.npos_cli.specs.Headline.{SeatsAreSound, IsPromised}
 use Rattle.npos_cli.specs.Owed.{IsAll, IsDrained, Delivers, DeliversFront, DeliversReplay, DeliversReplayFront, Comes, ComesWith, Answers, IsOwed, BeginsToAnswer}
+use Rattle.npos_cli.proofs.RewriteLaws.{of_rewriting}
 use Rattle.npos_cli.proofs.RunLaws.{one_owed}
 use Rattle.npos_cli.proofs.StatusLaws.{of_bundle}
 
@@ -75,6 +76,8 @@ usage_by (Some jobs.Replay) bytes text owes = absurd (not_usage owes.0.faulty ow
   not_usage false e = cc
 usage_by (Some (jobs.OnBundle task)) bytes text owes = absurd (no_usage task bytes (record { text = text; status = statuses.Usage }) owes refl)
 usage_by (Some (jobs.Demo seed voters seats)) bytes text owes = absurd (let e : statuses.Usage ≡ statuses.Done = ap (λ (r : Report). r.status) owes in cc)
+usage_by (Some (jobs.Rewrite way)) bytes text owes =
+    absurd (of_rewriting (λ status. statuses.Usage ≡ status → ⊥) (λ e. cc) (λ e. cc) way bytes text statuses.Usage owes refl)
 
 pub usage_due : (words : List (List ℕ)) (left : Option (List ℕ)) (old new : Option Told) (answer : Status)
     → (IsAnswer answer → Answers words left old new answer) → answer ≡ statuses.Usage → (HasForm words → ⊥) × Delivers old new usage_line

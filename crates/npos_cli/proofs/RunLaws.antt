@@ -22,9 +22,10 @@ use Rattle.npos_cli.specs.declared.job.Task.{Task}
 use Rattle.npos_cli.specs.declared.reading.Election.{Election as bundle_election}
 use Rattle.npos_cli.specs.Bundles.{Report, faulty, read_election, election_in}
 use Rattle.npos_cli.specs.Demo.{demo_report}
+use Rattle.npos_cli.specs.Rewriting.{rewrite_report}
 use Rattle.npos_cli.specs.Tasks.{IsReportOn, IsBundleReport, IsSound}
 use Rattle.npos_cli.specs.Owed.{IsAll, LeftAfter, ReadsUpTo, TakesAtMost, IsDrained, Delivers, DeliversFront, FindsFor, BeginsFor}
-use Rattle.std.specs.Prelude.{option_and_then}
+use Rattle.std.specs.Prelude.{option_map}
 use Rattle.npos_words.specs.declared.command.Command.{Command}
 use Rattle.npos_words.specs.declared.command.Command.TheVariants as commands
 use Rattle.npos_words.specs.declared.command.Miner.{Miner as named_miner}
@@ -62,6 +63,11 @@ one_for (Some (jobs.OnBundle task)) bytes text other status end first second =
     (ap (λ (r : Report). r.text) same, ap (λ (r : Report). r.status) same)
 one_for (Some (jobs.Demo seed voters seats)) bytes text other status end first second =
     let same = first ∙ sym second in (ap (λ (r : Report). r.text) same, ap (λ (r : Report). r.status) same)
+one_for (Some (jobs.Rewrite way)) bytes text other status end first second =
+    let one : Report = record { text = text; status = status } in
+    let two : Report = record { text = other; status = end } in
+    let same : one ≡ two = first ∙ sym second in
+    (ap (λ (r : Report). r.text) same, ap (λ (r : Report). r.status) same)
 
 pub one_owed : (words : List (List ℕ)) (bytes text other : List ℕ) (status end : Status) → Owes words bytes text status → Owes words bytes other end
     → (text ≡ other) × (status ≡ end)
@@ -87,7 +93,7 @@ job_has_rounds words = by (command_of words) (keeps_bounds words) where
   by_miner named.Seq rounds some = tt
   by_miner named.Mms rounds some = some
 
-  by : (command : Option Command) → KeepsBounds command → JobKeepsBounds (option_and_then job_by command)
+  by : (command : Option Command) → KeepsBounds command → JobKeepsBounds (option_map job_by command)
   by None bounds = tt
   by (Some commands.Replay) bounds = tt
   by (Some commands.Check) bounds = tt
@@ -106,6 +112,7 @@ any_owed words bytes are = by (job_of words) (job_has_rounds words) where
       (r.outcome.text, replay_status r.outcome.faulty, (r.outcome, r.is_replay, refl, refl))
   by (Some (jobs.OnBundle task)) some = let r = any_report task some bytes in (r.0.text, r.0.status, r.1)
   by (Some (jobs.Demo seed voters seats)) some = let r = demo_report seed voters seats in (r.text, r.status, refl)
+  by (Some (jobs.Rewrite way)) some = ((rewrite_report way bytes).text, (rewrite_report way bytes).status, refl)
 
 -- ## A bundle
 

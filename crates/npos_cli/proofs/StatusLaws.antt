@@ -34,6 +34,7 @@ use Rattle.npos_cli.specs.Mining.{packed_report, mine_report}
 use Rattle.npos_cli.specs.Tasks.{IsTaskReport, IsReportOn, IsBundleReport}
 use Rattle.npos_cli.specs.Report.{replay_status, IsAnswer}
 use Rattle.npos_cli.specs.Owed.{FindsFor}
+use Rattle.npos_cli.proofs.RewriteLaws.{of_rewriting}
 
 -- what holds of these three holds of the status of each report
 module _ (P : Status → Type 0) (done : P statuses.Done) (no_verdict : P statuses.No) (bad : P statuses.BadInput) where
@@ -97,3 +98,4 @@ found_answers (Some jobs.Replay) left text status finds = subst (λ (s : Status)
 found_answers (Some (jobs.OnBundle task)) left text status finds =
     of_bundle IsAnswer tt tt tt task finds.0 (record { text = text; status = status }) finds.2
 found_answers (Some (jobs.Demo seed voters seats)) left text status finds = subst (λ (s : Status). IsAnswer s) (sym (ap (λ (r : Report). r.status) finds.2)) tt
+found_answers (Some (jobs.Rewrite way)) left text status finds = of_rewriting IsAnswer tt tt way finds.0 text status finds.2

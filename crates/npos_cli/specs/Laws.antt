@@ -1,9 +1,13 @@
 -- What follows for all words and all bytes.
-use Rattle.std.specs.Prelude.{◌≡◌, ℕ, true, List, ◌++◌}
+use Rattle.std.specs.Prelude.{◌≡◌, ◌≤◌, ℕ, true, List, ◌++◌, length, Some}
 use Rattle.scale_wire.specs.declared.fault.Why.TheVariants.{Short}
 use Rattle.scale_wire.specs.Form.{IsBytes}
 use Rattle.npos_cli.specs.declared.status.Status.{Status}
-use Rattle.npos_cli.specs.Report.{Owes}
+use Rattle.npos_cli.specs.declared.status.Status.TheVariants as statuses
+use Rattle.npos_cli.specs.declared.job.Job.TheVariants as jobs
+use Rattle.npos_cli.specs.declared.job.Rewriting.TheVariants as ways
+use Rattle.npos_cli.specs.Verdicts.{most_bundle}
+use Rattle.npos_cli.specs.Report.{JobOwes, Owes}
 use Rattle.npos_cli.specs.Replay.{Machine, Spot, turn, Starts, Reaches, Outcome, IsReplay, IsWhole, IsFront}
 
 -- words and bytes owe at most one text and one status
@@ -14,6 +18,11 @@ OwesOnce = (words : List (List ℕ)) (bytes text other : List ℕ) (status end :
 -- words owe a text and a status for each list of bytes
 abbrev pub OwesAlways : Type 0
 OwesAlways = (words : List (List ℕ)) (bytes : List ℕ) → IsBytes bytes → (text : List ℕ) × (status : Status) × Owes words bytes text status
+
+-- What `pack` writes of a text that `show` wrote is what `show` read, unless the text is too long for a bundle.
+abbrev pub PacksBack : Type 0
+PacksBack = (bytes text : List ℕ) → IsBytes bytes → JobOwes (Some (jobs.Rewrite ways.Show)) bytes text statuses.Done → length text ≤ most_bundle
+    → JobOwes (Some (jobs.Rewrite ways.Pack)) text bytes statuses.Done
 
 -- each byte list has at most one replay
 abbrev pub IsReplayedOnce : {G B S E : Type 0} → Machine G B S E → Type 0

@@ -8,6 +8,7 @@ pub mod Verdicts
 pub mod Bundles
 pub mod Mining
 pub mod Tasks
+pub mod Rewriting
 pub mod Report
 pub mod Owed
 pub mod Ahead

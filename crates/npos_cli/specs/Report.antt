@@ -11,6 +11,7 @@ use Rattle.npos_cli.specs.Replay.{Outcome, IsReplay}
 use Rattle.npos_cli.specs.Chain.{npos_machine}
 use Rattle.npos_cli.specs.Tasks.{IsBundleReport}
 use Rattle.npos_cli.specs.Demo.{demo_report}
+use Rattle.npos_cli.specs.Rewriting.{rewrite_report}
 
 -- a replay is done, unless it ends with a fault line
 abbrev pub replay_status : Bool → Status
@@ -24,6 +25,7 @@ JobOwes (Some jobs.Replay) bytes text status =
     (out : Outcome Chain Election) × IsReplay npos_machine bytes out × (text ≡ out.text) × (status ≡ replay_status out.faulty)
 JobOwes (Some (jobs.OnBundle task)) bytes text status = IsBundleReport task bytes (record { text = text; status = status })
 JobOwes (Some (jobs.Demo seed voters seats)) bytes text status = record { text = text; status = status } ≡ demo_report seed voters seats
+JobOwes (Some (jobs.Rewrite way)) bytes text status = record { text = text; status = status } ≡ rewrite_report way bytes
 
 abbrev pub Owes : List (List ℕ) → List ℕ → List ℕ → Status → Type 0
 Owes words = JobOwes (job_of words)
@@ -34,6 +36,7 @@ ReadsInput None = ⊥
 ReadsInput (Some jobs.Replay) = ⊤
 ReadsInput (Some (jobs.OnBundle task)) = ⊤
 ReadsInput (Some (jobs.Demo seed voters seats)) = ⊥
+ReadsInput (Some (jobs.Rewrite way)) = ⊤
 
 -- whether a job reads a bundle
 abbrev pub ReadsBundle : Option Job → Type 0
@@ -41,6 +44,7 @@ ReadsBundle None = ⊥
 ReadsBundle (Some jobs.Replay) = ⊥
 ReadsBundle (Some (jobs.OnBundle task)) = ⊤
 ReadsBundle (Some (jobs.Demo seed voters seats)) = ⊥
+ReadsBundle (Some (jobs.Rewrite way)) = ⊤
 
 -- a status that answers what is owed; the others say that the run was cut off
 abbrev pub IsAnswer : Status → Type 0

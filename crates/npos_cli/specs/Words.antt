@@ -1,5 +1,5 @@
 -- The words of a call of the program: the job that they ask for, and what is written where they ask for none.
-use Rattle.std.specs.Prelude.{⊤, ℕ, ◌≤◌, List, ◌++◌, codes, Option, Some, None, option_and_then, IsSome}
+use Rattle.std.specs.Prelude.{⊤, ℕ, ◌≤◌, List, ◌++◌, codes, Option, Some, None, option_map, IsSome}
 use Rattle.npos_words.specs.declared.command.Command.{Command}
 use Rattle.npos_words.specs.declared.command.Command.TheVariants as commands
 use Rattle.npos_words.specs.declared.command.Miner.{Miner as named_miner}
@@ -11,6 +11,7 @@ use Rattle.npos_cli.specs.declared.job.Task.{Task}
 use Rattle.npos_cli.specs.declared.job.Task.TheVariants as tasks
 use Rattle.npos_cli.specs.declared.job.Miner.{Miner}
 use Rattle.npos_cli.specs.declared.job.Miner.TheVariants as miners
+use Rattle.npos_cli.specs.declared.job.Rewriting.TheVariants as ways
 use Rattle.npos_cli.specs.Texts.{newline}
 
 -- the miner that a command names; the rounds are those of PHRAGMMS alone
@@ -19,17 +20,16 @@ miner_by named.Fill rounds = miners.Fill
 miner_by named.Seq rounds = miners.Seq
 miner_by named.Mms rounds = miners.Mms rounds
 
--- the job of a command; `pack` and `show` have none yet
-abbrev pub job_by : Command → Option Job
-job_by commands.Replay = Some jobs.Replay
-job_by commands.Check = Some (jobs.OnBundle tasks.Check)
-job_by (commands.Mine miner rounds) = Some (jobs.OnBundle (tasks.Mine (miner_by miner rounds)))
-job_by commands.Pack = None
-job_by commands.Show = None
-job_by (commands.Demo seed voters seats) = Some (jobs.Demo seed voters seats)
+abbrev pub job_by : Command → Job
+job_by commands.Replay = jobs.Replay
+job_by commands.Check = jobs.OnBundle tasks.Check
+job_by (commands.Mine miner rounds) = jobs.OnBundle (tasks.Mine (miner_by miner rounds))
+job_by commands.Pack = jobs.Rewrite ways.Pack
+job_by commands.Show = jobs.Rewrite ways.Show
+job_by (commands.Demo seed voters seats) = jobs.Demo seed voters seats
 
 abbrev pub job_of : List (List ℕ) → Option Job
-job_of words = option_and_then job_by (command_of words)
+job_of words = option_map job_by (command_of words)
 
 -- the words ask for a job
 abbrev pub HasForm : List (List ℕ) → Type 0
@@ -50,6 +50,7 @@ abbrev pub KeepsBounds : Option Job → Type 0
 KeepsBounds None = ⊤
 KeepsBounds (Some jobs.Replay) = ⊤
 KeepsBounds (Some (jobs.OnBundle task)) = TaskHasRounds task
+KeepsBounds (Some (jobs.Rewrite way)) = ⊤
 KeepsBounds (Some (jobs.Demo seed voters seats)) = (1 ≤ voters) × (voters ≤ 16384) × (1 ≤ seats) × (seats ≤ 512)
 
 abbrev pub usage_line : List ℕ

@@ -11,8 +11,19 @@ pub enum Job {
     Replay,
     /// To read a bundle and to report on it.
     OnBundle(Task),
+    /// To read a bundle and to write it in its other form.
+    Rewrite(Rewriting),
     /// To report on the election that the seed generates. Nothing is read.
     Demo { seed: u64, voters: u32, seats: u32 },
+}
+
+/// The form in which a bundle is written.
+#[derive(Clone, Copy, Debug, PartialEq, Eq)]
+pub enum Rewriting {
+    /// In SCALE; it is read in JSON.
+    Pack,
+    /// In JSON; it is read in SCALE.
+    Show,
 }
 
 /// What is to be reported of a bundle.
@@ -47,23 +58,24 @@ fn miner_of(miner: words::Miner, rounds: u32) -> Miner
     }
 }
 
-/// The job of a command, where there is one yet.
-pub fn job_of(command: Command) -> Option<Job>
+/// The job of a command.
+pub fn job_of(command: Command) -> Job
     ensures { result ≡ job_by command }
 {
     match command {
-        Command::Replay => Some(Job::Replay),
-        Command::Check => Some(Job::OnBundle(Task::Check)),
-        Command::Mine { miner, rounds } => Some(Job::OnBundle(Task::Mine(miner_of(miner, rounds)))),
+        Command::Replay => Job::Replay,
+        Command::Check => Job::OnBundle(Task::Check),
+        Command::Mine { miner, rounds } => Job::OnBundle(Task::Mine(miner_of(miner, rounds))),
+        Command::Pack => Job::Rewrite(Rewriting::Pack),
+        Command::Show => Job::Rewrite(Rewriting::Show),
         Command::Demo {
             seed,
             voters,
             seats,
-        } => Some(Job::Demo {
+        } => Job::Demo {
             seed,
             voters,
             seats,
-        }),
-        Command::Pack | Command::Show => None,
+        },
     }
 }

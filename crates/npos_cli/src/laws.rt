@@ -6,7 +6,7 @@ ghost use Rattle.election_check.specs.Seats.{IsReordered};
 ghost use Rattle.npos_cli.specs.Chain.{npos_machine};
 ghost use Rattle.npos_cli.specs.Headline.{SeatsAreSound};
 ghost use Rattle.npos_cli.specs.Crowding.{NoneIsCrowdedOut};
-ghost use Rattle.npos_cli.specs.Laws.{OwesOnce, OwesAlways, IsReplayedOnce, IsAlwaysReplayed, IsWholeOnce, IsAlwaysWhole, BeginsWithWhole, WholeGrows, FaultsStand};
+ghost use Rattle.npos_cli.specs.Laws.{OwesOnce, OwesAlways, PacksBack, IsReplayedOnce, IsAlwaysReplayed, IsWholeOnce, IsAlwaysWhole, BeginsWithWhole, WholeGrows, FaultsStand};
 
 use election_check::{Checker, Elected};
 use npos_runtime::laws::{every_seated_committee_is_sound, nothing_valid_is_crowded_out_for_free};
@@ -33,6 +33,12 @@ pub fn replays_crowd_nothing_out()
 pub fn one_answer()
     ensures one { OwesOnce }
     ensures any { OwesAlways }
+{}
+
+/// Packing what was shown gives back the bytes that were shown, where the text has at most as many
+/// bytes as a bundle may have.
+pub fn what_is_shown_packs_back()
+    ensures { PacksBack }
 {}
 
 /// No bytes have two replays: text, end and last state are determined by them.

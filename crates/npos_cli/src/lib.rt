@@ -17,6 +17,9 @@ mod pieces;
 pub mod promises;
 mod reading;
 mod replaying;
+#[cfg(test)]
+mod rewrite_tests;
+mod rewriting;
 mod status;
 #[cfg(test)]
 mod stream_tests;

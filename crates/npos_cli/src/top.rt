@@ -28,6 +28,7 @@ use crate::job::{Job, Task, job_of};
 use crate::laws::{replays_crowd_nothing_out, replays_seat_sound_committees};
 use crate::reading::MOST_BUNDLE;
 use crate::replaying::replay;
+use crate::rewriting::rewrite;
 use crate::tasks::answer_bytes;
 use npos_base::{Failed, NoMemory, Sink, Source};
 use npos_words::command_of;
@@ -135,6 +136,7 @@ fn run_job<S: Source, K: Sink>(
             Err(status) => status,
         },
         Some(Job::OnBundle(task)) => report(alloc, source, sink, task),
+        Some(Job::Rewrite(way)) => rewrite(alloc, source, sink, way),
         Some(
             Job::Demo {
                 seed,
@@ -161,7 +163,7 @@ fn run_words<S: Source, K: Sink>(
         → result ≢ Status.NoMemory }
 {
     match command_of(alloc, words) {
-        Ok(command) => run_job(alloc, command.and_then(job_of), source, sink),
+        Ok(command) => run_job(alloc, command.map(job_of), source, sink),
         Err(NoMemory) => Status::NoMemory,
     }
 }

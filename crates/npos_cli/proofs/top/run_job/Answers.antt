@@ -1,6 +1,6 @@
 use Rattle.std.proofs.Common.{rules, ◌≡◌, Some, refl}
 use Rattle.npos_cli.specs.declared.job.Job.TheVariants as jobs
-use Rattle.npos_cli.proofs.JobLaws.{usage_ran, demo_ran, report_ran, replay_ran, replay_halted}
+use Rattle.npos_cli.proofs.JobLaws.{usage_ran, demo_ran, report_ran, rewrite_ran, replay_ran, replay_halted}
 use Rattle.npos_cli.proofs.top.run_job.Goals as goal
 
 pub returns-in-None-clause-ran : goal.returns-in-None-clause-ran
@@ -36,3 +36,11 @@ returns-in-Some-Demo-clause-ran g c =
     rw job (demo_ran c.in-Some-Demo.seed c.in-Some-Demo.voters c.in-Some-Demo.seats (g.S.Source.left c.args.source.now) (g.K.Sink.told c.args.sink.now) (g.K.Sink.told c.tell_demo.new.sink)
     (g.S.Source.faults c.args.source.now) (g.K.Sink.faults c.args.sink.now) (g.K.Sink.faults c.tell_demo.new.sink) (c.args.source.now ≡ c.args.source.now) (c.tell_demo.new.sink ≡ c.args.sink.now)
     c.tell_demo.result refl c.tell_demo.ensures.ends c.tell_demo.ensures.writes)
+
+pub returns-in-Some-Rewrite-clause-ran : goal.returns-in-Some-Rewrite-clause-ran
+returns-in-Some-Rewrite-clause-ran g c =
+    let job : c.args.job ≡ Some (jobs.Rewrite c.in-Some-Rewrite.way) = search rules in
+    rw job (rewrite_ran c.in-Some-Rewrite.way (g.S.Source.left c.args.source.now) (g.S.Source.left c.rewrite.new.source) (g.K.Sink.told c.args.sink.now) (g.K.Sink.told c.rewrite.new.sink)
+    (g.S.Source.faults c.args.source.now) (g.S.Source.faults c.rewrite.new.source) (g.K.Sink.faults c.args.sink.now) (g.K.Sink.faults c.rewrite.new.sink) (c.rewrite.new.source ≡ c.args.source.now)
+    (c.rewrite.new.sink ≡ c.args.sink.now) c.rewrite.result c.rewrite.ensures.answers c.rewrite.ensures.front c.rewrite.ensures.reads c.rewrite.ensures.writes c.rewrite.ensures.unwritten
+    c.rewrite.ensures.unflushed c.rewrite.ensures.drained c.rewrite.ensures.few)

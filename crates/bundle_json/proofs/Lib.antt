@@ -1,0 +1,10 @@
+pub mod Lists
+pub mod Appending
+pub mod Figures
+pub mod Bytes
+pub mod Readings
+pub mod RangeLemmas
+pub mod BackLemmas
+pub mod LineLemmas
+pub mod KeptLemmas
+pub mod Rereading

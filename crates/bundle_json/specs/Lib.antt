@@ -1,0 +1,4 @@
+pub mod Json
+pub mod Shape
+pub mod Text
+pub mod Laws
