@@ -14,7 +14,9 @@ use Rattle.stake_ledger.specs.Calls.{endowed}
 use Rattle.stake_ledger.proofs.KeepLemmas.{balanced_endowed}
 use Rattle.npos_runtime.specs.declared.begin.GenesisFault.{GenesisFault}
 use Rattle.npos_runtime.specs.declared.begin.GenesisFault.TheVariants.{RepeatedAccount, TooMuch}
-use Rattle.npos_runtime.specs.Genesis.{endowment_sum, endowed_all, endowment_fault, is_endowed, genesis_fault, genesis_chain, params_fault, numbers_fault, threshold_fault, limits_fault, is_within}
+use Rattle.era_book.specs.Eras.{first_era}
+use Rattle.npos_runtime.proofs.EraLemmas.{era_first}
+use Rattle.npos_runtime.specs.Genesis.{params_of, endowment_sum, endowed_all, endowment_fault, is_endowed, genesis_fault, genesis_chain, params_fault, numbers_fault, threshold_fault, limits_fault, is_within}
 use Rattle.npos_runtime.specs.declared.begin.GenesisFault.TheVariants.{BadThreshold, BadQueue, BadSolutionMax}
 use Rattle.npos_base.specs.Account.{same_account}
 use Rattle.stake_ledger.specs.declared.row.Row.{Row}
@@ -89,6 +91,7 @@ begun_chain params endowments = record {
   queue = empty_queue (places_of params);
   next = 1;
   waiting = None;
+  eras = first_era;
   due = 1;
 }
 
@@ -128,7 +131,10 @@ made_live params endowments sound none =
       listing = record { listed = λ who. refl; once = λ who. omega arith; numbered = λ k d few. absurd (omega arith) };
       roles = record { rising = nobody_rises; ranked = refl; few = omega arith };
       nominations = λ who. record { few = omega arith; distinct = refl };
+      commissions = λ who. omega arith;
       round = tt;
+      noted = tt;
+      waiting = tt;
       queue = places_ordered params sound;
       deposits = record { held = is.unheld; known = λ k d few. absurd (omega arith) };
     }
@@ -139,9 +145,9 @@ live_begun (Full endowments params) none =
     let both = first_none (endowment_fault [] endowments) (params_fault params) none in
     made_live (Some params) endowments both.1 both.0
 
--- and no number was given yet
+-- no number was given yet, and era 0 is the current one
 pub ready_begun : (genesis : Genesis) → genesis_fault genesis ≡ None → IsReady (genesis_chain genesis)
-ready_begun genesis none = record { live = live_begun genesis none; numbered = omega arith }
+ready_begun genesis none = record { live = live_begun genesis none; numbered = omega arith; era = sym (era_first (params_of genesis)) }
 
 rising_none : (place before : ℕ) (thresholds : List ℕ) → threshold_fault place before thresholds ≡ None → IsRisingFrom before thresholds
 rising_none place before [] e = tt

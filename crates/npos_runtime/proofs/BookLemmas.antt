@@ -1,6 +1,8 @@
 -- The books of a chain, while deposits are held, returned and burned.
-use Rattle.std.proofs.Common.{◌≡◌, ℕ, zero, suc, ◌+◌, ◌-◌, ◌≤◌, min, Bool, true, false, is_some, All, List, [], ◌∷◌, ◌++◌, take, drop, refl, sym, ◌∙◌, ap, subst, arith, ◌==◌, if◌then◌else◌, IsPermutation}
+use Rattle.std.proofs.Common.{◌≡◌, ℕ, zero, suc, ◌+◌, ◌-◌, ◌≤◌, min, Bool, true, false, not, nat_lt, get_or, Some, None, is_some, All, List, [], ◌∷◌, ◌++◌, take, drop, refl, sym, ◌∙◌, ap, subst, arith, ◌==◌, if◌then◌else◌, IsPermutation}
 use Rattle.std.proofs.lemmas.Grind.{common_steps}
+use Rattle.std.proofs.lemmas.List.Sums.{sum_by-cons}
+use Rattle.std.proofs.lemmas.List.Elements.{All-cons, All-head, All-tail}
 use Rattle.std.proofs.lemmas.List.{append-nil, take-append-drop}
 use Rattle.std.specs.List.{prefix_len}
 use Rattle.std.proofs.lemmas.List.Sorted.{All-permutation, sum_by-IsPermutation}
@@ -11,12 +13,19 @@ use Rattle.stake_ledger.specs.declared.chunks.Chunk.{Chunk}
 use Rattle.stake_ledger.specs.Rows as rows
 use Rattle.stake_ledger.specs.Rows.{worth}
 use Rattle.stake_ledger.specs.Ledger.{Ledger, row_at, row_of, changed, total, IsBalanced}
-use Rattle.stake_ledger.specs.Calls.{deposit_held, deposit_returned, deposit_burned, minted_free, room_of}
+use Rattle.stake_ledger.specs.Chunks.{without_first}
+use Rattle.stake_ledger.specs.Rows.{is_bonded}
+use Rattle.stake_ledger.specs.Calls.{deposit_held, deposit_returned, deposit_burned, minted_free, room_of, slashed, slash_amount}
+use Rattle.stake_ledger.specs.declared.call.RowCall.TheVariants as row_calls
+use Rattle.stake_ledger.specs.declared.refusal.LedgerRefusal.TheVariants.{NotBonded}
 use Rattle.stake_ledger.proofs.LedgerLemmas.{schedule_at, total-changed, ordered-changed, schedules-changed}
-use Rattle.stake_ledger.proofs.KeepLemmas.{balanced_minted}
-use Rattle.stake_ledger.proofs.AccountLemmas.{row_at-changed, row_at-returned, row_at-burned, row_at-minted}
+use Rattle.stake_ledger.proofs.KeepLemmas.{balanced_minted, balanced_called}
+use Rattle.stake_ledger.proofs.AccountLemmas.{row_at-changed, row_at-returned, row_at-burned, row_at-minted, row_at-slashed, known-slashed}
 use Rattle.submission_queue.specs.declared.submission.Submission.{Submission}
 use Rattle.election_snapshot.specs.Snapshot.{Snapshot}
+use Rattle.era_book.specs.declared.exposure.Backer.{Backer}
+use Rattle.era_book.specs.Exposures.{amount_sum}
+use Rattle.npos_runtime.specs.Offices.{all_minted}
 use Rattle.npos_runtime.specs.Decision.{fails, losers, others, reward_in, rewarded, paid_out, books_decided}
 use Rattle.npos_runtime.specs.Deposits.{AreHeld, deposits_of, returned, burned, all_returned, all_burned}
 use Rattle.npos_runtime.proofs.DepositLemmas.{held_within, held_returned, held_burned, held_minted, held_more}
@@ -66,6 +75,21 @@ held_moved book old new moved are = record {
   held = λ who. are.held who ∙ sym (sum_by-IsPermutation (λ (item : Submission). if same_account who item.who then item.deposit else 0) old new moved);
   known = All-permutation (λ (item : Submission). is_some (row_of book item.who) ≡ true) old new moved are.known;
 }
+
+-- what is taken of the first chunks leaves no later release
+without_first_by : (release amount : ℕ) (chunks : List Chunk) → All (λ (chunk : Chunk). chunk.release ≤ release) chunks
+    → All (λ (chunk : Chunk). chunk.release ≤ release) (without_first amount chunks)
+without_first_by release amount [] by = by
+without_first_by release amount (chunk ∷ later) by =
+    at (nat_lt amount chunk.value) (All-head IsBy chunk later by) (All-tail IsBy chunk later by) (without_first_by release (amount - chunk.value) later) where
+      IsBy : Chunk → Type 0
+      IsBy = λ (c : Chunk). c.release ≤ release
+
+      at : (b : Bool) → chunk.release ≤ release → All (λ (c : Chunk). c.release ≤ release) later
+          → (All (λ (c : Chunk). c.release ≤ release) later → All (λ (c : Chunk). c.release ≤ release) (without_first (amount - chunk.value) later))
+          → All (λ (c : Chunk). c.release ≤ release) (if b then record chunk { value = chunk.value - amount } ∷ later else without_first (amount - chunk.value) later)
+      at true here rest next = All-cons IsBy (record chunk { value = chunk.value - amount }) later here rest
+      at false here rest next = next rest
 
 module _ (release : ℕ) where
   pub books_returned : (book : Ledger) (item : Submission) (rest : List Submission) → AreBooks release (item ∷ rest) book → AreBooks release rest (returned book item)
@@ -133,3 +157,37 @@ module _ (release : ℕ) where
       books_paid reward (others snapshot items) (all_burned (losers snapshot items) book)
       (all_books_burned (losers snapshot items) (others snapshot items) book
       (subst (λ xs. AreBooks release xs book) (sym (take-append-drop (prefix_len (fails snapshot) items) items)) are))
+
+  -- what is paid is minted line by line
+  pub all_books_minted : (lines : List Backer) (items : List Submission) (book : Ledger) → amount_sum lines ≤ room_of book → AreBooks release items book
+      → AreBooks release items (all_minted lines book)
+  all_books_minted [] items book within are = are
+  all_books_minted (line ∷ more) items book within are =
+      let whole = sum_by-cons (λ (l : Backer). l.amount) line more in
+      all_books_minted more items (minted_free line.who line.amount book) (omega (arith, whole, within))
+      (books_minted book line.who line.amount items (omega (arith, whole, within)) are)
+
+  pub books_slashed : (book : Ledger) (who : AccountId) (amount : ℕ) (items : List Submission) → AreBooks release items book
+      → AreBooks release items (slashed who amount book)
+  books_slashed book who amount items are = record {
+    balanced = balanced (is_bonded (row_at book who)) refl;
+    releases = λ q. first_by (row_at book q) (row_at (slashed who amount book) q) (same_account q who) (row_at-slashed who amount book q are.balanced) (are.releases q);
+    deposits = record {
+      held = λ q. still (row_at book q) (row_at (slashed who amount book) q) (same_account q who) (row_at-slashed who amount book q are.balanced) ∙ are.deposits.held q;
+      known = λ k d few. known-slashed who amount book (get_or items k d).who ∙ are.deposits.known k d few;
+    };
+  } where
+    balanced : (bonded : Bool) → is_bonded (row_at book who) ≡ bonded
+        → IsBalanced (if not bonded then book else record (changed who (rows.slashed_row amount) book) { burned = book.burned + slash_amount (row_at book who) amount })
+    balanced false e = are.balanced
+    balanced true e = balanced_called who (row_calls.Slash amount) book are.balanced tt (ap (λ (b : Bool). if not b then Some NotBonded else None) e)
+
+    first_by : (old new : Row) (b : Bool) → new ≡ (if b then rows.slashed_row amount old else old)
+        → All (λ (chunk : Chunk). chunk.release ≤ release) old.chunks → All (λ (chunk : Chunk). chunk.release ≤ release) new.chunks
+    first_by old new true is by =
+        subst (All (λ (chunk : Chunk). chunk.release ≤ release)) (sym (ap (λ (row : Row). row.chunks) is)) (without_first_by release (amount - old.active) old.chunks by)
+    first_by old new false is by = subst (All (λ (chunk : Chunk). chunk.release ≤ release)) (sym (ap (λ (row : Row). row.chunks) is)) by
+
+    still : (old new : Row) (b : Bool) → new ≡ (if b then rows.slashed_row amount old else old) → new.held ≡ old.held
+    still old new true is = ap (λ (row : Row). row.held) is
+    still old new false is = ap (λ (row : Row). row.held) is

@@ -54,53 +54,10 @@ use Rattle.npos_runtime.specs.Live.{IsLive, AreSound}
 use Rattle.npos_runtime.specs.Offers.{is_offered, offer_of, offers_in, offers_by, before_calls, LosesTo, FillsAfter, IsNoneCrowdedOut}
 use Rattle.npos_runtime.specs.Laws.{CrowdingLaw as RoundsLaw}
 use Rattle.npos_runtime.proofs.DecisionLemmas.{winner_holds, fails_first, holds_first}
-use Rattle.npos_runtime.proofs.LiveLemmas.{live_before, due_before, live_call, live_step, live_blocks, due_step, due_calls}
+use Rattle.npos_runtime.proofs.LiveLemmas.{live_before, due_before, live_call, live_step, live_blocks, due_step, due_calls, fixed_calls, params_decision}
 use Rattle.npos_runtime.proofs.BeginLemmas.{live_begun}
-use Rattle.npos_runtime.proofs.LawLemmas.{undecided, phases_sound, decides}
-
--- ## From a block to the next
-
--- the next block stands behind in the same era, or begins the next one
-pub next_place : (params : Params) (due : ℕ) → 1 ≤ params.era_blocks → 1 ≤ due
-    → ((place_of params (due + 1) ≡ place_of params due + 1) × (era_of (Some params) (due + 1) ≡ era_of (Some params) due))
-    ⊎ ((place_of params due + 1 ≡ params.era_blocks) × (era_of (Some params) (due + 1) ≡ era_of (Some params) due + 1))
-next_place params due some from = at (nat_lt (suc rest) k) refl where
-  k : ℕ
-  k = params.era_blocks
-
-  n : ℕ
-  n = due - 1
-
-  rest : ℕ
-  rest = n % k
-
-  ahead : due + 1 - 1 ≡ suc n
-  ahead = omega (arith, from)
-
-  whole : n / k * k + rest ≡ n
-  whole = div-add-mod' n k
-
-  below : rest < k
-  below = mod-lt n some
-
-  at : (b : Bool) → nat_lt (suc rest) k ≡ b
-      → ((place_of params (due + 1) ≡ rest + 1) × (era_of (Some params) (due + 1) ≡ n / k)) ⊎ ((rest + 1 ≡ k) × (era_of (Some params) (due + 1) ≡ n / k + 1))
-  at true e =
-      let less : suc rest < k = grind (arith, nat_tests) in
-      let one : suc rest ≡ rest + 1 = omega arith in
-      let sum : suc n ≡ n / k * k + suc rest = omega (arith, whole) in
-      inl (
-        ap (λ m. m % k) ahead ∙ (suc-mod n k ∙ (mod-eq_of_lt less ∙ one)),
-        ap (λ m. m / k) ahead ∙ (ap (λ m. m / k) sum ∙ div-mul-add (n / k) k (suc rest) less),
-      )
-  at false e =
-      let full : suc rest ≡ k = (let less = below in grind (arith, nat_tests)) in
-      let sum : suc n ≡ n / k * k + k = omega (arith, whole, full) in
-      let more : n / k * k + k ≡ (n / k + 1) * k + 0 = omega arith in
-      inr (
-        omega (arith, full),
-        ap (λ m. m / k) ahead ∙ (ap (λ m. m / k) (sum ∙ more) ∙ div-mul-add (n / k + 1) k 0 some),
-      )
+use Rattle.npos_runtime.proofs.LawLemmas.{undecided, decides}
+use Rattle.npos_runtime.proofs.EraLemmas.{next_place, phases_sound}
 
 -- ## The queue of a round
 
@@ -362,7 +319,8 @@ module _ (params : Params) (sound : params_fault params ≡ None) (number : ℕ)
     at (Some refusals.WrongPhase) e = out refusals.WrongPhase refl
     at (Some refusals.WrongRound) e = out refusals.WrongRound refl
     at (Some refusals.SolutionTooLong) e = out refusals.SolutionTooLong refl
-    at (Some refusals.NotBuilt) e = out refusals.NotBuilt refl
+    at (Some (refusals.Era refusal)) e = out (refusals.Era refusal) refl
+    at (Some refusals.NotRoot) e = out refusals.NotRoot refl
 
   -- what any other call does
   other_after : (due : Option Refusal) (index : ℕ) (call : Call) (chain : Chain) (offers : List Submission) → IsNow chain offers
@@ -599,49 +557,11 @@ module _ (packed : PackedYesIsAccepting) (chain : Chain) (block : Block) (round 
 
 -- ## From the genesis on
 
-params_done : (chain : Chain) (who : AccountId) (kind : CallKind) → (done_of chain who kind).params ≡ chain.params
-unfolding done_of
-params_done chain who (kinds.Transfer to value) = refl
-params_done chain who (kinds.Bond value) = refl
-params_done chain who (kinds.BondExtra value) = refl
-params_done chain who (kinds.Unbond value) = refl
-params_done chain who (kinds.Rebond value) = refl
-params_done chain who kinds.Withdraw = refl
-params_done chain who (kinds.Nominate targets) = refl
-params_done chain who (kinds.Validate commission) = refl
-params_done chain who kinds.Chill = refl
-params_done chain who (kinds.Rebag whom) = refl
-params_done chain who (kinds.PutInFront lighter) = refl
-params_done chain who (kinds.Submit round claim bytes) = refl
-params_done chain who (kinds.Points given) = refl
-params_done chain who (kinds.Payout era validator) = refl
-params_done chain who (kinds.Offence era validator fraction) = refl
-
-params_after : (due : Option Refusal) (index : ℕ) (call : Call) (chain : Chain) → (call_after due index call chain).state.params ≡ chain.params
-params_after None index call chain = params_done chain call.who call.kind
-params_after (Some refusal) index call chain = refl
-
-params_calls : (index : ℕ) (calls : List Call) (chain : Chain) → (calls_outcome index calls chain).state.params ≡ chain.params
-params_calls index [] chain = refl
-params_calls index (call ∷ calls) chain =
-    params_calls (index + 1) calls (call_outcome index call chain).state ∙ params_after (stop_of chain call.who call.kind) index call chain
-
-params_decided : (round : Option Round) (chain : Chain) → (decision_of round chain).state.params ≡ chain.params
-params_decided None chain = refl
-params_decided (Some (rounds.Void number)) chain = refl
-params_decided (Some (rounds.Open number snapshot commissions)) chain = refl
-
-params_decision : (chain : Chain) → (decision_phase chain).state.params ≡ chain.params
-params_decision chain = at (is_decision chain.params chain.due) where
-  at : (b : Bool) → (if b then decision_of chain.round chain else quiet chain).state.params ≡ chain.params
-  at true = params_decided chain.round chain
-  at false = refl
-
 params_blocks : (chain : Chain) (blocks : List Block) → (after_blocks chain blocks).params ≡ chain.params
 params_blocks chain [] = refl
 params_blocks chain (block ∷ more) =
     params_blocks (step chain block).state more
-    ∙ (params_calls 0 block.calls (before_calls chain) ∙ params_decision (undecided chain))
+    ∙ ((fixed_calls 0 block.calls (before_calls chain)).params ∙ params_decision (undecided chain))
 
 pub none_crowded_out : PackedYesIsAccepting → RoundsLaw
 none_crowded_out packed (geneses.Plain endowments) blocks block sound fit round snapshot commissions item is stands among holds_up =

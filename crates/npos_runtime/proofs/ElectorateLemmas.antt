@@ -11,7 +11,7 @@ use Rattle.npos_base.specs.declared.account.AccountId.{AccountId}
 use Rattle.npos_base.specs.Account.{account_cmp, same_account}
 use Rattle.npos_base.proofs.AccountOrder.{account_total, account_apart, same_exact, same_itself}
 use Rattle.block_wire.specs.declared.genesis.Params.{Params}
-use Rattle.voter_lists.specs.Roles.{validators_of}
+use Rattle.voter_lists.specs.Roles.{RoleList, role_of, validators_of}
 use Rattle.voter_lists.specs.Bags.{walk}
 use Rattle.voter_lists.specs.Ranked.{AreRanked}
 use Rattle.voter_lists.proofs.ValidatorLemmas.{validators_rise}
@@ -24,9 +24,11 @@ use Rattle.npos_runtime.specs.declared.begin.GenesisFault.{GenesisFault}
 use Rattle.npos_runtime.specs.declared.round.Round.{Round}
 use Rattle.npos_runtime.specs.declared.round.Round.TheVariants as rounds
 use Rattle.npos_runtime.specs.Genesis.{params_fault, numbers_fault, limits_fault, threshold_fault, is_within}
-use Rattle.npos_runtime.specs.Ballots.{active_of, votes_of, is_eligible, ballot_of, seats_of, snapshot_of, commissions_of}
+use Rattle.std.proofs.lemmas.List.Elements.{All-nil, All-cons}
+use Rattle.npos_runtime.specs.Ballots.{active_of, votes_of, is_eligible, ballot_of, seats_of, snapshot_of, commission_in, commissions_of}
 use Rattle.npos_runtime.specs.Rounds.{is_few, is_poor, round_now}
-use Rattle.npos_runtime.specs.Live.{IsLive, IsSoundRound, AreSound}
+use Rattle.npos_base.specs.declared.limits.TheConstants.{WHOLE_FRACTION}
+use Rattle.npos_runtime.specs.Live.{IsLive, IsSoundRound, IsNotedRound, AreSound}
 use Rattle.npos_runtime.specs.Polling.{IsPolled, polled}
 use Rattle.npos_runtime.proofs.StepLemmas.{polled_next, polled_first, polled_full, polled_through}
 use Rattle.npos_runtime.proofs.VoterLemmas.{no_fault}
@@ -174,3 +176,22 @@ sound_round chain number live = at (is_few (snapshot_of chain)) (is_poor (snapsh
         targets_enough = ltb-false (length (snapshot_of chain).targets) (snapshot_of chain).seats f;
         total_enough = ltb-false (total_of (snapshot_of chain).voters) ((snapshot_of chain).seats * (snapshot_of chain).seats) p;
       }
+
+-- ## Commissions
+
+commissions_within : (roles : RoleList) (accounts : List AccountId) → ((who : AccountId) → commission_in (role_of roles who) ≤ WHOLE_FRACTION)
+    → All (λ commission. commission ≤ WHOLE_FRACTION) (map (λ who. commission_in (role_of roles who)) accounts)
+commissions_within roles [] each = All-nil (λ (commission : ℕ). commission ≤ WHOLE_FRACTION)
+commissions_within roles (account ∷ accounts) each =
+    All-cons (λ (commission : ℕ). commission ≤ WHOLE_FRACTION) (commission_in (role_of roles account)) (map (λ who. commission_in (role_of roles who)) accounts)
+    (each account) (commissions_within roles accounts each)
+
+-- a round that begins is void, or notes a commission for each target
+pub noted_round : (chain : Chain) (number : ℕ) → IsLive chain → IsNotedRound (Some (round_now chain number))
+noted_round chain number live = at (is_few (snapshot_of chain) || is_poor (snapshot_of chain)) where
+  at : (void : Bool) → IsNotedRound (Some (if void then rounds.Void number else rounds.Open number (snapshot_of chain) (commissions_of chain.roles)))
+  at true = tt
+  at false = record {
+    count = same_length (λ who. commission_in (role_of chain.roles who)) (validators_of chain.roles);
+    within = commissions_within chain.roles (validators_of chain.roles) live.commissions;
+  }

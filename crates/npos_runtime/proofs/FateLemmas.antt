@@ -11,7 +11,11 @@ use Rattle.block_wire.specs.declared.call.Call.{Call}
 use Rattle.block_wire.specs.declared.block.Block.{Block}
 use Rattle.block_wire.specs.declared.genesis.Genesis.{Genesis}
 use Rattle.npos_base.specs.declared.account.AccountId.{AccountId}
-use Rattle.stake_ledger.specs.Ledger.{Ledger}
+use Rattle.stake_ledger.specs.Ledger.{Ledger, row_at}
+use Rattle.stake_ledger.specs.Calls.{slash_amount}
+use Rattle.era_book.specs.declared.exposure.Backer.{Backer}
+use Rattle.era_book.specs.Calls.{slash_in}
+use Rattle.npos_runtime.specs.Offices.{payout_now, payout_told, paid_line, slash_told, slashed_once, slashes, offence_told}
 use Rattle.election_snapshot.specs.Snapshot.{Snapshot}
 use Rattle.weight_book.specs.Weights.{Weights}
 use Rattle.submission_queue.specs.declared.submission.Submission.{Submission}
@@ -174,6 +178,28 @@ module _ (number : ℕ) where
         ap {B = ℕ} (λ (n : ℕ). cond (n == number) 1 0) given,
       )
 
+  -- payouts and slashes settle nothing
+  payments_settle : (paid : List Backer) → fate number (map paid_line paid) ≡ 0
+  payments_settle [] = refl
+  payments_settle (line ∷ more) = omega (arith, settled_more (paid_line line) (map paid_line more), payments_settle more)
+
+  slash_settles : (who : AccountId) (taken : ℕ) → fate number (slash_told who taken) ≡ 0
+  slash_settles who taken = at (taken == 0) where
+    at : (b : Bool) → fate number (if b then [] else lines.Slashed who taken ∷ []) ≡ 0
+    at true = refl
+    at false = refl
+
+  slashes_settle : (dues : List Backer) (chain : Chain) → fate number (slashes dues chain).lines ≡ 0
+  slashes_settle [] chain = refl
+  slashes_settle (due ∷ more) chain =
+      let taken : ℕ = slash_amount (row_at chain.book due.who) due.amount in
+      omega (
+        arith,
+        sum_by-append settling (slash_told due.who taken) (slashes more (slashed_once due chain)).lines,
+        slash_settles due.who taken,
+        slashes_settle more (slashed_once due chain),
+      )
+
   fair_done : (index : ℕ) (chain : Chain) (who : AccountId) (kind : CallKind) → IsLive chain → stop_of chain who kind ≡ None
       → IsFair chain (lines.CallOk index ∷ told_of chain who kind) (done_of chain who kind)
   unfolding stop_of done_of told_of
@@ -210,9 +236,11 @@ module _ (number : ℕ) where
   fair_done index chain who (kinds.Points items) live none =
       fair_quiet chain (done_of chain who (kinds.Points items)) (lines.CallOk index ∷ []) refl refl refl
   fair_done index chain who (kinds.Payout era validator) live none =
-      fair_quiet chain (done_of chain who (kinds.Payout era validator)) (lines.CallOk index ∷ []) refl refl refl
+      fair_quiet chain (done_of chain who (kinds.Payout era validator)) (lines.CallOk index ∷ payout_told chain era validator)
+      (settled_more (lines.CallOk index) (payout_told chain era validator) ∙ payments_settle (payout_now chain era validator).lines) refl refl
   fair_done index chain who (kinds.Offence era validator fraction) live none =
-      fair_quiet chain (done_of chain who (kinds.Offence era validator fraction)) (lines.CallOk index ∷ []) refl refl refl
+      fair_quiet chain (done_of chain who (kinds.Offence era validator fraction)) (lines.CallOk index ∷ offence_told chain era validator fraction)
+      (settled_more (lines.CallOk index) (offence_told chain era validator fraction) ∙ slashes_settle (slash_in chain.eras era validator fraction) chain) refl refl
 
   fair_after : (due : Option Refusal) (index : ℕ) (call : Call) (chain : Chain) → IsLive chain → stop_of chain call.who call.kind ≡ due
       → IsFair chain (call_after due index call chain).lines (call_after due index call chain).state

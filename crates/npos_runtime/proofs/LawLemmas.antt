@@ -32,9 +32,10 @@ use Rattle.npos_runtime.specs.Laws.{IsSound, SoundStepLaw, SoundLaw, SeatsLaw, H
 use Rattle.npos_runtime.proofs.VerdictLemmas.{decided_passes}
 use Rattle.npos_runtime.proofs.BeginLemmas.{live_begun}
 use Rattle.npos_runtime.specs.Offers.{before_calls}
-use Rattle.npos_runtime.proofs.LiveLemmas.{live_era, live_round, live_step, live_blocks, due_step}
+use Rattle.npos_runtime.proofs.EraLemmas.{phases_sound}
+use Rattle.npos_runtime.proofs.LiveLemmas.{live_era, live_round, live_step, live_blocks, due_step, fixed_calls}
 
--- ## Calls seat nobody, and leave who waits
+-- ## Calls seat nobody
 
 seats_after : (due : Option Refusal) (index : ℕ) (call : Call) (chain : Chain) → (call_after due index call chain).seated ≡ []
 seats_after None index call chain = refl
@@ -45,33 +46,6 @@ seats_calls index [] chain = refl
 seats_calls index (call ∷ calls) chain =
     ap (λ (es : List Election). es ++ (calls_outcome (index + 1) calls (call_outcome index call chain).state).seated) (seats_after (stop_of chain call.who call.kind) index call chain)
     ∙ seats_calls (index + 1) calls (call_outcome index call chain).state
-
-waits_done : (chain : Chain) (who : AccountId) (kind : CallKind) → (done_of chain who kind).waiting ≡ chain.waiting
-unfolding done_of
-waits_done chain who (kinds.Transfer to value) = refl
-waits_done chain who (kinds.Bond value) = refl
-waits_done chain who (kinds.BondExtra value) = refl
-waits_done chain who (kinds.Unbond value) = refl
-waits_done chain who (kinds.Rebond value) = refl
-waits_done chain who kinds.Withdraw = refl
-waits_done chain who (kinds.Nominate targets) = refl
-waits_done chain who (kinds.Validate commission) = refl
-waits_done chain who kinds.Chill = refl
-waits_done chain who (kinds.Rebag whom) = refl
-waits_done chain who (kinds.PutInFront lighter) = refl
-waits_done chain who (kinds.Submit round claim bytes) = refl
-waits_done chain who (kinds.Points items) = refl
-waits_done chain who (kinds.Payout era validator) = refl
-waits_done chain who (kinds.Offence era validator fraction) = refl
-
-waits_after : (due : Option Refusal) (index : ℕ) (call : Call) (chain : Chain) → (call_after due index call chain).state.waiting ≡ chain.waiting
-waits_after None index call chain = waits_done chain call.who call.kind
-waits_after (Some refusal) index call chain = refl
-
-waits_calls : (index : ℕ) (calls : List Call) (chain : Chain) → (calls_outcome index calls chain).state.waiting ≡ chain.waiting
-waits_calls index [] chain = refl
-waits_calls index (call ∷ calls) chain =
-    waits_calls (index + 1) calls (call_outcome index call chain).state ∙ waits_after (stop_of chain call.who call.kind) index call chain
 
 -- what the step seats is what its decision seats
 abbrev pub undecided : Chain → Chain
@@ -122,29 +96,6 @@ module _ (packed : PackedYesIsAccepting) (plain : PlainYesIsPassing) (fill : Eve
 
 -- ## A round that is not void seats a committee
 
-first_of_two : {A : Type 0} (a b : Option A) → option_or a b ≡ None → a ≡ None
-first_of_two None b none = refl
-first_of_two (Some x) b none = none
-
-second_passed : {A : Type 0} (a b : Bool) (x y : A) (rest : Option A) → (if a then Some x else if b then Some y else rest) ≡ None → b ≡ false
-second_passed true b x y rest e = absurd (cc)
-second_passed false true x y rest e = absurd (cc)
-second_passed false false x y rest e = refl
-
--- the signed blocks and the decision lie within the era
-pub phases_sound : (params : Params) → params_fault params ≡ None
-    → (1 ≤ params.signed) × (params.offset + params.signed < params.era_blocks)
-phases_sound params sound =
-    at (nat_le 1 params.offset) (nat_le 1 params.signed) (nat_lt (params.offset + params.signed) params.era_blocks) refl refl
-    (second_passed (not (is_within 1 512 params.seats)) (not (phases_fit params)) _ _ _
-    (first_of_two (numbers_fault params) (option_or (threshold_fault 0 0 params.thresholds) (limits_fault params)) sound)) where
-      at : (a b c : Bool) → nat_le 1 params.signed ≡ b → nat_lt (params.offset + params.signed) params.era_blocks ≡ c
-          → not (a && b && c) ≡ false → (1 ≤ params.signed) × (params.offset + params.signed < params.era_blocks)
-      at true true true e g f = (grind (arith, nat_tests), grind (arith, nat_tests))
-      at true true false e g f = cc
-      at true false c e g f = cc
-      at false b c e g f = cc
-
 -- no round begins in the block of a decision
 pub not_begun : (params : Option Params) (number : ℕ) → AreSound params → is_decision params number ≡ true → begun_round params number ≡ None
 not_begun None number sound is = refl
@@ -166,7 +117,7 @@ decides chain number snapshot commissions live is stands =
 pub seats : SeatsLaw
 seats chain block number snapshot commissions live is stands =
     let phase = decides chain number snapshot commissions live is stands in (
-      waits_calls 0 block.calls (before_calls chain) ∙ ap (λ (o : Outcome). o.state.waiting) phase,
+      (fixed_calls 0 block.calls (before_calls chain)).waiting ∙ ap (λ (o : Outcome). o.state.waiting) phase,
       seats_step chain block ∙ ap (λ (o : Outcome). o.seated) phase,
     )
 

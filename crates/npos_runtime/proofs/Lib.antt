@@ -8,6 +8,9 @@ pub mod StakeSums
 pub mod VoteLemmas
 pub mod VoterLemmas
 pub mod VoidLemmas
+pub mod EraLemmas
+pub mod OfficeLemmas
+pub mod ExposureLemmas
 pub mod LiveLemmas
 pub mod EndowLemmas
 pub mod BeginLemmas

@@ -20,7 +20,7 @@ use Rattle.stake_ledger.specs.declared.call.RowCall.TheVariants as row_calls
 use Rattle.stake_ledger.proofs.LedgerLemmas.{row_of-changed, others_stay}
 use Rattle.stake_ledger.proofs.KeepLemmas.{balanced_called, balanced_transferred}
 use Rattle.npos_runtime.specs.declared.chain.Chain.{Chain}
-use Rattle.npos_runtime.specs.declared.refusal.Refusal.TheVariants.{Ledger as ByLedger, List as ByList}
+use Rattle.npos_runtime.specs.declared.refusal.Refusal.TheVariants.{Ledger as ByLedger, List as ByList, Era as ByEra}
 use Rattle.npos_base.specs.Account.{same_account}
 use Rattle.std.specs.Option.{option_or}
 use Rattle.voter_lists.specs.declared.standing.Standing.{Standing}
@@ -31,8 +31,8 @@ use Rattle.npos_runtime.specs.Ballots.{active_of}
 use Rattle.npos_runtime.specs.Lists.{has_role, is_nominator_role, is_validator_role, followed, placed, with_stake, is_over, retired}
 use Rattle.npos_runtime.specs.Rounds.{round_phase, round_after, begun_round}
 use Rattle.std.specs.Result.{is_err}
-use Rattle.stake_ledger.specs.declared.refusal.LedgerRefusal.TheVariants.{LowFunds}
-use Rattle.stake_ledger.specs.Calls.{deposit_held}
+use Rattle.stake_ledger.specs.declared.refusal.LedgerRefusal.TheVariants.{LowFunds, IssuanceCap}
+use Rattle.stake_ledger.specs.Calls.{deposit_held, mint_refusal, room_of, slashed}
 use Rattle.std.proofs.lemmas.Bool.{ltb-false}
 use Rattle.submission_queue.specs.declared.submission.Submission.{Submission}
 use Rattle.submission_queue.specs.Ranking.{offered, offer_answer}
@@ -47,19 +47,26 @@ use Rattle.npos_runtime.specs.Decision.{decided, decision_of, decision_phase}
 use Rattle.npos_runtime.specs.Outcome.{quiet}
 use Rattle.npos_runtime.proofs.DepositLemmas.{held_changed}
 use Rattle.npos_runtime.proofs.OfferLemmas.{taken}
-use Rattle.npos_runtime.proofs.BookLemmas.{AreBooks, books_held, books_moved, all_books_returned, books_settled}
-use Rattle.npos_runtime.proofs.ElectorateLemmas.{sound_round}
+use Rattle.npos_runtime.proofs.BookLemmas.{AreBooks, books_held, books_moved, all_books_returned, books_settled, books_slashed, all_books_minted}
+use Rattle.npos_runtime.proofs.OfficeLemmas.{payout_sums}
+use Rattle.npos_runtime.proofs.EraLemmas.{era_begun}
+use Rattle.era_book.specs.declared.exposure.Backer.{Backer}
+use Rattle.era_book.specs.Exposures.{amount_sum}
+use Rattle.era_book.specs.Eras.{Eras}
+use Rattle.era_book.specs.Calls.{pointed, payout_refusal, paid, slash_in, reported}
+use Rattle.npos_runtime.specs.Offices.{payout_now, payout_stop, all_minted, slashed_once, slashes}
+use Rattle.npos_runtime.proofs.ElectorateLemmas.{sound_round, noted_round}
 use Rattle.npos_runtime.proofs.ListLemmas.{IsListed, listed_from, listing_from, kept_followed, kept_removed, kept_rebagged, kept_front, kept_placed}
 use Rattle.npos_runtime.proofs.RoleLemmas.{AreKept, apart_from, standing_with, standing_other, standing_without, standing_without_other, kept_without, kept_nominated, kept_validating}
-use Rattle.npos_runtime.specs.Rules.{least_bond_of, era_of, begun_era, reward_of, is_decision}
+use Rattle.npos_runtime.specs.Rules.{least_bond_of, era_of, begun_era, reward_of, era_reward_of, is_decision}
 use Rattle.npos_runtime.specs.Calls.{era_now, release_now, least_active, role_refusal, stop_of, done_of}
 use Rattle.npos_runtime.specs.declared.refusal.Refusal.{Refusal}
 use Rattle.block_wire.specs.declared.call.Call.{Call}
 use Rattle.npos_runtime.specs.Offers.{before_calls}
-use Rattle.npos_runtime.specs.Step.{waiting_after, era_phase, call_after, call_outcome, calls_outcome, closed, step, after_blocks}
+use Rattle.npos_runtime.specs.Step.{eras_after, waiting_after, era_phase, call_after, call_outcome, calls_outcome, closed, step, after_blocks}
 use Rattle.block_wire.specs.declared.block.Block.{Block}
 use Rattle.block_wire.specs.declared.genesis.Params.{Params}
-use Rattle.npos_runtime.specs.Live.{IsLive, IsSoundRound}
+use Rattle.npos_runtime.specs.Live.{IsLive, IsSoundRound, IsNotedRound, IsNotedCommittee, AreNoted}
 
 -- two accounts are one, or they are not
 pub same_or_not : (a b : AccountId) → (a ≡ b) ⊎ (a ≢ b)
@@ -125,7 +132,10 @@ with_parts chain book roles bags live books listed kept = record {
   listing = listing_from roles bags listed;
   roles = kept.ranked;
   nominations = kept.nominations;
+  commissions = kept.commissions;
   round = live.round;
+  noted = live.noted;
+  waiting = live.waiting;
   queue = live.queue;
   deposits = books.deposits;
 }
@@ -137,7 +147,7 @@ listed_of : (chain : Chain) → IsLive chain → IsListed (has_role chain.roles)
 listed_of chain live = listed_from chain.roles chain.bags live.listing
 
 kept_of : (chain : Chain) → IsLive chain → AreKept chain.roles
-kept_of chain live = record { ranked = live.roles; nominations = live.nominations }
+kept_of chain live = record { ranked = live.roles; nominations = live.nominations; commissions = live.commissions }
 
 -- the chain with other books that keep what it needs
 with_book : (chain : Chain) (book : Ledger) → IsLive chain → IsBalanced book
@@ -176,6 +186,48 @@ retired_live chain who live = at (is_over chain who) where
   at : (b : Bool) → IsLive (record chain { roles = if b then without_role chain.roles who else chain.roles; bags = if b then removed chain.bags who else chain.bags })
   at true = without_live chain who live
   at false = live
+
+-- other books, with nothing else changed
+with_books : (chain : Chain) (book : Ledger) → IsLive chain → AreBooks (release_now chain) chain.queue.items book → IsLive (record chain { book = book })
+with_books chain book live books = with_parts chain book chain.roles chain.bags live books (listed_of chain live) (kept_of chain live)
+
+-- other eras
+with_eras : (chain : Chain) (eras : Eras) → IsLive chain → IsLive (record chain { eras = eras })
+with_eras chain eras live = record {
+  params = live.params;
+  due_at_least = live.due_at_least;
+  due_at_most = live.due_at_most;
+  balanced = live.balanced;
+  releases = live.releases;
+  listing = live.listing;
+  roles = live.roles;
+  nominations = live.nominations;
+  commissions = live.commissions;
+  round = live.round;
+  noted = live.noted;
+  waiting = live.waiting;
+  queue = live.queue;
+  deposits = live.deposits;
+}
+
+pub slashed_live : (due : Backer) (chain : Chain) → IsLive chain → IsLive (slashed_once due chain)
+slashed_live due chain live =
+    retired_live (record chain { book = slashed due.who due.amount chain.book }) due.who
+    (with_books chain (slashed due.who due.amount chain.book) live (books_slashed (release_now chain) chain.book due.who due.amount chain.queue.items (books_of chain live)))
+
+pub slashes_live : (dues : List Backer) (chain : Chain) → IsLive chain → IsLive (slashes dues chain).state
+slashes_live [] chain live = live
+slashes_live (due ∷ more) chain live = slashes_live more (slashed_once due chain) (slashed_live due chain live)
+
+-- slashes change books, roles and bags alone
+pub slashes_within : (dues : List Backer) (chain : Chain)
+    → (slashes dues chain).state ≡ record chain {
+      book = (slashes dues chain).state.book;
+      roles = (slashes dues chain).state.roles;
+      bags = (slashes dues chain).state.bags;
+    }
+slashes_within [] chain = refl
+slashes_within (due ∷ more) chain = slashes_within more (slashed_once due chain)
 
 -- an account takes a role, and keeps its place only if it had one
 placed_live : (chain : Chain) (who : AccountId) (standing : Standing) (stays : Bool) (score : ℕ) → IsLive chain → AreKept (with_standing chain.roles who standing)
@@ -241,10 +293,26 @@ submitted_live chain item live none =
       listing = live.listing;
       roles = live.roles;
       nominations = live.nominations;
+      commissions = live.commissions;
       round = live.round;
+      noted = live.noted;
+      waiting = live.waiting;
       queue = is.ordered;
       deposits = books.deposits;
     }
+
+-- what a payout that is not refused pays fits into what may still be minted
+pub payout_fits : (chain : Chain) (era : ℕ) (validator : AccountId) → payout_stop chain era validator ≡ None
+    → amount_sum (payout_now chain era validator).lines ≤ room_of chain.book
+payout_fits chain era validator free =
+    let allowed = none_inside ByLedger (mint_refusal chain.book (payout_now chain era validator).total)
+    (second_none (option_map ByEra (payout_refusal chain.eras era validator)) (option_map ByLedger (mint_refusal chain.book (payout_now chain era validator).total)) free) in
+    subst (λ n. n ≤ room_of chain.book) (payout_sums chain.eras era validator (era_reward_of chain.params))
+    (within (nat_lt (room_of chain.book) (payout_now chain era validator).total) refl allowed) where
+      within : (b : Bool) → nat_lt (room_of chain.book) (payout_now chain era validator).total ≡ b → (if b then Some IssuanceCap else None) ≡ None
+          → (payout_now chain era validator).total ≤ room_of chain.book
+      within true e none = cc
+      within false e none = ltb-false (room_of chain.book) (payout_now chain era validator).total e
 
 -- A call that is not refused keeps the chain live.
 pub live_done : (chain : Chain) (who : AccountId) (kind : CallKind) → IsLive chain → stop_of chain who kind ≡ None → IsLive (done_of chain who kind)
@@ -314,9 +382,15 @@ live_done chain who (kinds.PutInFront lighter) live free =
 live_done chain who (kinds.Submit round claim bytes) live free =
     submitted_live chain (submission_of chain who claim bytes) live
     (second_none (form_refusal chain round bytes) (offer_refusal chain (submission_of chain who claim bytes)) free)
-live_done chain who (kinds.Points items) live free = live
-live_done chain who (kinds.Payout era validator) live free = live
-live_done chain who (kinds.Offence era validator fraction) live free = live
+live_done chain who (kinds.Points items) live free = with_eras chain (pointed items chain.eras) live
+live_done chain who (kinds.Payout era validator) live free =
+    let lines : List Backer = (payout_now chain era validator).lines in
+    let books = all_books_minted (release_now chain) lines chain.queue.items chain.book (payout_fits chain era validator free) (books_of chain live) in
+    with_eras (record chain { book = all_minted lines chain.book }) (paid era validator chain.eras) (with_books chain (all_minted lines chain.book) live books)
+live_done chain who (kinds.Offence era validator fraction) live free =
+    let dues : List Backer = slash_in chain.eras era validator fraction in
+    subst IsLive (sym (ap (λ (c : Chain). record c { eras = reported era validator fraction chain.eras }) (slashes_within dues chain)))
+    (with_eras (slashes dues chain).state (reported era validator fraction chain.eras) (slashes_live dues chain live))
 
 live_after : (due : Option Refusal) (index : ℕ) (call : Call) (chain : Chain) → IsLive chain → stop_of chain call.who call.kind ≡ due
     → IsLive (call_after due index call chain).state
@@ -331,33 +405,51 @@ pub live_calls : (index : ℕ) (calls : List Call) (chain : Chain) → IsLive ch
 live_calls index [] chain live = live
 live_calls index (call ∷ calls) chain live = live_calls (index + 1) calls (call_outcome index call chain).state (live_call index call chain live)
 
--- no call changes which block is due
-due_done : (chain : Chain) (who : AccountId) (kind : CallKind) → (done_of chain who kind).due ≡ chain.due
-unfolding done_of
-due_done chain who (kinds.Transfer to value) = refl
-due_done chain who (kinds.Bond value) = refl
-due_done chain who (kinds.BondExtra value) = refl
-due_done chain who (kinds.Unbond value) = refl
-due_done chain who (kinds.Rebond value) = refl
-due_done chain who kinds.Withdraw = refl
-due_done chain who (kinds.Nominate targets) = refl
-due_done chain who (kinds.Validate commission) = refl
-due_done chain who kinds.Chill = refl
-due_done chain who (kinds.Rebag whom) = refl
-due_done chain who (kinds.PutInFront lighter) = refl
-due_done chain who (kinds.Submit round claim bytes) = refl
-due_done chain who (kinds.Points items) = refl
-due_done chain who (kinds.Payout era validator) = refl
-due_done chain who (kinds.Offence era validator fraction) = refl
+-- what no call changes
+pub record IsFixed (old new : Chain) : Type 0 where
+  pub params : new.params ≡ old.params
+  pub waiting : new.waiting ≡ old.waiting
+  pub due : new.due ≡ old.due
+  pub era : new.eras.current ≡ old.eras.current
 
-due_after : (due : Option Refusal) (index : ℕ) (call : Call) (chain : Chain) → (call_after due index call chain).state.due ≡ chain.due
-due_after None index call chain = due_done chain call.who call.kind
-due_after (Some refusal) index call chain = refl
+fixed_then : (old between new : Chain) → IsFixed old between → IsFixed between new → IsFixed old new
+fixed_then old between new first next = record {
+  params = next.params ∙ first.params;
+  waiting = next.waiting ∙ first.waiting;
+  due = next.due ∙ first.due;
+  era = next.era ∙ first.era;
+}
+
+fixed_done : (chain : Chain) (who : AccountId) (kind : CallKind) → IsFixed chain (done_of chain who kind)
+unfolding done_of
+fixed_done chain who (kinds.Transfer to value) = record { params = refl; waiting = refl; due = refl; era = refl }
+fixed_done chain who (kinds.Bond value) = record { params = refl; waiting = refl; due = refl; era = refl }
+fixed_done chain who (kinds.BondExtra value) = record { params = refl; waiting = refl; due = refl; era = refl }
+fixed_done chain who (kinds.Unbond value) = record { params = refl; waiting = refl; due = refl; era = refl }
+fixed_done chain who (kinds.Rebond value) = record { params = refl; waiting = refl; due = refl; era = refl }
+fixed_done chain who kinds.Withdraw = record { params = refl; waiting = refl; due = refl; era = refl }
+fixed_done chain who (kinds.Nominate targets) = record { params = refl; waiting = refl; due = refl; era = refl }
+fixed_done chain who (kinds.Validate commission) = record { params = refl; waiting = refl; due = refl; era = refl }
+fixed_done chain who kinds.Chill = record { params = refl; waiting = refl; due = refl; era = refl }
+fixed_done chain who (kinds.Rebag whom) = record { params = refl; waiting = refl; due = refl; era = refl }
+fixed_done chain who (kinds.PutInFront lighter) = record { params = refl; waiting = refl; due = refl; era = refl }
+fixed_done chain who (kinds.Submit round claim bytes) = record { params = refl; waiting = refl; due = refl; era = refl }
+fixed_done chain who (kinds.Points items) = record { params = refl; waiting = refl; due = refl; era = refl }
+fixed_done chain who (kinds.Payout era validator) = record { params = refl; waiting = refl; due = refl; era = refl }
+fixed_done chain who (kinds.Offence era validator fraction) = record { params = refl; waiting = refl; due = refl; era = refl }
+
+fixed_after : (due : Option Refusal) (index : ℕ) (call : Call) (chain : Chain) → IsFixed chain (call_after due index call chain).state
+fixed_after None index call chain = fixed_done chain call.who call.kind
+fixed_after (Some refusal) index call chain = record { params = refl; waiting = refl; due = refl; era = refl }
+
+pub fixed_calls : (index : ℕ) (calls : List Call) (chain : Chain) → IsFixed chain (calls_outcome index calls chain).state
+fixed_calls index [] chain = record { params = refl; waiting = refl; due = refl; era = refl }
+fixed_calls index (call ∷ calls) chain =
+    let next : Chain = (call_outcome index call chain).state in
+    fixed_then chain next (calls_outcome (index + 1) calls next).state (fixed_after (stop_of chain call.who call.kind) index call chain) (fixed_calls (index + 1) calls next)
 
 pub due_calls : (index : ℕ) (calls : List Call) (chain : Chain) → (calls_outcome index calls chain).state.due ≡ chain.due
-due_calls index [] chain = refl
-due_calls index (call ∷ calls) chain =
-    due_calls (index + 1) calls (call_outcome index call chain).state ∙ due_after (stop_of chain call.who call.kind) index call chain
+due_calls index calls chain = (fixed_calls index calls chain).due
 
 more_quotient : (a b k : ℕ) → a ≤ b → a / k ≤ b / k
 more_quotient a b zero more = omega (arith, div-zero a, div-zero b)
@@ -382,15 +474,18 @@ live_closed chain live more = record {
   listing = live.listing;
   roles = live.roles;
   nominations = live.nominations;
+  commissions = live.commissions;
   round = live.round;
+  noted = live.noted;
+  waiting = live.waiting;
   queue = live.queue;
   deposits = live.deposits;
 }
 
--- another round, and another committee that waits
-with_round : (chain : Chain) (round : Option Round) (waiting : Option Committee) → IsLive chain → IsSoundRound round
-    → IsLive (record chain { round = round; waiting = waiting })
-with_round chain round waiting live sound = record {
+-- another round, another committee that waits, and other eras
+with_phase : (chain : Chain) (round : Option Round) (waiting : Option Committee) (eras : Eras) → IsLive chain → IsSoundRound round → IsNotedRound round
+    → IsNotedCommittee waiting → IsLive (record chain { round = round; waiting = waiting; eras = eras })
+with_phase chain round waiting eras live sound noted waits = record {
   params = live.params;
   due_at_least = live.due_at_least;
   due_at_most = live.due_at_most;
@@ -399,23 +494,38 @@ with_round chain round waiting live sound = record {
   listing = live.listing;
   roles = live.roles;
   nominations = live.nominations;
+  commissions = live.commissions;
   round = sound;
+  noted = noted;
+  waiting = waits;
   queue = live.queue;
   deposits = live.deposits;
 }
 
 pub live_era : (chain : Chain) → IsLive chain → IsLive (era_phase chain).state
-live_era chain live = with_round chain chain.round (waiting_after chain.waiting (begun_era chain.params chain.due)) live live.round
+live_era chain live =
+    with_phase chain chain.round (waiting_after chain.waiting (begun_era chain.params chain.due)) (eras_after chain.eras chain.waiting (begun_era chain.params chain.due))
+    live live.round live.noted (at (begun_era chain.params chain.due)) where
+      at : (begun : Option ℕ) → IsNotedCommittee (waiting_after chain.waiting begun)
+      at None = live.waiting
+      at (Some era) = tt
 
 pub live_round : (chain : Chain) → IsLive chain → IsLive (round_phase chain).state
-live_round chain live = with_round chain (round_after chain (begun_round chain.params chain.due)) chain.waiting live (at (begun_round chain.params chain.due)) where
-  at : (begun : Option ℕ) → IsSoundRound (round_after chain begun)
-  at None = live.round
-  at (Some number) = sound_round chain number live
+live_round chain live =
+    with_phase chain (round_after chain (begun_round chain.params chain.due)) chain.waiting chain.eras live
+    (sound (begun_round chain.params chain.due)) (noted (begun_round chain.params chain.due)) live.waiting where
+      sound : (begun : Option ℕ) → IsSoundRound (round_after chain begun)
+      sound None = live.round
+      sound (Some number) = sound_round chain number live
+
+      noted : (begun : Option ℕ) → IsNotedRound (round_after chain begun)
+      noted None = live.noted
+      noted (Some number) = noted_round chain number live
 
 -- a round is decided
-decided_live : (number : ℕ) (snapshot : Snapshot) (commissions : List ℕ) (chain : Chain) → IsLive chain → IsLive (decided number snapshot commissions chain).state
-decided_live number snapshot commissions chain live =
+decided_live : (number : ℕ) (snapshot : Snapshot) (commissions : List ℕ) (chain : Chain) → IsLive chain → AreNoted snapshot.targets commissions
+    → IsLive (decided number snapshot commissions chain).state
+decided_live number snapshot commissions chain live noted =
     let books = books_settled (release_now chain) (reward_of chain.params) snapshot chain.queue.items chain.book (books_of chain live) in
     record {
       params = live.params;
@@ -426,27 +536,41 @@ decided_live number snapshot commissions chain live =
       listing = live.listing;
       roles = live.roles;
       nominations = live.nominations;
+      commissions = live.commissions;
       round = tt;
+      noted = tt;
+      waiting = noted;
       queue = record { some = live.queue.some; most = live.queue.most; fits = omega arith; by_rank = tt };
       deposits = books.deposits;
     }
 
-pub decision_of_live : (round : Option Round) (chain : Chain) → IsLive chain → IsLive (decision_of round chain).state
-decision_of_live None chain live = live
-decision_of_live (Some (rounds.Void number)) chain live = live
-decision_of_live (Some (rounds.Open number snapshot commissions)) chain live = decided_live number snapshot commissions chain live
+pub decision_of_live : (round : Option Round) (chain : Chain) → IsLive chain → IsNotedRound round → IsLive (decision_of round chain).state
+decision_of_live None chain live noted = live
+decision_of_live (Some (rounds.Void number)) chain live noted = live
+decision_of_live (Some (rounds.Open number snapshot commissions)) chain live noted = decided_live number snapshot commissions chain live noted
 
 pub live_decision : (chain : Chain) → IsLive chain → IsLive (decision_phase chain).state
 live_decision chain live = at (is_decision chain.params chain.due) where
   at : (b : Bool) → IsLive (if b then decision_of chain.round chain else quiet chain).state
-  at true = decision_of_live chain.round chain live
+  at true = decision_of_live chain.round chain live live.noted
   at false = live
 
--- the decision changes neither which block is due nor the next number
+-- the decision changes neither which block is due nor the next number, nor the eras
 same_of : (round : Option Round) (chain : Chain) → ((decision_of round chain).state.due ≡ chain.due) × ((decision_of round chain).state.next ≡ chain.next)
 same_of None chain = (refl, refl)
 same_of (Some (rounds.Void number)) chain = (refl, refl)
 same_of (Some (rounds.Open number snapshot commissions)) chain = (refl, refl)
+
+eras_of : (round : Option Round) (chain : Chain) → (decision_of round chain).state.eras ≡ chain.eras
+eras_of None chain = refl
+eras_of (Some (rounds.Void number)) chain = refl
+eras_of (Some (rounds.Open number snapshot commissions)) chain = refl
+
+pub eras_decision : (chain : Chain) → (decision_phase chain).state.eras ≡ chain.eras
+eras_decision chain = at (is_decision chain.params chain.due) where
+  at : (b : Bool) → (if b then decision_of chain.round chain else quiet chain).state.eras ≡ chain.eras
+  at true = eras_of chain.round chain
+  at false = refl
 
 pub same_decision : (chain : Chain) → ((decision_phase chain).state.due ≡ chain.due) × ((decision_phase chain).state.next ≡ chain.next)
 same_decision chain = at (is_decision chain.params chain.due) where
@@ -461,6 +585,24 @@ live_before chain live = live_decision (round_phase (era_phase chain).state).sta
 pub due_before : (chain : Chain) → (before_calls chain).due ≡ chain.due
 due_before chain = (same_decision (round_phase (era_phase chain).state).state).0
 
+params_decided : (round : Option Round) (chain : Chain) → (decision_of round chain).state.params ≡ chain.params
+params_decided None chain = refl
+params_decided (Some (rounds.Void number)) chain = refl
+params_decided (Some (rounds.Open number snapshot commissions)) chain = refl
+
+pub params_decision : (chain : Chain) → (decision_phase chain).state.params ≡ chain.params
+params_decision chain = at (is_decision chain.params chain.due) where
+  at : (b : Bool) → (if b then decision_of chain.round chain else quiet chain).state.params ≡ chain.params
+  at true = params_decided chain.round chain
+  at false = refl
+
+pub params_before : (chain : Chain) → (before_calls chain).params ≡ chain.params
+params_before chain = params_decision (round_phase (era_phase chain).state).state
+
+-- the calls of a block find the eras as they are once one may have begun
+pub eras_before : (chain : Chain) → (before_calls chain).eras ≡ (era_phase chain).state.eras
+eras_before chain = eras_decision (round_phase (era_phase chain).state).state
+
 pub next_before : (chain : Chain) → (before_calls chain).next ≡ chain.next
 next_before chain = (same_decision (round_phase (era_phase chain).state).state).1
 
@@ -472,6 +614,18 @@ live_step chain block live more =
 
 pub due_step : (chain : Chain) (block : Block) → (step chain block).state.due ≡ chain.due + 1
 due_step chain block = ap (λ due. due + 1) (due_calls 0 block.calls (before_calls chain) ∙ due_before chain)
+
+-- the era is the one of the last block, once the next one is due
+pub era_step : (chain : Chain) (block : Block) → IsLive chain → chain.eras.current ≡ era_of chain.params (chain.due - 1)
+    → (step chain block).state.eras.current ≡ era_of (step chain block).state.params ((step chain block).state.due - 1)
+era_step chain block live is =
+    let fixed = fixed_calls 0 block.calls (before_calls chain) in
+    let back : (calls_outcome 0 block.calls (before_calls chain)).state.due + 1 - 1 ≡ chain.due = omega (arith, fixed.due, due_before chain) in
+    let params = fixed.params ∙ params_before chain in
+    fixed.era
+    ∙ (ap (λ (eras : Eras). eras.current) (eras_before chain)
+    ∙ (era_begun chain.eras chain.waiting chain.params chain.due live.params live.due_at_least is
+    ∙ (λ i. era_of (sym params i) (sym back i))))
 
 -- a call takes at most one number
 next_done : (chain : Chain) (who : AccountId) (kind : CallKind) → (done_of chain who kind).next ≤ chain.next + 1

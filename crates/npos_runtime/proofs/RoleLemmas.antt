@@ -1,5 +1,5 @@
 -- What holds of the roles after one account takes a role or has none any more.
-use Rattle.std.proofs.Common.{◌≡◌, ◌≢◌, ℕ, ◌<◌, Bool, true, false, cond, List, [], ◌∷◌, length, Some, None, refl, sym, ◌∙◌, ap, subst, arith, true≢false}
+use Rattle.std.proofs.Common.{◌≡◌, ◌≢◌, ℕ, ◌<◌, ◌≤◌, Bool, true, false, cond, List, [], ◌∷◌, length, Some, None, refl, sym, ◌∙◌, ap, subst, arith, true≢false}
 use Rattle.std.proofs.lemmas.Bool.Decides.{nat_tests}
 use Rattle.std.proofs.lemmas.Grind.{common_steps}
 use Rattle.std.specs.BTreeMap.{is_at}
@@ -18,8 +18,10 @@ use Rattle.npos_base.proofs.EntryLemmas.{sorted_put, lookup_put, lookup_other}
 use Rattle.voter_lists.specs.declared.standing.Standing.{Standing}
 use Rattle.voter_lists.specs.declared.standing.Standing.TheVariants.{Nominator, Validator}
 use Rattle.voter_lists.specs.Ranked.{AreRanked}
-use Rattle.voter_lists.specs.Roles.{RoleList, standing_of, with_standing, without_role, validators_of, is_validator, nominated_by, targets_in, nominate_refusal, validate_refusal}
+use Rattle.voter_lists.specs.Roles.{RoleList, role_in, role_of, standing_of, with_standing, without_role, validators_of, is_validator, nominated_by, targets_in, nominate_refusal, validate_refusal}
 use Rattle.voter_lists.proofs.ValidatorLemmas.{ranked_left, ranked_nominating, ranked_validating}
+use Rattle.npos_base.specs.declared.limits.TheConstants.{WHOLE_FRACTION}
+use Rattle.npos_runtime.specs.Ballots.{commission_in}
 use Rattle.npos_runtime.specs.Live.{IsNomination}
 
 pub apart_from : (who q : AccountId) → same_account who q ≡ false → q ≢ who
@@ -80,6 +82,7 @@ module _ (who : AccountId) where
 pub record AreKept (roles : RoleList) : Type 0 where
   pub ranked : AreRanked roles (validators_of roles)
   pub nominations : (who : AccountId) → IsNomination (nominated_by roles who)
+  pub commissions : (who : AccountId) → commission_in (role_of roles who) ≤ WHOLE_FRACTION
 
 no_targets : IsNomination []
 no_targets = record { few = omega arith; distinct = refl }
@@ -90,12 +93,21 @@ nominated_rest old new who others all here q = by_account who q
     (λ same. subst (λ (a : AccountId). IsNomination (nominated_by new a)) same here)
     (λ apart. subst (λ o. IsNomination (targets_in o)) (sym (others q (apart_from who q apart))) (all q))
 
+commissions_rest : (old new : RoleList) (who : AccountId) → ((q : AccountId) → q ≢ who → standing_of new q ≡ standing_of old q)
+    → ((q : AccountId) → commission_in (role_of old q) ≤ WHOLE_FRACTION) → commission_in (role_of new who) ≤ WHOLE_FRACTION
+    → (q : AccountId) → commission_in (role_of new q) ≤ WHOLE_FRACTION
+commissions_rest old new who others all here q = by_account who q
+    (λ same. subst (λ (a : AccountId). commission_in (role_of new a) ≤ WHOLE_FRACTION) same here)
+    (λ apart. subst (λ o. commission_in (role_in o) ≤ WHOLE_FRACTION) (sym (others q (apart_from who q apart))) (all q))
+
 pub kept_without : (roles : RoleList) (who : AccountId) → AreKept roles → AreKept (without_role roles who)
 kept_without roles who kept = record {
   ranked = let r = ranked_left who roles (without_role roles who) (validators_of roles) (remove_key (is_at (account_cmp who)) (validators_of roles)) kept.ranked refl (rising_without who roles kept.ranked.rising) refl in
       subst (λ (accounts : List AccountId). AreRanked (without_role roles who) accounts) r.ranked r;
   nominations = nominated_rest roles (without_role roles who) who (λ q differ. standing_without_other who q roles differ) kept.nominations
       (subst (λ o. IsNomination (targets_in o)) (sym (standing_without who roles kept.ranked.rising)) no_targets);
+  commissions = commissions_rest roles (without_role roles who) who (λ q differ. standing_without_other who q roles differ) kept.commissions
+      (subst (λ o. commission_in (role_in o) ≤ WHOLE_FRACTION) (sym (standing_without who roles kept.ranked.rising)) (omega arith));
 }
 
 pub kept_nominated : (roles : RoleList) (who : AccountId) (targets : List AccountId) → AreKept roles → nominate_refusal roles who targets ≡ None
@@ -106,6 +118,8 @@ kept_nominated roles who targets kept allowed = record {
       subst (λ (accounts : List AccountId). AreRanked (with_standing roles who (Nominator targets)) accounts) r.ranked r;
   nominations = nominated_rest roles (with_standing roles who (Nominator targets)) who (λ q differ. standing_other roles who (Nominator targets) q differ) kept.nominations
       (subst (λ o. IsNomination (targets_in o)) (sym (standing_with roles who (Nominator targets))) sound);
+  commissions = commissions_rest roles (with_standing roles who (Nominator targets)) who (λ q differ. standing_other roles who (Nominator targets) q differ) kept.commissions
+      (subst (λ o. commission_in (role_in o) ≤ WHOLE_FRACTION) (sym (standing_with roles who (Nominator targets))) (omega arith));
 } where
   sound : IsNomination targets
   sound = record { few = grind (arith, common_steps, nat_tests, allowed); distinct = grind (arith, common_steps, allowed) }
@@ -118,6 +132,11 @@ kept_validating roles who commission kept allowed = record {
       subst (λ (accounts : List AccountId). AreRanked (with_standing roles who (Validator commission)) accounts) r.ranked r;
   nominations = nominated_rest roles (with_standing roles who (Validator commission)) who (λ q differ. standing_other roles who (Validator commission) q differ) kept.nominations
       (subst (λ o. IsNomination (targets_in o)) (sym (standing_with roles who (Validator commission))) no_targets);
+  commissions = commissions_rest roles (with_standing roles who (Validator commission)) who (λ q differ. standing_other roles who (Validator commission) q differ) kept.commissions
+      (subst (λ o. commission_in (role_in o) ≤ WHOLE_FRACTION) (sym (standing_with roles who (Validator commission))) within);
 } where
   room : is_validator roles who ≡ false → length (validators_of roles) < 2048
   room absent = grind (arith, common_steps, nat_tests, allowed, absent)
+
+  within : commission ≤ WHOLE_FRACTION
+  within = grind (arith, common_steps, nat_tests, allowed)

@@ -13,11 +13,12 @@ use Rattle.voter_lists.specs.Roles.{role_of, nominate_refusal, nominated, valida
 use Rattle.voter_lists.specs.Bags.{removed, moved, rebag_refusal, put_in_front, put_in_front_refusal}
 use Rattle.npos_runtime.specs.declared.chain.Chain.{Chain}
 use Rattle.npos_runtime.specs.declared.refusal.Refusal.{Refusal}
-use Rattle.npos_runtime.specs.declared.refusal.Refusal.TheVariants.{Ledger as ByLedger, List as ByList, NotBuilt}
+use Rattle.npos_runtime.specs.declared.refusal.Refusal.TheVariants.{Ledger as ByLedger, List as ByList}
 use Rattle.npos_runtime.specs.Rules.{bonding_eras_of, least_bond_of, era_of}
 use Rattle.npos_runtime.specs.Ballots.{active_of}
 use Rattle.npos_runtime.specs.declared.line.Line.{Line}
 use Rattle.npos_runtime.specs.Signed.{submit_stop, submit_done, submit_told}
+use Rattle.npos_runtime.specs.Offices.{points_stop, points_done, payout_stop, payout_done, payout_told, offence_stop, offence_done, offence_told}
 use Rattle.npos_runtime.specs.Lists.{has_role, is_nominator_role, is_validator_role, placed, with_stake, retired}
 
 -- the era of the block that is due
@@ -131,7 +132,9 @@ stop_of chain who kinds.Chill = chill_stop chain who
 stop_of chain who (kinds.Rebag whom) = rebag_stop chain whom
 stop_of chain who (kinds.PutInFront lighter) = put_in_front_stop chain who lighter
 stop_of chain who (kinds.Submit round claim bytes) = submit_stop chain who round claim bytes
-stop_of chain who other = Some NotBuilt
+stop_of chain who (kinds.Points items) = points_stop chain who items
+stop_of chain who (kinds.Payout era validator) = payout_stop chain era validator
+stop_of chain who (kinds.Offence era validator fraction) = offence_stop chain who era validator fraction
 
 -- the table of effects
 unfoldable pub done_of : Chain → AccountId → CallKind → Chain
@@ -147,9 +150,13 @@ done_of chain who kinds.Chill = chill_done chain who
 done_of chain who (kinds.Rebag whom) = rebag_done chain whom
 done_of chain who (kinds.PutInFront lighter) = put_in_front_done chain who lighter
 done_of chain who (kinds.Submit round claim bytes) = submit_done chain who claim bytes
-done_of chain who other = chain
+done_of chain who (kinds.Points items) = points_done chain items
+done_of chain who (kinds.Payout era validator) = payout_done chain era validator
+done_of chain who (kinds.Offence era validator fraction) = offence_done chain era validator fraction
 
 -- the table of what a call tells besides that it was accepted
 unfoldable pub told_of : Chain → AccountId → CallKind → List Line
 told_of chain who (kinds.Submit round claim bytes) = submit_told chain who claim bytes
+told_of chain who (kinds.Payout era validator) = payout_told chain era validator
+told_of chain who (kinds.Offence era validator fraction) = offence_told chain era validator fraction
 told_of chain who other = []

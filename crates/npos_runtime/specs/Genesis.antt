@@ -12,6 +12,7 @@ use Rattle.stake_ledger.specs.Ledger.{Ledger, row_of, empty_ledger, issuance_cap
 use Rattle.stake_ledger.specs.Calls.{endowed}
 use Rattle.npos_runtime.specs.declared.chain.Chain.{Chain}
 use Rattle.submission_queue.specs.Ranking.{empty_queue}
+use Rattle.era_book.specs.Eras.{first_era}
 use Rattle.npos_runtime.specs.Rules.{thresholds_in, places_of}
 use Rattle.npos_runtime.specs.declared.begin.GenesisFault.{GenesisFault}
 use Rattle.npos_runtime.specs.declared.begin.GenesisFault.TheVariants.{RepeatedAccount, TooMuch, BadSeats, BadPhases, BadBonding, BadMinimum, BadThreshold, BadQueue, BadSolutionMax, NoMemory}
@@ -99,6 +100,7 @@ genesis_chain genesis = record {
   queue = empty_queue (places_of (params_of genesis));
   next = 1;
   waiting = None;
+  eras = first_era;
   due = 1;
 }
 

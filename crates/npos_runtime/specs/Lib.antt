@@ -8,6 +8,8 @@ pub mod Rounds
 pub mod Lists
 pub mod Deposits
 pub mod Signed
+pub mod Offices
+pub mod Exposed
 pub mod Decision
 pub mod Calls
 pub mod Step

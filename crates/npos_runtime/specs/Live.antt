@@ -1,14 +1,18 @@
 -- What holds of a chain, besides what its parts keep.
 use Rattle.std.specs.Prelude.{◌≡◌, ℕ, ◌+◌, ◌-◌, ◌*◌, ◌^◌, ◌≤◌, false, All, List, count_by, length, Option, Some, None}
 use Rattle.npos_base.specs.declared.account.AccountId.{AccountId}
+use Rattle.npos_base.specs.declared.limits.TheConstants.{WHOLE_FRACTION}
 use Rattle.block_wire.specs.declared.genesis.Params.{Params}
 use Rattle.stake_ledger.specs.Ledger.{row_at, IsBalanced}
 use Rattle.npos_runtime.specs.declared.chain.Chain.{Chain}
 use Rattle.npos_runtime.specs.Genesis.{params_fault}
+use Rattle.npos_runtime.specs.Rules.{era_of}
+use Rattle.npos_runtime.specs.Ballots.{commission_in}
+use Rattle.npos_runtime.specs.Committee.{Committee}
 use Rattle.npos_runtime.specs.Calls.{release_now}
 use Rattle.npos_base.specs.Account.{same_account}
 use Rattle.voter_lists.specs.Ranked.{AreRanked}
-use Rattle.voter_lists.specs.Roles.{RoleList, nominated_by, validators_of, has_repeat}
+use Rattle.voter_lists.specs.Roles.{RoleList, role_of, nominated_by, validators_of, has_repeat}
 use Rattle.voter_lists.specs.Bags.{Listing, is_listed, walk}
 use Rattle.election_snapshot.specs.Snapshot.{IsWellFormed}
 use Rattle.submission_queue.specs.Ranking.{IsOrdered}
@@ -49,6 +53,19 @@ abbrev pub IsSoundRound : Option Round → Type 0
 IsSoundRound (Some (Open number snapshot commissions)) = IsWellFormed snapshot
 IsSoundRound other = Unit {0}
 
+-- a commission is noted for each target, at most the whole
+pub record AreNoted (targets : List AccountId) (commissions : List ℕ) : Type 0 where
+  pub count : length commissions ≡ length targets
+  pub within : All (λ commission. commission ≤ WHOLE_FRACTION) commissions
+
+abbrev pub IsNotedRound : Option Round → Type 0
+IsNotedRound (Some (Open number snapshot commissions)) = AreNoted snapshot.targets commissions
+IsNotedRound other = Unit {0}
+
+abbrev pub IsNotedCommittee : Option Committee → Type 0
+IsNotedCommittee None = Unit {0}
+IsNotedCommittee (Some committee) = AreNoted committee.snapshot.targets committee.commissions
+
 -- what holds of a chain at any time
 pub record IsLive (chain : Chain) : Type 0 where
   pub params : AreSound chain.params
@@ -62,7 +79,11 @@ pub record IsLive (chain : Chain) : Type 0 where
   -- there are at most 2,048 validators
   pub roles : AreRanked chain.roles (validators_of chain.roles)
   pub nominations : (who : AccountId) → IsNomination (nominated_by chain.roles who)
+  -- no validator keeps more than the whole of its rewards
+  pub commissions : (who : AccountId) → commission_in (role_of chain.roles who) ≤ WHOLE_FRACTION
   pub round : IsSoundRound chain.round
+  pub noted : IsNotedRound chain.round
+  pub waiting : IsNotedCommittee chain.waiting
   pub queue : IsOrdered chain.queue
   pub deposits : AreHeld chain.book chain.queue.items
 
@@ -76,3 +97,5 @@ pub record IsReady (chain : Chain) : Type 0 where
   pub live : IsLive chain
   -- no block before took more submissions than it may have calls
   pub numbered : chain.next ≤ 1 + most_calls * (chain.due - 1)
+  -- the era is the one of the last block that was taken
+  pub era : chain.eras.current ≡ era_of chain.params (chain.due - 1)

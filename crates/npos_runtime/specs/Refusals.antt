@@ -4,8 +4,10 @@ use Rattle.stake_ledger.specs.declared.refusal.LedgerRefusal.{LedgerRefusal}
 use Rattle.stake_ledger.specs.declared.refusal.LedgerRefusal.TheVariants as books
 use Rattle.voter_lists.specs.declared.refusal.ListRefusal.{ListRefusal}
 use Rattle.voter_lists.specs.declared.refusal.ListRefusal.TheVariants as lists
+use Rattle.era_book.specs.declared.refusal.EraRefusal.{EraRefusal}
+use Rattle.era_book.specs.declared.refusal.EraRefusal.TheVariants as eras
 use Rattle.npos_runtime.specs.declared.refusal.Refusal.{Refusal}
-use Rattle.npos_runtime.specs.declared.refusal.Refusal.TheVariants.{Ledger, List, NotBetter, WrongPhase, WrongRound, SolutionTooLong, NotBuilt}
+use Rattle.npos_runtime.specs.declared.refusal.Refusal.TheVariants.{Ledger, List, Era, NotBetter, WrongPhase, WrongRound, SolutionTooLong, NotRoot}
 
 -- want of memory is no reason to refuse a call, and has no number
 abbrev pub ledger_code : LedgerRefusal → ℕ
@@ -33,11 +35,22 @@ list_code lists.OtherBag = 18
 list_code lists.NotHeavier = 19
 list_code lists.NoMemory = 0
 
+abbrev pub era_code : EraRefusal → ℕ
+era_code eras.BadFraction = 15
+era_code eras.UnknownEra = 21
+era_code eras.EraNotOver = 22
+era_code eras.NotExposed = 23
+era_code eras.AlreadyClaimed = 24
+era_code eras.NotGreater = 25
+era_code eras.NoPoints = 26
+era_code eras.NoMemory = 0
+
 abbrev pub code_of : Refusal → ℕ
 code_of (Ledger refusal) = ledger_code refusal
 code_of (List refusal) = list_code refusal
+code_of (Era refusal) = era_code refusal
 code_of NotBetter = 20
+code_of NotRoot = 27
 code_of WrongPhase = 28
 code_of WrongRound = 29
 code_of SolutionTooLong = 30
-code_of NotBuilt = 99

@@ -1,6 +1,12 @@
 -- What the params of the genesis say. A plain genesis has none: the column of constants is what holds then.
 use Rattle.std.specs.Prelude.{ℕ, List, [], ◌-◌, ◌/◌, ◌%◌, Option, Some, None, ◌+◌, Bool, false, nat_lt, nat_le, ◌==◌, ◌&&◌, if◌then◌else◌}
+use Rattle.npos_base.specs.declared.account.AccountId.{AccountId}
 use Rattle.block_wire.specs.declared.genesis.Params.{Params}
+
+-- who gives points and reports offences
+abbrev pub root_of : Option Params → AccountId
+root_of None = record { hi = 0; lo = 0 }
+root_of (Some params) = params.root
 
 -- the number of eras that stake stays bonded after an unbond
 abbrev pub bonding_eras_of : Option Params → ℕ
@@ -39,6 +45,11 @@ deposit_of (Some params) = params.deposit
 abbrev pub reward_of : Option Params → ℕ
 reward_of None = 0
 reward_of (Some params) = params.reward
+
+-- what the validators of an era share by their points
+abbrev pub era_reward_of : Option Params → ℕ
+era_reward_of None = 0
+era_reward_of (Some params) = params.era_reward
 
 -- the most bytes of a solution
 abbrev pub solution_max_of : Option Params → ℕ

@@ -3,6 +3,7 @@
 use Rattle.std.specs.Prelude.{ℕ, ◌+◌, List, [], ◌∷◌, ◌++◌, Option, Some, None, option_map, option_to_list}
 use Rattle.block_wire.specs.declared.call.Call.{Call}
 use Rattle.block_wire.specs.declared.block.Block.{Block}
+use Rattle.era_book.specs.Eras.{Eras, started}
 use Rattle.npos_runtime.specs.declared.chain.Chain.{Chain}
 use Rattle.npos_runtime.specs.declared.line.Line.{Line}
 use Rattle.npos_runtime.specs.declared.line.Line.TheVariants as lines
@@ -11,12 +12,18 @@ use Rattle.npos_runtime.specs.Rules.{begun_era}
 use Rattle.npos_runtime.specs.Refusals.{code_of}
 use Rattle.npos_runtime.specs.Outcome.{Election, Outcome, telling, quiet, after}
 use Rattle.npos_runtime.specs.Committee.{Committee}
+use Rattle.npos_runtime.specs.Exposed.{exposed}
 use Rattle.npos_runtime.specs.Rounds.{round_phase}
 use Rattle.npos_runtime.specs.Decision.{decision_phase}
 use Rattle.npos_runtime.specs.Calls.{stop_of, done_of, told_of}
 
 abbrev pub opened : ℕ → Chain → Outcome
 opened number chain = telling (lines.Block number ∷ []) chain
+
+-- the exposures of who waited are those of the era that begins
+abbrev pub eras_after : Eras → Option Committee → Option ℕ → Eras
+eras_after eras waiting None = eras
+eras_after eras waiting (Some era) = started (exposed waiting) eras
 
 -- nobody waits from an era's start on
 abbrev pub waiting_after : Option Committee → Option ℕ → Option Committee
@@ -26,7 +33,10 @@ waiting_after waiting (Some era) = None
 abbrev pub era_phase : Chain → Outcome
 era_phase chain =
     telling (option_to_list (option_map lines.Era (begun_era chain.params chain.due)))
-    (record chain { waiting = waiting_after chain.waiting (begun_era chain.params chain.due) })
+    (record chain {
+      waiting = waiting_after chain.waiting (begun_era chain.params chain.due);
+      eras = eras_after chain.eras chain.waiting (begun_era chain.params chain.due);
+    })
 
 -- one call, at its place in the block
 abbrev pub call_after : Option Refusal → ℕ → Call → Chain → Outcome

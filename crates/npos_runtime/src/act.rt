@@ -1,21 +1,22 @@
 //! The kinds of call, one function each.
 ghost use Rattle.std.specs.Prelude.{◌≡◌, ◌+◌, ◌<◌, ◌^◌, ◌++◌, Err, None, Some, OnOk, IfErr};
-ghost use Rattle.npos_runtime.specs.declared.refusal.Refusal.TheVariants as refusals;
-ghost use Rattle.npos_runtime.specs.declared.stop.Stop.TheVariants as stops;
 ghost use Rattle.npos_runtime.specs.Outcome.{Meets};
 ghost use Rattle.npos_runtime.specs.Live.{IsLive, IsJoined};
 ghost use Rattle.npos_runtime.specs.Ballots.{active_of};
 ghost use Rattle.npos_runtime.specs.Calls.{release_now, stop_of, done_of, told_of, transfer_stop, transfer_done, bond_stop, bond_done, bond_extra_stop, bond_extra_done, unbond_stop, unbond_done, rebond_stop, rebond_done, withdraw_stop, withdraw_done, least_active, role_refusal, nominate_stop, nominate_done, validate_stop, validate_done, chill_stop, chill_done, rebag_stop, rebag_done, put_in_front_stop, put_in_front_done};
 ghost use Rattle.voter_lists.specs.Bags.{is_listed};
-ghost use Rattle.npos_runtime.specs.Lists.{has_role, is_role, listed_anew, placed, retired, unlisted, with_stake};
+ghost use Rattle.npos_runtime.specs.Lists.{listed_anew, placed, retired, unlisted, with_stake};
 
+use crate::lists::{has_role, is_role, retire};
+use crate::offices::{offence, payout, points};
 use crate::rules::{bonding_eras_of, era_of, least_bond_of};
 use crate::signed::submit;
 use crate::stop::Stop;
-use crate::{Chain, Line, Refusal};
+use crate::{Chain, Line};
 use block_wire::CallKind;
 use npos_base::{AccountId, List, NoMemory};
 use stake_ledger::LedgerRefusal;
+use std::alloc::Global;
 use voter_lists::{Bags, Role};
 
 fn transfer(chain: &mut Chain, who: AccountId, to: AccountId, value: u64) -> Result<(), Stop>
@@ -66,22 +67,6 @@ fn least_active(chain: &Chain, who: AccountId) -> u64
     }
 }
 
-#[tactic(auto, using(crate::proofs::ListLemmas::role_tells))]
-fn has_role(chain: &Chain, who: AccountId) -> bool
-    ensures { result ≡ has_role chain.now.roles who }
-{
-    is_role(chain.roles.role(who))
-}
-
-fn is_role(role: Role) -> bool
-    ensures { result ≡ is_role role }
-{
-    match role {
-        Role::Nobody => false,
-        Role::Nominator | Role::Validator { .. } => true,
-    }
-}
-
 /// The era in which stake is free that is unbonded now.
 fn release(chain: &Chain) -> u32
     requires { IsLive chain.now }
@@ -120,17 +105,6 @@ fn withdraw(chain: &mut Chain, who: AccountId) -> Result<(), Stop>
     chain.book.withdraw(who, era)?;
     retire(chain, who);
     Ok(())
-}
-
-/// A role ends where nothing is bonded behind it any more.
-fn retire(chain: &mut Chain, who: AccountId)
-    requires { IsJoined chain.old.roles chain.old.bags }
-    ensures { chain.new ≡ retired who chain.old }
-{
-    if has_role(chain, who) && !chain.book.bonded(who) {
-        let _ = chain.roles.chill(who);
-        chain.bags.remove(who);
-    }
 }
 
 /// Whether the account may take a role.
@@ -229,16 +203,11 @@ fn put_in_front(chain: &mut Chain, who: AccountId, lighter: AccountId) -> Result
     Ok(())
 }
 
-fn not_built() -> Result<(), Stop>
-    ensures { result ≡ Err (stops.Refused refusals.NotBuilt) }
-{
-    Err(Stop::Refused(Refusal::NotBuilt))
-}
-
 /// Does what the call asks for, or stops. What it tells besides that it was accepted goes to
 /// `more`.
 #[tactic(auto, unfolding(crate::specs::Calls::stop_of, crate::specs::Calls::done_of, crate::specs::Calls::told_of))]
 pub fn act(
+    alloc: Global,
     chain: &mut Chain,
     more: &mut Vec<Line>,
     who: AccountId,
@@ -267,6 +236,12 @@ pub fn act(
             claim,
             bytes,
         } => submit(chain, more, who, round, claim, bytes),
-        _ => not_built(),
+        CallKind::Points { items } => points(chain, who, items),
+        CallKind::Payout { era, validator } => payout(alloc, chain, more, era, validator),
+        CallKind::Offence {
+            era,
+            validator,
+            fraction,
+        } => offence(alloc, chain, more, who, era, validator, fraction),
     }
 }

@@ -10,6 +10,7 @@ ghost use Rattle.npos_runtime.specs.declared.begin.GenesisFault.TheVariants.{NoM
 use crate::Chain;
 use crate::rules::places_of;
 use block_wire::{Endowment, Genesis, Params};
+use era_book::EraBook;
 use npos_base::{List, NoMemory};
 use stake_ledger::{Book, LedgerRefusal};
 use std::alloc::Global;
@@ -243,6 +244,7 @@ pub fn begin(alloc: Global, genesis: Genesis) -> Result<Chain, GenesisFault>
         queue,
         next: 1,
         waiting: None,
+        eras: EraBook::new(alloc),
         due: 1,
     })
 }

@@ -2,6 +2,7 @@
 
 use crate::{Round, Waiting};
 use block_wire::Params;
+use era_book::EraBook;
 use stake_ledger::Book;
 use submission_queue::Queue;
 use voter_lists::{Bags, Roles};
@@ -24,6 +25,8 @@ pub struct Chain {
     pub next: u64,
     /// The committee that waits for its era, if any.
     pub waiting: Option<Waiting>,
+    /// The members of the current era and of those before it, with what became of them.
+    pub eras: EraBook,
     /// The number of the next block.
     pub due: u64,
 }

@@ -1,13 +1,24 @@
 //! What becomes of deposits, and what is told of it.
 ghost use Rattle.std.specs.Prelude.{◌≡◌, ◌++◌, ◌≤◌, [], ◌∷◌, OnOk};
 ghost use Rattle.stake_ledger.specs.Ledger.{row_at};
+ghost use Rattle.stake_ledger.specs.Calls.{deposit_held};
 ghost use Rattle.submission_queue.specs.Ranking.{empty_queue};
 ghost use Rattle.npos_runtime.specs.Deposits.{AreHeld, returned, all_returned, return_line, return_lines};
 
 use crate::Line;
-use npos_base::NoMemory;
+use npos_base::{AccountId, NoMemory};
 use stake_ledger::Book;
 use submission_queue::{Queue, Submission};
+
+/// The deposit is held. The account has that much free, so this fails for want of memory alone.
+pub fn hold(book: &mut Book, who: AccountId, deposit: u64) -> Result<(), NoMemory>
+    ensures { OnOk result (book.new ≡ deposit_held who deposit book.old) }
+{
+    match book.hold_deposit(who, deposit) {
+        Ok(()) => Ok(()),
+        Err(_) => Err(NoMemory),
+    }
+}
 
 /// The deposit of a submission is free again.
 pub fn return_deposit(

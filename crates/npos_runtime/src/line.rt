@@ -69,4 +69,14 @@ pub enum Line {
         index: u32,
         code: u32,
     },
+    /// So much of an era's reward was minted to the account.
+    Paid {
+        who: AccountId,
+        amount: u64,
+    },
+    /// So much was taken from the account for an offence, and burned.
+    Slashed {
+        who: AccountId,
+        amount: u64,
+    },
 }

@@ -1,7 +1,8 @@
 //! Why a call of a block is refused.
 ghost use Rattle.std.specs.Prelude.{◌≡◌};
-ghost use Rattle.npos_runtime.specs.Refusals.{code_of, ledger_code, list_code};
+ghost use Rattle.npos_runtime.specs.Refusals.{code_of, era_code, ledger_code, list_code};
 
+use era_book::EraRefusal;
 use stake_ledger::LedgerRefusal;
 use voter_lists::ListRefusal;
 
@@ -12,6 +13,8 @@ pub enum Refusal {
     Ledger(LedgerRefusal),
     /// The roles or the bags refuse, for one of their reasons other than want of memory.
     List(ListRefusal),
+    /// The eras refuse, for one of their reasons other than want of memory.
+    Era(EraRefusal),
     /// The queue is full, and the claim is not better than the last one in it.
     NotBetter,
     /// No round takes submissions in this block.
@@ -20,8 +23,8 @@ pub enum Refusal {
     WrongRound,
     /// The solution has more bytes than the genesis allows.
     SolutionTooLong,
-    /// Calls of this kind are not built yet.
-    NotBuilt,
+    /// Only the root of the genesis may call this.
+    NotRoot,
 }
 
 impl Refusal {
@@ -32,11 +35,12 @@ impl Refusal {
         match self {
             Refusal::Ledger(refusal) => ledger_code(refusal),
             Refusal::List(refusal) => list_code(refusal),
+            Refusal::Era(refusal) => era_code(refusal),
             Refusal::NotBetter => 20,
+            Refusal::NotRoot => 27,
             Refusal::WrongPhase => 28,
             Refusal::WrongRound => 29,
             Refusal::SolutionTooLong => 30,
-            Refusal::NotBuilt => 99,
         }
     }
 }
@@ -75,5 +79,21 @@ fn list_code(refusal: ListRefusal) -> u32
         ListRefusal::OtherBag => 18,
         ListRefusal::NotHeavier => 19,
         ListRefusal::NoMemory => 0,
+    }
+}
+
+/// The number of a reason of the eras. Want of memory is none, and has the number 0.
+fn era_code(refusal: EraRefusal) -> u32
+    ensures { result ≡ era_code refusal }
+{
+    match refusal {
+        EraRefusal::BadFraction => 15,
+        EraRefusal::UnknownEra => 21,
+        EraRefusal::EraNotOver => 22,
+        EraRefusal::NotExposed => 23,
+        EraRefusal::AlreadyClaimed => 24,
+        EraRefusal::NotGreater => 25,
+        EraRefusal::NoPoints => 26,
+        EraRefusal::NoMemory => 0,
     }
 }

@@ -7,6 +7,14 @@ ghost use Rattle.npos_runtime.specs.Live.{AreSound};
 ghost use Rattle.npos_base.specs.declared.limits.TheConstants.{MOST_QUEUED};
 
 use block_wire::Params;
+use npos_base::AccountId;
+
+/// Who gives points and reports offences. A plain genesis names nobody, and then it is account 0.
+pub fn root_of(params: &Option<Params>) -> AccountId
+    ensures { result ≡ rules.root_of params.now }
+{
+    params.as_ref().map_or(AccountId { hi: 0, lo: 0 }, |params| params.root)
+}
 
 /// The number of eras that stake stays bonded after an unbond: Substrate's bonding duration.
 pub fn bonding_eras_of(params: &Option<Params>) -> u32
@@ -94,6 +102,13 @@ pub fn reward_of(params: &Option<Params>) -> u64
     ensures { result ≡ rules.reward_of params.now }
 {
     params.as_ref().map_or(0, |params| params.reward)
+}
+
+/// What the validators of an era share by their points.
+pub fn era_reward_of(params: &Option<Params>) -> u64
+    ensures { result ≡ rules.era_reward_of params.now }
+{
+    params.as_ref().map_or(0, |params| params.era_reward)
 }
 
 /// The most bytes of a solution.

@@ -14,6 +14,7 @@ use crate::step::take_block;
 use crate::{Chain, GenesisFault, Line};
 use block_wire::{Block, Genesis};
 use election_check::Elected;
+use era_book::EraBook;
 use npos_base::{List, NoMemory};
 use stake_ledger::{Book, Totals};
 use std::alloc::Global;
@@ -169,6 +170,14 @@ impl Runtime {
             Some(waiting) => Some(&waiting.elected),
             None => None,
         }
+    }
+
+    /// The members of the current era and of those before it. An era begins with the exposures of
+    /// the committee that waited for it.
+    pub fn eras(&self) -> &EraBook
+        ensures { result.now ≡ self.now.state.eras }
+    {
+        &self.chain.eras
     }
 
     /// The sums over the books. All holdings equal genesis plus minted less burned, also where the

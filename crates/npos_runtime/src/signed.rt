@@ -2,16 +2,15 @@
 ghost use Rattle.std.specs.Prelude.{◌≡◌, ◌+◌, ◌++◌, ◌<◌, ◌^◌, None, Some, OnOk, IfErr};
 ghost use Rattle.npos_runtime.specs.Outcome.{Meets};
 ghost use Rattle.npos_runtime.specs.Live.{IsLive};
-ghost use Rattle.stake_ledger.specs.Calls.{deposit_held};
 ghost use Rattle.npos_runtime.specs.Deposits.{return_lines};
 ghost use Rattle.npos_runtime.specs.Signed.{is_open, form_refusal, offer_refusal, ejected, submitted, submit_stop, submit_done, submit_told};
 
-use crate::deposits::return_deposit;
+use crate::deposits::{hold, return_deposit};
 use crate::rules::{deposit_of, era_of, is_signed, solution_max_of};
 use crate::stop::Stop;
 use crate::{Chain, Line, Refusal, Round};
-use npos_base::{AccountId, List, NoMemory, Score};
-use stake_ledger::{Book, LedgerRefusal};
+use npos_base::{AccountId, List, Score};
+use stake_ledger::LedgerRefusal;
 use submission_queue::Submission;
 
 fn is_open(round: &Option<Round>) -> bool
@@ -40,16 +39,6 @@ fn check_form(chain: &Chain, round: u32, bytes: &[u8]) -> Result<(), Refusal>
         return Err(Refusal::SolutionTooLong);
     }
     Ok(())
-}
-
-/// The deposit is held. The account has that much free, so this fails for want of memory alone.
-fn hold(book: &mut Book, who: AccountId, deposit: u64) -> Result<(), NoMemory>
-    ensures { OnOk result (book.new ≡ deposit_held who deposit book.old) }
-{
-    match book.hold_deposit(who, deposit) {
-        Ok(()) => Ok(()),
-        Err(_) => Err(NoMemory),
-    }
 }
 
 /// Puts a submission into the queue, and gives back the deposit of the one that it ejects.

@@ -1,31 +1,20 @@
 //! The parts of a step: each tells its lines and says what becomes of the chain.
 ghost use Rattle.std.specs.Prelude.{◌≡◌, ◌+◌, ◌<◌, ◌≤◌, ◌^◌, [], length, OnOk, IfOk};
 ghost use Rattle.npos_runtime.specs.Outcome.{Goes, Outcome};
-ghost use Rattle.npos_runtime.specs.Step.{call_outcome, calls_outcome, era_phase, opened, step};
+ghost use Rattle.npos_runtime.specs.Step.{call_outcome, calls_outcome, opened, step};
 ghost use Rattle.npos_runtime.specs.Rounds.{round_phase};
 ghost use Rattle.npos_runtime.specs.Live.{IsLive, IsReady};
 
 use crate::act::act;
 use crate::ballot::take_snapshot;
 use crate::decision::decide_round;
-use crate::rules::{begun_era, begun_round};
+use crate::era::begin_era;
+use crate::rules::begun_round;
 use crate::stop::Stop;
 use crate::{Chain, Line};
 use block_wire::Call;
 use npos_base::NoMemory;
 use std::alloc::Global;
-
-/// An era may begin. Then nobody waits any more.
-fn begin_era(chain: &mut Chain, lines: &mut Vec<Line>) -> Result<(), NoMemory>
-    requires { IsLive chain.old }
-    ensures { OnOk result (Goes (era_phase chain.old) chain.new lines.old.items lines.new.items) }
-{
-    if let Some(era) = begun_era(&chain.params, chain.due) {
-        lines.push(Line::Era { era })?;
-        chain.waiting = None;
-    }
-    Ok(())
-}
 
 /// A round may begin, with its snapshot.
 fn begin_round(alloc: Global, chain: &mut Chain, lines: &mut Vec<Line>) -> Result<(), NoMemory>
@@ -55,7 +44,7 @@ fn take_call(
 {
     let Call { who, kind } = call;
     let mut more = Vec::new(alloc);
-    match act(chain, &mut more, who, kind) {
+    match act(alloc, chain, &mut more, who, kind) {
         Ok(()) => {
             lines.push(Line::CallOk { index })?;
             lines.extend_from_slice(more.as_slice())?;
@@ -112,7 +101,7 @@ pub fn take_block(
     ensures ready_after { OnOk result (IsReady chain.new) }
 {
     lines.push(Line::Block { number })?;
-    begin_era(chain, lines)?;
+    begin_era(alloc, chain, lines)?;
     begin_round(alloc, chain, lines)?;
     decide_round(alloc, chain, lines)?;
     take_calls(alloc, chain, lines, calls)?;

@@ -3,6 +3,7 @@ ghost use Rattle.std.specs.Prelude.{◌≡◌};
 ghost use Rattle.npos_runtime.specs.declared.stop.Stop.TheVariants.{NoMemory as NoMemoryStop};
 
 use crate::Refusal;
+use era_book::EraRefusal;
 use npos_base::NoMemory;
 use stake_ledger::LedgerRefusal;
 use voter_lists::ListRefusal;
@@ -36,6 +37,19 @@ impl From<ListRefusal> for Stop {
         match refusal {
             ListRefusal::NoMemory => Stop::NoMemory,
             refusal => Stop::Refused(Refusal::List(refusal)),
+        }
+    }
+}
+
+impl From<EraRefusal> for Stop {
+    ghost use Rattle.npos_runtime.specs.Stops.{era_stop};
+
+    ghost from_gives = { λ refusal stop. stop ≡ era_stop refusal };
+
+    fn from(refusal: EraRefusal) -> Stop {
+        match refusal {
+            EraRefusal::NoMemory => Stop::NoMemory,
+            refusal => Stop::Refused(Refusal::Era(refusal)),
         }
     }
 }

@@ -1,11 +1,13 @@
 use Rattle.std.proofs.Common.{◌≡◌, ◌+◌, ◌-◌, ◌*◌, ◌≤◌, ◌<◌, ◌^◌, ℕ, length, arith, ap, sym, subst, ◌∙◌}
 use Rattle.npos_runtime.specs.Offers.{before_calls}
 use Rattle.npos_runtime.specs.declared.chain.Chain.{Chain}
-use Rattle.npos_runtime.specs.Step.{era_phase}
+use Rattle.npos_runtime.specs.Step.{era_phase, calls_outcome}
 use Rattle.npos_runtime.specs.Rounds.{round_phase}
 use Rattle.npos_runtime.specs.Decision.{decision_phase}
 use Rattle.npos_runtime.specs.Live.{IsLive, IsReady, most_calls}
-use Rattle.npos_runtime.proofs.LiveLemmas.{live_era, live_round, live_before, live_closed, due_before, next_before, due_calls, next_calls}
+use Rattle.npos_runtime.specs.Rules.{era_of}
+use Rattle.npos_runtime.proofs.EraLemmas.{era_within}
+use Rattle.npos_runtime.proofs.LiveLemmas.{live_era, live_round, live_before, live_closed, due_before, next_before, due_calls, next_calls, era_step}
 use Rattle.npos_runtime.proofs.step.take_block.Goals as goal
 
 -- the chain when its calls begin
@@ -13,6 +15,15 @@ begun : (old era round decided : Chain) → era ≡ (era_phase old).state → ro
     → decided ≡ (decision_phase round).state → decided ≡ before_calls old
 begun old era round decided e r d =
     d ∙ ap (λ (c : Chain). (decision_phase c).state) (r ∙ ap (λ (c : Chain). (round_phase c).state) e)
+
+pub begin_era-requires-clause-more : goal.begin_era-requires-clause-more
+begin_era-requires-clause-more c =
+    omega (
+      arith,
+      c.requires.ready.era,
+      era_within c.args.chain.now.params (c.args.chain.now.due - 1),
+      c.requires.ready.live.due_at_most,
+    )
 
 pub begin_round-requires : goal.begin_round-requires
 begin_round-requires c = subst IsLive (sym c.in_ok-begin_era.ensures.state) (live_era c.args.chain.now c.requires.ready.live)
@@ -71,4 +82,7 @@ returns-clause-ready_after c =
         c.requires.ready.live.due_at_least,
         c.requires.few,
       );
+      era = subst (λ (chain : Chain). chain.eras.current ≡ era_of chain.params (chain.due + 1 - 1))
+          (sym (called ∙ ap (λ (chain : Chain). (calls_outcome 0 c.args.calls.items chain).state) same))
+          (era_step c.args.chain.now (record { number = c.args.number; calls = c.args.calls.items }) c.requires.ready.live c.requires.ready.era);
     }

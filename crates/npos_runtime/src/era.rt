@@ -1,0 +1,102 @@
+//! The begin of an era: the committee that waited is exposed from then on.
+ghost use Rattle.std.specs.Prelude.{◌≡◌, ◌<◌, ◌-◌, ◌^◌, length, map, OnOk, IfOk};
+ghost use Rattle.std.specs.List.{range_with_len};
+ghost use Rattle.election_snapshot.specs.Draft.{accounts_of};
+ghost use Rattle.weight_book.specs.Weights.{support};
+ghost use Rattle.era_book.specs.Exposures.{AreSound};
+ghost use Rattle.npos_runtime.specs.Outcome.{Goes};
+ghost use Rattle.npos_runtime.specs.Exposed.{exposed, exposures_of};
+ghost use Rattle.npos_runtime.specs.Step.{era_phase};
+ghost use Rattle.npos_runtime.specs.Live.{IsLive, IsNotedCommittee, AreNoted};
+
+use crate::rules::begun_era;
+use crate::{Chain, Line, Waiting};
+use election_check::Elected;
+use election_snapshot::Snapshot;
+use era_book::{Exposure, exposures_by_voter};
+use npos_base::{AccountId, List, NoMemory};
+use std::alloc::Global;
+
+/// The accounts of the targets, in their order.
+fn targets(alloc: Global, snapshot: &Snapshot) -> Result<Vec<AccountId>, NoMemory>
+    ensures { IfOk result (λ targets. targets.items ≡ snapshot.now.targets) }
+{
+    let mut targets = Vec::new(alloc);
+    for i in 0..snapshot.target_count() {
+        targets.push(snapshot.target(i as u16))?;
+    }
+    Ok(targets)
+}
+
+/// The accounts of the voters, in their order.
+fn voters(alloc: Global, snapshot: &Snapshot) -> Result<Vec<AccountId>, NoMemory>
+    ensures { IfOk result (λ voters. voters.items ≡ accounts_of snapshot.now.voters) }
+{
+    let mut voters = Vec::new(alloc);
+    for i in 0..snapshot.voter_count() {
+        voters.push(snapshot.voter(i as u32))?;
+    }
+    Ok(voters)
+}
+
+/// The supports of the targets, in their order.
+fn supports(alloc: Global, elected: &Elected) -> Result<Vec<u64>, NoMemory>
+    ensures { IfOk result (λ supports. supports.items ≡ map (support elected.now.weights.plain.edges)
+        (range_with_len 0 (length elected.now.snapshot.targets))) }
+{
+    let mut supports = Vec::new(alloc);
+    for i in 0..elected.snapshot().target_count() {
+        supports.push(elected.support(i as u16))?;
+    }
+    Ok(supports)
+}
+
+/// The exposures of the members of a committee.
+fn exposures(alloc: Global, waiting: &Waiting) -> Result<List<Exposure>, NoMemory>
+    requires { AreNoted waiting.now.snapshot.targets waiting.now.commissions }
+    ensures value { IfOk result (λ exposures. exposures ≡ exposures_of waiting.now) }
+    ensures sound { IfOk result (λ exposures. AreSound exposures) }
+{
+    let elected = &waiting.elected;
+    let targets = targets(alloc, elected.snapshot())?;
+    let voters = voters(alloc, elected.snapshot())?;
+    let supports = supports(alloc, elected)?;
+    let mut edges = Vec::from_slice(alloc, elected.edges())?;
+    let exposures = exposures_by_voter(
+        alloc,
+        targets.as_slice(),
+        waiting.commissions.as_slice(),
+        supports.as_slice(),
+        voters.as_slice(),
+        elected.committee(),
+        edges.as_mut_slice(),
+    )?;
+    Ok(exposures)
+}
+
+/// The exposures of who waits. Nobody is exposed where nobody does.
+fn exposed(alloc: Global, waiting: Option<Waiting>) -> Result<List<Exposure>, NoMemory>
+    requires { IsNotedCommittee waiting }
+    ensures value { IfOk result (λ exposures. exposures ≡ exposed waiting) }
+    ensures sound { IfOk result (λ exposures. AreSound exposures) }
+{
+    match waiting {
+        Some(waiting) => exposures(alloc, &waiting),
+        None => Ok(List::new(alloc)),
+    }
+}
+
+/// An era may begin. The exposures of who waited are then those of that era, and nobody waits any
+/// more.
+pub fn begin_era(alloc: Global, chain: &mut Chain, lines: &mut Vec<Line>) -> Result<(), NoMemory>
+    requires live { IsLive chain.old }
+    requires more { chain.old.eras.current < 2 ^ 32 - 1 }
+    ensures { OnOk result (Goes (era_phase chain.old) chain.new lines.old.items lines.new.items) }
+{
+    if let Some(era) = begun_era(&chain.params, chain.due) {
+        lines.push(Line::Era { era })?;
+        let exposures = exposed(alloc, chain.waiting.take())?;
+        chain.eras.start_era(exposures)?;
+    }
+    Ok(())
+}

@@ -1,0 +1,37 @@
+//! Who has a role, and when a role ends.
+ghost use Rattle.std.specs.Prelude.{◌≡◌};
+ghost use Rattle.npos_runtime.specs.Live.{IsJoined};
+ghost use Rattle.npos_runtime.specs.Lists.{has_role, is_role, retired};
+
+use crate::Chain;
+use npos_base::AccountId;
+use voter_lists::Role;
+
+/// Whether the account has a role.
+#[tactic(auto, using(crate::proofs::ListLemmas::role_tells))]
+pub fn has_role(chain: &Chain, who: AccountId) -> bool
+    ensures { result ≡ has_role chain.now.roles who }
+{
+    is_role(chain.roles.role(who))
+}
+
+/// Whether this is a role.
+pub fn is_role(role: Role) -> bool
+    ensures { result ≡ is_role role }
+{
+    match role {
+        Role::Nobody => false,
+        Role::Nominator | Role::Validator { .. } => true,
+    }
+}
+
+/// A role ends where nothing is bonded behind it any more.
+pub fn retire(chain: &mut Chain, who: AccountId)
+    requires { IsJoined chain.old.roles chain.old.bags }
+    ensures { chain.new ≡ retired who chain.old }
+{
+    if has_role(chain, who) && !chain.book.bonded(who) {
+        let _ = chain.roles.chill(who);
+        chain.bags.remove(who);
+    }
+}

@@ -1,0 +1,159 @@
+//! Points, payouts and offences.
+ghost use Rattle.std.specs.Prelude.{◌≡◌, ◌≤◌, ◌++◌, map, OnOk};
+ghost use Rattle.stake_ledger.specs.Calls.{minted_free, room_of};
+ghost use Rattle.era_book.specs.Exposures.{amount_sum};
+ghost use Rattle.npos_runtime.specs.Outcome.{Goes, Meets};
+ghost use Rattle.npos_runtime.specs.Live.{IsLive};
+ghost use Rattle.npos_runtime.specs.Offices.{is_root, points_stop, points_done, payout_stop, payout_done, payout_told, opened, all_minted, paid_line, offence_stop, offence_done, offence_told, slash_outcome, slashes};
+
+use crate::deposits::hold;
+use crate::lists::retire;
+use crate::rules::{era_reward_of, root_of};
+use crate::stop::Stop;
+use crate::{Chain, Line, Refusal};
+use era_book::Backer;
+use npos_base::{AccountId, List, NoMemory};
+use stake_ledger::{Book, LedgerRefusal};
+use std::alloc::Global;
+
+fn is_root(chain: &Chain, who: AccountId) -> bool
+    ensures { result ≡ is_root chain.now who }
+{
+    who == root_of(&chain.params)
+}
+
+/// Gives points to members of the current era.
+pub fn points(
+    chain: &mut Chain,
+    who: AccountId,
+    items: List<(AccountId, u32)>,
+) -> Result<(), Stop>
+    ensures { Meets (points_stop chain.old who items)
+        (points_done chain.old items) chain.old chain.new result }
+{
+    if !is_root(chain, who) {
+        return Err(Stop::Refused(Refusal::NotRoot));
+    }
+    chain.eras.add_points(items.as_slice())?;
+    Ok(())
+}
+
+/// Opens the account's row, where it has none.
+fn open(book: &mut Book, who: AccountId) -> Result<(), NoMemory>
+    ensures { OnOk result (book.new ≡ opened who book.old) }
+{
+    if !book.knows(who) {
+        hold(book, who, 0)?;
+    }
+    Ok(())
+}
+
+/// Mints to an account. Who was exposed is known, so its row is there; else it opens.
+#[tactic(auto, using(crate::proofs::OfficeLemmas::opened_known, crate::proofs::OfficeLemmas::opened_fits, crate::proofs::OfficeLemmas::opened_minted))]
+fn mint(book: &mut Book, who: AccountId, amount: u64) -> Result<(), NoMemory>
+    requires { amount ≤ room_of book.old }
+    ensures { OnOk result (book.new ≡ minted_free who amount book.old) }
+{
+    open(book, who)?;
+    match book.mint_free(who, amount) {
+        Ok(()) => Ok(()),
+        Err(_) => unreachable!(),
+    }
+}
+
+/// Mints each line, and tells it.
+fn pay(book: &mut Book, more: &mut Vec<Line>, lines: List<Backer>) -> Result<(), NoMemory>
+    requires { amount_sum lines ≤ room_of book.old }
+    ensures book { OnOk result (book.new ≡ all_minted lines book.old) }
+    ensures told { OnOk result (more.new.items ≡ more.old.items ++ map paid_line lines) }
+{
+    'lines: for line in lines.into_vec() {
+        mint(book, line.who, line.amount)?;
+        more.push(Line::Paid {
+            who: line.who,
+            amount: line.amount,
+        })?;
+    }
+    Ok(())
+}
+
+/// Pays a validator and those who backed it for an era. All is checked before anything changes.
+pub fn payout(
+    alloc: Global,
+    chain: &mut Chain,
+    more: &mut Vec<Line>,
+    era: u32,
+    validator: AccountId,
+) -> Result<(), Stop>
+    ensures meets { Meets (payout_stop chain.old era validator)
+        (payout_done chain.old era validator) chain.old chain.new result }
+    ensures told { OnOk result
+        (more.new.items ≡ more.old.items ++ payout_told chain.old era validator) }
+{
+    let reward = era_reward_of(&chain.params);
+    let payout = chain.eras.payout_list(alloc, era, validator, reward)?;
+    if payout.total > chain.book.room() {
+        return Err(Stop::Refused(Refusal::Ledger(LedgerRefusal::IssuanceCap)));
+    }
+    pay(&mut chain.book, more, payout.lines)?;
+    chain.eras.mark_paid(era, validator);
+    Ok(())
+}
+
+/// Takes what is due from an account, and tells it unless it is nothing. A role ends where nothing
+/// is bonded behind it any more.
+fn slash(chain: &mut Chain, more: &mut Vec<Line>, due: Backer) -> Result<(), NoMemory>
+    requires { IsLive chain.old }
+    ensures { OnOk result
+        (Goes (slash_outcome due chain.old) chain.new more.old.items more.new.items) }
+{
+    let amount = chain.book.slash(due.who, due.amount);
+    retire(chain, due.who);
+    if amount > 0 {
+        more.push(Line::Slashed {
+            who: due.who,
+            amount,
+        })?;
+    }
+    Ok(())
+}
+
+/// Slashes one account after the other.
+fn slash_all(
+    chain: &mut Chain,
+    more: &mut Vec<Line>,
+    dues: List<Backer>,
+) -> Result<(), NoMemory>
+    requires { IsLive chain.old }
+    ensures { OnOk result (Goes (slashes dues chain.old) chain.new more.old.items more.new.items) }
+{
+    'dues: for due in dues.into_vec() {
+        slash(chain, more, due)?;
+    }
+    Ok(())
+}
+
+/// Slashes those who backed a validator in an era, and keeps the fraction.
+pub fn offence(
+    alloc: Global,
+    chain: &mut Chain,
+    more: &mut Vec<Line>,
+    who: AccountId,
+    era: u32,
+    validator: AccountId,
+    fraction: u32,
+) -> Result<(), Stop>
+    requires { IsLive chain.old }
+    ensures meets { Meets (offence_stop chain.old who era validator fraction)
+        (offence_done chain.old era validator fraction) chain.old chain.new result }
+    ensures told { OnOk result
+        (more.new.items ≡ more.old.items ++ offence_told chain.old era validator fraction) }
+{
+    if !is_root(chain, who) {
+        return Err(Stop::Refused(Refusal::NotRoot));
+    }
+    let dues = chain.eras.slash_list(alloc, era, validator, fraction)?;
+    slash_all(chain, more, dues)?;
+    chain.eras.mark_slashed(era, validator, fraction);
+    Ok(())
+}
