@@ -138,18 +138,18 @@ pub fn offence(
     alloc: Global,
     chain: &mut Chain,
     more: &mut Vec<Line>,
-    who: AccountId,
+    reporter: AccountId,
     era: u32,
     validator: AccountId,
     fraction: u32,
 ) -> Result<(), Stop>
     requires { IsLive chain.old }
-    ensures meets { Meets (offence_stop chain.old who era validator fraction)
+    ensures meets { Meets (offence_stop chain.old reporter era validator fraction)
         (offence_done chain.old era validator fraction) chain.old chain.new result }
     ensures told { OnOk result
         (more.new.items ≡ more.old.items ++ offence_told chain.old era validator fraction) }
 {
-    if !is_root(chain, who) {
+    if !is_root(chain, reporter) {
         return Err(Stop::Refused(Refusal::NotRoot));
     }
     let dues = chain.eras.slash_list(alloc, era, validator, fraction)?;
