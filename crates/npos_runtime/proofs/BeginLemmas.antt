@@ -15,6 +15,7 @@ use Rattle.stake_ledger.proofs.KeepLemmas.{balanced_endowed}
 use Rattle.npos_runtime.specs.declared.begin.GenesisFault.{GenesisFault}
 use Rattle.npos_runtime.specs.declared.begin.GenesisFault.TheVariants.{RepeatedAccount, TooMuch}
 use Rattle.era_book.specs.Eras.{first_era}
+use Rattle.npos_runtime.proofs.RoleLemmas.{none_kept}
 use Rattle.npos_runtime.proofs.EraLemmas.{era_first}
 use Rattle.npos_runtime.specs.Genesis.{params_of, endowment_sum, endowed_all, endowment_fault, is_endowed, genesis_fault, genesis_chain, params_fault, numbers_fault, threshold_fault, limits_fault, is_within}
 use Rattle.npos_runtime.specs.declared.begin.GenesisFault.TheVariants.{BadThreshold, BadQueue, BadSolutionMax}
@@ -131,7 +132,7 @@ made_live params endowments sound none =
       listing = record { listed = λ who. refl; once = λ who. omega arith; numbered = λ k d few. absurd (omega arith) };
       roles = record { rising = nobody_rises; ranked = refl; few = omega arith };
       nominations = λ who. record { few = omega arith; distinct = refl };
-      commissions = λ who. omega arith;
+      commissions = λ who. none_kept;
       round = tt;
       noted = tt;
       waiting = tt;

@@ -1,15 +1,14 @@
 -- A committee that waits is elected, as the era book asks.
-use Rattle.std.proofs.Common.{◌≡◌, ℕ, zero, suc, ◌+◌, ◌<◌, ◌≤◌, Bool, true, false, IsTrue, nat_eq, ◌||◌, All, List, [], ◌∷◌, ◌++◌, length, take, map, get_or, slice_get, slice_index_or, Some, refl, sym, ◌∙◌, ap, subst, arith, true≢false}
-use Rattle.std.specs.List.{range_with_len}
+use Rattle.std.proofs.Common.{◌≡◌, ℕ, suc, ◌+◌, ◌<◌, Bool, true, false, nat_eq, ◌||◌, All, List, [], ◌∷◌, length, get_or, refl, sym, ap, arith, true≢false}
+use Rattle.std.specs.List.{range_with_len, IsDistinct}
 use Rattle.std.proofs.lemmas.Bool.Decides.{nat_tests}
 use Rattle.std.proofs.lemmas.List.Elements.{All-head, All-tail}
 use Rattle.std.proofs.lemmas.List.FromFn.{get_or-map-range_with_len}
-use Rattle.npos_base.specs.declared.account.AccountId.{AccountId}
-use Rattle.npos_base.specs.declared.figures.Edge.{Edge}
-use Rattle.election_snapshot.specs.Snapshot.{Voter, Snapshot, IsWellFormed, has, no_account, voter_at, nobody}
+use Rattle.election_snapshot.specs.Snapshot.{Voter, IsWellFormed, has}
 use Rattle.election_snapshot.specs.Draft.{accounts_of}
 use Rattle.weight_book.specs.Weights.{IsFeasible, support}
-use Rattle.era_book.specs.Committee.{IsElected, IsWithin, given_to}
+use Rattle.era_book.specs.Exposures.{AreSound}
+use Rattle.era_book.specs.Committee.{IsElected}
 use Rattle.npos_runtime.specs.Committee.{Committee}
 use Rattle.npos_runtime.specs.Exposed.{voters_in, supports_in}
 use Rattle.npos_runtime.specs.Live.{AreNoted}
@@ -47,10 +46,7 @@ elected committee sound feasible noted = record {
       (feasible.follows.members_in_range k d few) (omega arith);
 }
 
--- ## The lists of a snapshot, one after another
-
-pub account_next : (voters : List Voter) (i : ℕ) → i < length voters
-    → accounts_of (take i voters) ++ (slice_index_or voters i nobody).account ∷ [] ≡ accounts_of (take (i + 1) voters)
-account_next [] i below = absurd (omega (arith, below))
-account_next (voter ∷ voters) zero below = refl
-account_next (voter ∷ voters) (suc i) below = ap (λ accounts. voter.account ∷ accounts) (account_next voters i (omega (arith, below)))
+-- nobody is exposed
+pub none_sound : AreSound []
+unfolding IsDistinct
+none_sound = record { each = λ k d few. absurd (omega arith); distinct = tt }

@@ -237,10 +237,10 @@ module _ (number : ℕ) where
       fair_quiet chain (done_of chain who (kinds.Points items)) (lines.CallOk index ∷ []) refl refl refl
   fair_done index chain who (kinds.Payout era validator) live none =
       fair_quiet chain (done_of chain who (kinds.Payout era validator)) (lines.CallOk index ∷ payout_told chain era validator)
-      (settled_more (lines.CallOk index) (payout_told chain era validator) ∙ payments_settle (payout_now chain era validator).lines) refl refl
+      (omega (arith, settled_more (lines.CallOk index) (payout_told chain era validator), payments_settle (payout_now chain era validator).lines)) refl refl
   fair_done index chain who (kinds.Offence era validator fraction) live none =
       fair_quiet chain (done_of chain who (kinds.Offence era validator fraction)) (lines.CallOk index ∷ offence_told chain era validator fraction)
-      (settled_more (lines.CallOk index) (offence_told chain era validator fraction) ∙ slashes_settle (slash_in chain.eras era validator fraction) chain) refl refl
+      (omega (arith, settled_more (lines.CallOk index) (offence_told chain era validator fraction), slashes_settle (slash_in chain.eras era validator fraction) chain)) refl refl
 
   fair_after : (due : Option Refusal) (index : ℕ) (call : Call) (chain : Chain) → IsLive chain → stop_of chain call.who call.kind ≡ due
       → IsFair chain (call_after due index call chain).lines (call_after due index call chain).state

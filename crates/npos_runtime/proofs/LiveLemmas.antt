@@ -53,8 +53,8 @@ use Rattle.npos_runtime.proofs.EraLemmas.{era_begun}
 use Rattle.era_book.specs.declared.exposure.Backer.{Backer}
 use Rattle.era_book.specs.Exposures.{amount_sum}
 use Rattle.era_book.specs.Eras.{Eras}
-use Rattle.era_book.specs.Calls.{pointed, payout_refusal, paid, slash_in, reported}
-use Rattle.npos_runtime.specs.Offices.{payout_now, payout_stop, all_minted, slashed_once, slashes}
+use Rattle.era_book.specs.Calls.{pointed, payout_refusal, paid as claimed, slash_in, reported}
+use Rattle.npos_runtime.specs.Offices.{payout_now, payout_stop, all_minted, slashed_once, slashes, offence_done}
 use Rattle.npos_runtime.proofs.ElectorateLemmas.{sound_round, noted_round}
 use Rattle.npos_runtime.proofs.ListLemmas.{IsListed, listed_from, listing_from, kept_followed, kept_removed, kept_rebagged, kept_front, kept_placed}
 use Rattle.npos_runtime.proofs.RoleLemmas.{AreKept, apart_from, standing_with, standing_other, standing_without, standing_without_other, kept_without, kept_nominated, kept_validating}
@@ -229,6 +229,18 @@ pub slashes_within : (dues : List Backer) (chain : Chain)
 slashes_within [] chain = refl
 slashes_within (due ∷ more) chain = slashes_within more (slashed_once due chain)
 
+-- the slashes of a report, and the fraction kept
+pub offence_is : (chain left : Chain) (era : ℕ) (validator : AccountId) (fraction : ℕ) (dues : List Backer) (eras : Eras) → dues ≡ slash_in chain.eras era validator fraction
+    → left ≡ (slashes dues chain).state → eras ≡ reported era validator fraction left.eras → record left { eras = eras } ≡ offence_done chain era validator fraction
+offence_is chain left era validator fraction dues eras all is kept =
+    let whole : left ≡ record chain {
+      book = (slashes (slash_in chain.eras era validator fraction) chain).state.book;
+      roles = (slashes (slash_in chain.eras era validator fraction) chain).state.roles;
+      bags = (slashes (slash_in chain.eras era validator fraction) chain).state.bags;
+    } = is ∙ (ap (λ (ds : List Backer). (slashes ds chain).state) all ∙ slashes_within (slash_in chain.eras era validator fraction) chain) in
+    let marked : eras ≡ reported era validator fraction chain.eras = kept ∙ ap (λ (c : Chain). reported era validator fraction c.eras) whole in
+    λ i. record (whole i) { eras = marked i }
+
 -- an account takes a role, and keeps its place only if it had one
 placed_live : (chain : Chain) (who : AccountId) (standing : Standing) (stays : Bool) (score : ℕ) → IsLive chain → AreKept (with_standing chain.roles who standing)
     → (stays ≡ true → has_role chain.roles who ≡ true)
@@ -386,10 +398,10 @@ live_done chain who (kinds.Points items) live free = with_eras chain (pointed it
 live_done chain who (kinds.Payout era validator) live free =
     let lines : List Backer = (payout_now chain era validator).lines in
     let books = all_books_minted (release_now chain) lines chain.queue.items chain.book (payout_fits chain era validator free) (books_of chain live) in
-    with_eras (record chain { book = all_minted lines chain.book }) (paid era validator chain.eras) (with_books chain (all_minted lines chain.book) live books)
+    with_eras (record chain { book = all_minted lines chain.book }) (claimed era validator chain.eras) (with_books chain (all_minted lines chain.book) live books)
 live_done chain who (kinds.Offence era validator fraction) live free =
     let dues : List Backer = slash_in chain.eras era validator fraction in
-    subst IsLive (sym (ap (λ (c : Chain). record c { eras = reported era validator fraction chain.eras }) (slashes_within dues chain)))
+    subst IsLive (ap (λ (c : Chain). record c { eras = reported era validator fraction chain.eras }) (slashes_within dues chain))
     (with_eras (slashes dues chain).state (reported era validator fraction chain.eras) (slashes_live dues chain live))
 
 live_after : (due : Option Refusal) (index : ℕ) (call : Call) (chain : Chain) → IsLive chain → stop_of chain call.who call.kind ≡ due

@@ -93,6 +93,9 @@ nominated_rest old new who others all here q = by_account who q
     (λ same. subst (λ (a : AccountId). IsNomination (nominated_by new a)) same here)
     (λ apart. subst (λ o. IsNomination (targets_in o)) (sym (others q (apart_from who q apart))) (all q))
 
+pub none_kept : 0 ≤ WHOLE_FRACTION
+none_kept = omega arith
+
 commissions_rest : (old new : RoleList) (who : AccountId) → ((q : AccountId) → q ≢ who → standing_of new q ≡ standing_of old q)
     → ((q : AccountId) → commission_in (role_of old q) ≤ WHOLE_FRACTION) → commission_in (role_of new who) ≤ WHOLE_FRACTION
     → (q : AccountId) → commission_in (role_of new q) ≤ WHOLE_FRACTION
@@ -107,7 +110,7 @@ kept_without roles who kept = record {
   nominations = nominated_rest roles (without_role roles who) who (λ q differ. standing_without_other who q roles differ) kept.nominations
       (subst (λ o. IsNomination (targets_in o)) (sym (standing_without who roles kept.ranked.rising)) no_targets);
   commissions = commissions_rest roles (without_role roles who) who (λ q differ. standing_without_other who q roles differ) kept.commissions
-      (subst (λ o. commission_in (role_in o) ≤ WHOLE_FRACTION) (sym (standing_without who roles kept.ranked.rising)) (omega arith));
+      (subst (λ o. commission_in (role_in o) ≤ WHOLE_FRACTION) (sym (standing_without who roles kept.ranked.rising)) none_kept);
 }
 
 pub kept_nominated : (roles : RoleList) (who : AccountId) (targets : List AccountId) → AreKept roles → nominate_refusal roles who targets ≡ None
@@ -119,7 +122,7 @@ kept_nominated roles who targets kept allowed = record {
   nominations = nominated_rest roles (with_standing roles who (Nominator targets)) who (λ q differ. standing_other roles who (Nominator targets) q differ) kept.nominations
       (subst (λ o. IsNomination (targets_in o)) (sym (standing_with roles who (Nominator targets))) sound);
   commissions = commissions_rest roles (with_standing roles who (Nominator targets)) who (λ q differ. standing_other roles who (Nominator targets) q differ) kept.commissions
-      (subst (λ o. commission_in (role_in o) ≤ WHOLE_FRACTION) (sym (standing_with roles who (Nominator targets))) (omega arith));
+      (subst (λ o. commission_in (role_in o) ≤ WHOLE_FRACTION) (sym (standing_with roles who (Nominator targets))) none_kept);
 } where
   sound : IsNomination targets
   sound = record { few = grind (arith, common_steps, nat_tests, allowed); distinct = grind (arith, common_steps, allowed) }

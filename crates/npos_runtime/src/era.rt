@@ -58,6 +58,7 @@ fn exposures(alloc: Global, waiting: &Waiting) -> Result<List<Exposure>, NoMemor
     ensures sound { IfOk result (λ exposures. AreSound exposures) }
 {
     let elected = &waiting.elected;
+    let _seats = elected.snapshot().seats();
     let targets = targets(alloc, elected.snapshot())?;
     let voters = voters(alloc, elected.snapshot())?;
     let supports = supports(alloc, elected)?;
