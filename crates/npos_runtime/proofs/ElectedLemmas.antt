@@ -30,9 +30,9 @@ kept_within : (p : ℕ → Bool) (low n : ℕ) → All (λ m. m < low + n) (filt
 kept_within p low zero = All-nil (λ m. m < low + 0)
 kept_within p low (suc n) =
     at (p low) (All-weaker (λ m. m < low + 1 + n) (λ m. m < low + suc n) (λ m below. omega arith) (filter p (range_with_len (low + 1) n)) (kept_within p (low + 1) n)) where
-  at : (b : Bool) → All (λ m. m < low + suc n) (filter p (range_with_len (low + 1) n)) → All (λ m. m < low + suc n) (cond b (low ∷ filter p (range_with_len (low + 1) n)) (filter p (range_with_len (low + 1) n)))
-  at true rest = All-cons (λ m. m < low + suc n) low (filter p (range_with_len (low + 1) n)) (omega arith) rest
-  at false rest = rest
+      at : (b : Bool) → All (λ m. m < low + suc n) (filter p (range_with_len (low + 1) n)) → All (λ m. m < low + suc n) (cond b (low ∷ filter p (range_with_len (low + 1) n)) (filter p (range_with_len (low + 1) n)))
+      at true rest = All-cons (λ m. m < low + suc n) low (filter p (range_with_len (low + 1) n)) (omega arith) rest
+      at false rest = rest
 
 kept_apart : (p : ℕ → Bool) (k low n : ℕ) → k < low → AllByRecursion (λ m. nat_eq k m ≡ false) (filter p (range_with_len low n))
 kept_apart p k low zero less = tt
@@ -179,14 +179,14 @@ pub record IsGiven (committee : Committee) : Type 0 where
 pub exposures_sound : (committee : Committee) → IsGiven committee → AreNoted committee.snapshot.targets committee.commissions → AreSound (exposures_of committee)
 exposures_sound committee given noted =
     let ordered = order_law committee.snapshot.targets (voters_in committee) committee.commissions (supports_in committee) committee.weights.edges committee.weights.committee
-        (elected_by committee given.sound given.follows noted) in
+    (elected_by committee given.sound given.follows noted) in
     sound_law committee.snapshot.targets (voters_in committee) committee.commissions (supports_in committee) (edges_in committee) committee.weights.committee ordered.0
 
 pub exposures_within : (committee : Committee) (who : AccountId) → IsGiven committee → AreNoted committee.snapshot.targets committee.commissions
     → exposed_for who (exposures_of committee) ≤ stake_in committee.snapshot who
 exposures_within committee who given noted =
     let ordered = order_law committee.snapshot.targets (voters_in committee) committee.commissions (supports_in committee) committee.weights.edges committee.weights.committee
-        (elected_by committee given.sound given.follows noted) in
+    (elected_by committee given.sound given.follows noted) in
     omega (
       arith,
       spent_law committee.snapshot.targets (voters_in committee) committee.commissions (supports_in committee) (edges_in committee) committee.weights.committee who ordered.0.members_distinct,

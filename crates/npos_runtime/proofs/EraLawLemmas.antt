@@ -287,8 +287,7 @@ taken_once due book balanced = record {
 taken_each : (dues : List Backer) (chain : Chain) → IsLive chain → AreTaken dues chain.book (slashes dues chain).lines (slashes dues chain).state.book
 taken_each [] chain live = (refl, refl)
 taken_each (due ∷ more) chain live =
-    let next : Chain = slashed_once due chain in
-    (
+    let next : Chain = slashed_once due chain in (
       slash_amount (row_at chain.book due.who) due.amount,
       slashed due.who due.amount chain.book,
       (slashes more next).lines,
@@ -375,7 +374,7 @@ module _ (packed : PackedYesIsAccepting) (plain : PlainYesIsPassing) (fill : Eve
       let params : Option Params = params_of genesis in
       let sum : paid_in era genesis blocks ≡ given_by (pays era (era_reward_of params)) (events_by (genesis_chain genesis) blocks) first_era =
       sum_blocks params (paid_by era) (pays era (era_reward_of params)) (λ index call chain is. paid_call era params (stop_of chain call.who call.kind) index call chain is) (λ exposures eras. refl)
-          (genesis_chain genesis) blocks refl in
+      (genesis_chain genesis) blocks refl in
       omega (arith, sum, reward_law era (era_reward_of params) (events_by (genesis_chain genesis) blocks) (accepted_from genesis blocks sound fit))
 
   covered_from : (genesis : Genesis) (blocks : List Block) (era : ℕ) (who : AccountId) → genesis_fault genesis ≡ None → FitsBehind genesis blocks
@@ -391,7 +390,7 @@ module _ (packed : PackedYesIsAccepting) (plain : PlainYesIsPassing) (fill : Eve
       let events : List Event = events_by (genesis_chain genesis) blocks in
       let sum : due_in era who genesis blocks ≡ given_by (makes_due era who) events first_era =
       sum_blocks (params_of genesis) (due_by era who) (makes_due era who) (λ index call chain is. due_call era who (stop_of chain call.who call.kind) call.kind chain) (λ exposures eras. refl)
-          (genesis_chain genesis) blocks refl in
+      (genesis_chain genesis) blocks refl in
       omega (arith, sum, due_law era who events (accepted_from genesis blocks sound fit), covered_from genesis blocks era who sound fit)
 
   -- ## One payout

@@ -196,7 +196,7 @@ params_step chain block = (fixed_calls 0 block.calls (before_calls chain)).param
 
 module _ (params : Option Params) (gives : ℕ → Call → Chain → ℕ) (event_gives : Event → Eras → ℕ)
     (each : (index : ℕ) (call : Call) (chain : Chain) → chain.params ≡ params
-      → gives index call chain ≡ given_by event_gives (event_of (stop_of chain call.who call.kind) call.kind) chain.eras)
+    → gives index call chain ≡ given_by event_gives (event_of (stop_of chain call.who call.kind) call.kind) chain.eras)
     (start : (exposures : List Exposure) (eras : Eras) → event_gives (Started exposures) eras ≡ 0) where
   sum_calls : (index : ℕ) (calls : List Call) (chain : Chain) → chain.params ≡ params → over_calls gives index calls chain ≡ given_by event_gives (events_of index calls chain) chain.eras
   sum_calls index [] chain is = refl

@@ -108,7 +108,7 @@ module _ (params : Params) where
         let starts : Option ℕ = begun_era chain.params chain.due in
         let wait : (who : AccountId) → exposed_for who (exposed chain.waiting) ≤ stake_behind who (elected_for (length (begun events) + 1) seated) =
         λ who. subst (λ n. exposed_for who (exposed chain.waiting) ≤ stake_behind who (elected_for (n + 1) seated)) (sym h.count)
-            (waiting_within chain.waiting (elected_for (chain.eras.current + 1) seated) who h.between.waits live.waiting) in
+        (waiting_within chain.waiting (elected_for (chain.eras.current + 1) seated) who h.between.waits live.waiting) in
         record {
           between = seated_step params packed plain fill chain block seated sound live h.current h.between;
           current = era_step chain block live h.current;

@@ -71,7 +71,7 @@ HistoryLaw = (genesis : Genesis) (blocks : List Block)
     → genesis_fault genesis ≡ None → FitsBehind genesis blocks
     → AreAccepted (events_by (genesis_chain genesis) blocks) first_era
     × (after_all (events_by (genesis_chain genesis) blocks) first_era
-      ≡ (after_blocks (genesis_chain genesis) blocks).eras)
+    ≡ (after_blocks (genesis_chain genesis) blocks).eras)
 
 -- ## What blocks come to, summed over their calls
 
