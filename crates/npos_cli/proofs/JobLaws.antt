@@ -17,9 +17,9 @@ use Rattle.npos_cli.specs.Owed.{LeftAfter, AnswersFor, BeginsFor, IsDrained, Tak
 use Rattle.npos_cli.specs.Turning.{KeepsUp}
 use Rattle.npos_cli.specs.Streaming.{Delivered, Halts, CutBy, ReplayEnds, HaltedReading, HaltedWriting, HaltedStarving, ReadsWhile}
 use Rattle.npos_cli.specs.Ran.{Ran, UsageEnds}
-use Rattle.npos_cli.proofs.EdgeLaws.{unflushed}
+use Rattle.npos_cli.proofs.EdgeLaws.{fronted, unflushed}
 use Rattle.npos_cli.proofs.RunLaws.{nothing_asked, front_found, front_delivered}
-use Rattle.npos_cli.proofs.CourseLaws.{finds_for, has_written}
+use Rattle.npos_cli.proofs.CourseLaws.{finds_for, has_written, begins_starved}
 
 -- ## Counts of faults
 
@@ -65,7 +65,6 @@ usage_ran left old new reads writes wrote Unread Unwritten statuses.Usage unread
   few = λ reads. absurd reads;
   accepted = λ task e. cc;
   passes = λ e. cc;
-  usage_memory = λ _ e. cc;
   halted_reading = λ e. cc;
   halted_writing = λ e. cc;
   starved = λ e. cc;
@@ -85,7 +84,6 @@ usage_ran left old new reads writes wrote Unread Unwritten statuses.WriteFault u
   few = λ reads. absurd reads;
   accepted = λ task e. cc;
   passes = λ e. cc;
-  usage_memory = λ _ e. cc;
   halted_reading = λ e. cc;
   halted_writing = λ e. cc;
   starved = λ e. cc;
@@ -119,7 +117,6 @@ report_ran task left now old new reads read writes wrote Unread Unwritten status
   few = λ _. few;
   accepted = λ other e done. let same : task ≡ other = cc in subst (λ (t : Task). IfSome left (IsSound t)) same (accepted done);
   passes = λ e. let same : task ≡ tasks.Mine miners.Fill = cc in passes same;
-  usage_memory = λ e. cc;
   halted_reading = λ e. cc;
   halted_writing = λ e. cc;
   starved = λ e. cc;
@@ -166,7 +163,6 @@ module _ (left now : Option (List ℕ)) (old new : Option Told) (reads read writ
         few = λ bundle. absurd bundle;
         accepted = λ task e. cc;
         passes = λ e. cc;
-        usage_memory = λ e. cc;
         halted_reading = λ _ is. absurd (subst (λ (s : Status). IsAnswer s) is answers);
         halted_writing = λ _ is. absurd (subst (λ (s : Status). IsAnswer s) is answers);
         starved = λ _ is. absurd (subst (λ (s : Status). IsAnswer s) is answers);
@@ -210,7 +206,6 @@ module _ (left now : Option (List ℕ)) (old new : Option Told) (reads read writ
       few = λ bundle. absurd bundle;
       accepted = λ task e. cc;
       passes = λ e. cc;
-      usage_memory = λ e. cc;
       halted_reading = λ _ is. (halts.taken, halts.left_is, halts.written, halts.told, subst (λ (s : Status). CutBy s halts.taken halts.written) is halts.cut);
       halted_writing = λ _ is. (halts.taken, halts.left_is, halts.written, halts.told, has_written halts.taken halts.written halts.keeps_up);
       starved = λ _ is. (halts.taken, halts.left_is, halts.written, halts.told, subst (λ (s : Status). CutBy s halts.taken halts.written) is halts.cut);
@@ -245,3 +240,40 @@ pub replay_halted : (left now : Option (List ℕ)) (old new : Option Told) (read
     → ReadsWell {T = Status} reads read (Err status) → WritesWell {T = Status} writes wrote (Err status) → Ran (Some jobs.Replay) left now old new reads read writes wrote Unread Unwritten status
 replay_halted left now old new reads read writes wrote Unread Unwritten status ends reads_well writes_well =
     halts_ran left now old new reads read writes wrote Unread Unwritten status ends (err_read reads read status reads_well) (err_wrote writes wrote status writes_well)
+
+-- ## No job yet
+
+-- no status of the usage line is want of memory
+pub usage_never_starves : (old new : Option Told) (status : Status) → UsageEnds old new status → status ≢ statuses.NoMemory
+usage_never_starves old new statuses.Usage ends = λ e. cc
+usage_never_starves old new statuses.WriteFault ends = λ e. cc
+usage_never_starves old new statuses.Done ends = absurd ends
+usage_never_starves old new statuses.No ends = absurd ends
+usage_never_starves old new statuses.BadInput ends = absurd ends
+usage_never_starves old new statuses.ReadFault ends = absurd ends
+usage_never_starves old new statuses.NoMemory ends = absurd ends
+
+-- memory ran out before the job was known, and nothing was read or written
+pub starved_ran : (job : Option Job) (left : Option (List ℕ)) (old : Option Told) (reads writes : ℕ) (Unread Unwritten : Type 0) → Unread → Unwritten
+    → Ran job left left old old reads reads writes writes Unread Unwritten statuses.NoMemory
+starved_ran job left old reads writes Unread Unwritten unread unwritten =
+    let halts = begins_starved left old in
+    record {
+      answers = λ answer. absurd answer;
+      front = λ text status owed. fronted old old [] text halts.told (text, refl);
+      read_fault = λ e. cc;
+      read_fault_comes = λ rose. absurd (omega (arith, rose));
+      write_fault = λ e. cc;
+      write_fault_comes = λ rose. absurd (omega (arith, rose));
+      unwritten = λ _ _. unwritten;
+      unflushed = λ _. unflushed old old halts.written halts.told;
+      unread = λ _. unread;
+      drained = λ judged. absurd judged;
+      few = λ _ answer. absurd answer;
+      accepted = λ task e done. cc;
+      passes = λ _ e. cc;
+      halted_reading = λ _ e. cc;
+      halted_writing = λ _ e. cc;
+      starved = λ _ _. (halts.taken, halts.left_is, halts.written, halts.told, halts.cut);
+      wary = λ _. keeps_wary left left halts.taken halts.written halts.left_is halts.keeps_up;
+    }

@@ -19,18 +19,19 @@ use Rattle.election_check.specs.Laws.{packed_of}
 use Rattle.election_check.proofs.PackingLemmas.{packable}
 use Rattle.npos_cli.specs.declared.job.Miner.{Miner}
 use Rattle.npos_cli.specs.declared.job.Miner.TheVariants as miners
-use Rattle.npos_cli.specs.Mining.{mms_rounds, IsMined}
+use Rattle.npos_cli.specs.Mining.{IsMined}
+use Rattle.npos_cli.specs.Words.{MinerHasRounds}
 use Rattle.npos_cli.proofs.SpelledLaws.{bytes_solution}
 
 pub one_mined : (miner : Miner) (snapshot : Snapshot) (one other : Weights) → IsMined miner snapshot one → IsMined miner snapshot other → one ≡ other
 one_mined miners.Fill snapshot one other first second = first ∙ sym second
 one_mined miners.Seq snapshot one other first second = first ∙ sym second
-one_mined miners.Mms snapshot one other first second = one_run snapshot mms_rounds one other first.0 second.0
+one_mined (miners.Mms rounds) snapshot one other first second = one_run snapshot rounds one other first.0 second.0
 
-pub any_mined : (miner : Miner) (snapshot : Snapshot) → snapshot.seats ≤ length snapshot.targets → (weights : Weights) × IsMined miner snapshot weights
-any_mined miners.Fill snapshot enough = (filled snapshot, refl)
-any_mined miners.Seq snapshot enough = (mined snapshot, refl)
-any_mined miners.Mms snapshot enough = let run = any_run snapshot mms_rounds (omega arith) enough in (run.0, (run.1, run.2))
+pub any_mined : (miner : Miner) → MinerHasRounds miner → (snapshot : Snapshot) → snapshot.seats ≤ length snapshot.targets → (weights : Weights) × IsMined miner snapshot weights
+any_mined miners.Fill some snapshot enough = (filled snapshot, refl)
+any_mined miners.Seq some snapshot enough = (mined snapshot, refl)
+any_mined (miners.Mms rounds) some snapshot enough = let run = any_run snapshot rounds some enough in (run.0, (run.1, run.2))
 
 -- ## Weights that are packed
 
@@ -43,8 +44,8 @@ pub seq_gives : (snapshot : Snapshot) (weights : Weights) → IsWellFormed snaps
 seq_gives snapshot weights well is =
     subst (λ (w : Weights). IsGiving snapshot w) (sym is) (record { feasible = mined_feasible snapshot well; above = mined_above snapshot well })
 
-pub mms_gives : (snapshot : Snapshot) (weights : Weights) → IsMined miners.Mms snapshot weights → IsGiving snapshot weights
-mms_gives snapshot weights is = record { feasible = is.1; above = is.0.listed.above }
+pub mms_gives : (rounds : ℕ) (snapshot : Snapshot) (weights : Weights) → IsMined (miners.Mms rounds) snapshot weights → IsGiving snapshot weights
+mms_gives rounds snapshot weights is = record { feasible = is.1; above = is.0.listed.above }
 
 small : (most : ℕ) (numbers : List ℕ) → most ≤ 65536 → All (λ number. number < most) numbers → (i : ℕ) → get_or numbers i 0 < 65536
 small most [] few all i = omega arith

@@ -16,6 +16,7 @@ use Rattle.npos_cli.specs.Elections.{unless, and_then, draft_of, snapshot_of}
 use Rattle.npos_cli.specs.Bundles.{Report, work_report, election_in}
 use Rattle.npos_cli.specs.Mining.{mine_report}
 use Rattle.npos_cli.specs.Tasks.{IsTaskReport, IsReportOn, IsBundleReport}
+use Rattle.npos_cli.specs.Words.{TaskHasRounds}
 use Rattle.npos_cli.proofs.MinedLaws.{one_mined, any_mined}
 use Rattle.npos_cli.proofs.SoundLaws.{was_read}
 
@@ -62,13 +63,13 @@ election_enough bytes election is =
     let read = was_read bytes election is in
     subst (λ (e : Election). e.snapshot.seats ≤ length e.snapshot.targets) read.is_election (snapshot_enough read.bundle read.snapshot read.is_snapshot)
 
-any_task : (task : Task) (size : ℕ) (election : Election) → election.snapshot.seats ≤ length election.snapshot.targets → (report : Report) × IsTaskReport task size election report
-any_task tasks.Check size election enough = (work_report size election.snapshot election.work, refl)
-any_task (tasks.Mine miner) size election enough =
-    let mined = any_mined miner election.snapshot enough in (mine_report miner election.snapshot mined.0, (mined.0, mined.1, refl))
+any_task : (task : Task) → TaskHasRounds task → (size : ℕ) (election : Election) → election.snapshot.seats ≤ length election.snapshot.targets → (report : Report) × IsTaskReport task size election report
+any_task tasks.Check some size election enough = (work_report size election.snapshot election.work, refl)
+any_task (tasks.Mine miner) some size election enough =
+    let mined = any_mined miner some election.snapshot enough in (mine_report miner election.snapshot mined.0, (mined.0, mined.1, refl))
 
-pub any_report : (task : Task) (bytes : List ℕ) → (report : Report) × IsBundleReport task bytes report
-any_report task bytes = by (election_in bytes) refl where
+pub any_report : (task : Task) → TaskHasRounds task → (bytes : List ℕ) → (report : Report) × IsBundleReport task bytes report
+any_report task some bytes = by (election_in bytes) refl where
   by : (e : Result Election Report) → election_in bytes ≡ e → (report : Report) × IsReportOn task (length bytes) e report
-  by (Ok election) is = any_task task (length bytes) election (election_enough bytes election is)
+  by (Ok election) is = any_task task some (length bytes) election (election_enough bytes election is)
   by (Err fault) is = (fault, refl)

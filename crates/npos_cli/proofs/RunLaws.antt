@@ -8,7 +8,7 @@ use Rattle.npos_cli.specs.declared.job.Job.{Job}
 use Rattle.npos_cli.specs.declared.job.Job.TheVariants as jobs
 use Rattle.npos_cli.specs.declared.status.Status.{Status}
 use Rattle.npos_cli.specs.declared.status.Status.TheVariants as statuses
-use Rattle.npos_cli.specs.Words.{job_of, usage_line}
+use Rattle.npos_cli.specs.Words.{job_by, job_of, usage_line, HasRounds}
 use Rattle.npos_cli.specs.Report.{JobOwes, Owes, replay_status, IsAnswer, IsJudged}
 use Rattle.npos_cli.specs.Replay.{Outcome, IsReplay}
 use Rattle.npos_runtime.specs.declared.chain.Chain.{Chain}
@@ -23,6 +23,14 @@ use Rattle.npos_cli.specs.declared.reading.Election.{Election as bundle_election
 use Rattle.npos_cli.specs.Bundles.{Report, faulty, read_election, election_in}
 use Rattle.npos_cli.specs.Tasks.{IsReportOn, IsBundleReport, IsSound}
 use Rattle.npos_cli.specs.Owed.{IsAll, LeftAfter, ReadsUpTo, TakesAtMost, IsDrained, Delivers, DeliversFront, FindsFor, BeginsFor}
+use Rattle.std.specs.Prelude.{option_and_then}
+use Rattle.npos_words.specs.declared.command.Command.{Command}
+use Rattle.npos_words.specs.declared.command.Command.TheVariants as commands
+use Rattle.npos_words.specs.declared.command.Miner.{Miner as named_miner}
+use Rattle.npos_words.specs.declared.command.Miner.TheVariants as named
+use Rattle.npos_words.specs.Words.{command_of, KeepsBounds}
+use Rattle.npos_words.proofs.WordLemmas.{keeps_bounds}
+use Rattle.npos_cli.specs.Words.{miner_by, MinerHasRounds}
 use Rattle.npos_cli.proofs.ReplayLaws.{one_replay, any_replay}
 use Rattle.npos_cli.proofs.ReportLaws.{one_report, any_report}
 use Rattle.npos_cli.proofs.ChainLaws.{genesis_laws, turn_laws}
@@ -68,15 +76,32 @@ pub front_delivered : (job : Option Job) (left : Option (List ℕ)) (old new : O
 front_delivered job left old new text status finds delivers =
     front_found job left old new text status finds (delivered_front old new text delivers)
 
+-- PHRAGMMS has at least one round in words that have a form
+pub job_has_rounds : (words : List (List ℕ)) → HasRounds (job_of words)
+job_has_rounds words = by (command_of words) (keeps_bounds words) where
+  by_miner : (miner : named_miner) (rounds : ℕ) → 1 ≤ rounds → MinerHasRounds (miner_by miner rounds)
+  by_miner named.Fill rounds some = tt
+  by_miner named.Seq rounds some = tt
+  by_miner named.Mms rounds some = some
+
+  by : (command : Option Command) → KeepsBounds command → HasRounds (option_and_then job_by command)
+  by None bounds = tt
+  by (Some commands.Replay) bounds = tt
+  by (Some commands.Check) bounds = tt
+  by (Some (commands.Mine miner rounds)) bounds = by_miner miner rounds bounds.0
+  by (Some commands.Pack) bounds = tt
+  by (Some commands.Show) bounds = tt
+  by (Some (commands.Demo seed voters seats)) bounds = tt
+
 -- every list of bytes is answered
 pub any_owed : (words : List (List ℕ)) (bytes : List ℕ) → IsBytes bytes → (text : List ℕ) × (status : Status) × Owes words bytes text status
-any_owed words bytes are = by (job_of words) where
-  by : (job : Option Job) → (text : List ℕ) × (status : Status) × JobOwes job bytes text status
-  by None = (usage_line, statuses.Usage, (refl, refl))
-  by (Some jobs.Replay) =
+any_owed words bytes are = by (job_of words) (job_has_rounds words) where
+  by : (job : Option Job) → HasRounds job → (text : List ℕ) × (status : Status) × JobOwes job bytes text status
+  by None some = (usage_line, statuses.Usage, (refl, refl))
+  by (Some jobs.Replay) some =
       let r = any_replay npos_machine genesis_laws turn_laws bytes are in
       (r.outcome.text, replay_status r.outcome.faulty, (r.outcome, r.is_replay, refl, refl))
-  by (Some (jobs.OnBundle task)) = let r = any_report task bytes in (r.0.text, r.0.status, r.1)
+  by (Some (jobs.OnBundle task)) some = let r = any_report task some bytes in (r.0.text, r.0.status, r.1)
 
 -- ## A bundle
 

@@ -107,8 +107,8 @@ sound_mine miners.Fill election report well (own, mined, is) done =
 sound_mine miners.Seq election report well (own, mined, is) done =
     sound_packed miners.Seq election own (packed_of election.snapshot own) report well refl (seq_gives election.snapshot own well mined)
     (λ weights expands. (own, mined, expands)) is done
-sound_mine miners.Mms election report well (own, mined, is) done =
-    sound_packed miners.Mms election own (packed_of election.snapshot own) report well refl (mms_gives election.snapshot own mined)
+sound_mine (miners.Mms rounds) election report well (own, mined, is) done =
+    sound_packed (miners.Mms rounds) election own (packed_of election.snapshot own) report well refl (mms_gives rounds election.snapshot own mined)
     (λ weights expands. (own, mined, expands)) is done
 
 sound_task : (task : Task) (size : ℕ) (election : Election) (report : Report) → IsWellFormed election.snapshot → IsTaskReport task size election report

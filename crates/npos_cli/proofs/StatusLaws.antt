@@ -63,7 +63,7 @@ module _ (P : Status → Type 0) (done : P statuses.Done) (no_verdict : P status
   of_mine : (miner : Miner) (snapshot : Snapshot) (weights : Weights) → P (mine_report miner snapshot weights).status
   of_mine miners.Fill snapshot weights = of_verdict (verdict_plain snapshot weights)
   of_mine miners.Seq snapshot weights = of_packed snapshot (packed_of snapshot weights)
-  of_mine miners.Mms snapshot weights = of_packed snapshot (packed_of snapshot weights)
+  of_mine (miners.Mms rounds) snapshot weights = of_packed snapshot (packed_of snapshot weights)
 
   of_report : (one other : Report) → one ≡ other → P other.status → P one.status
   of_report one other same p = subst (λ (r : Report). P r.status) (sym same) p

@@ -13,9 +13,14 @@ use Rattle.npos_runtime.specs.declared.line.Line.{Line}
 use Rattle.npos_runtime.specs.declared.line.Line.TheVariants as lines
 use Rattle.npos_runtime.specs.Genesis.{genesis_fault, genesis_chain, fault_numbers}
 use Rattle.npos_runtime.specs.Step.{step}
-use Rattle.npos_cli.specs.Texts.{newline}
+use Rattle.npos_base.specs.declared.account.AccountId.{AccountId}
+use Rattle.npos_cli.specs.Texts.{newline, account_text}
 use Rattle.npos_cli.specs.Verdicts.{member_line, verdict_line}
 use Rattle.npos_cli.specs.Replay.{Machine}
+
+-- an account and an amount behind some words
+abbrev pub amount_line : List ℕ → AccountId → ℕ → List ℕ
+amount_line words who amount = words ++ (account_text who ++ (codes " " ++ (decimal amount ++ newline)))
 
 abbrev pub line_text : Line → List ℕ
 line_text (lines.Block number) = codes "block " ++ (decimal number ++ newline)
@@ -32,6 +37,8 @@ line_text (lines.SeatSigned round number) = codes "seat " ++ (decimal round ++ (
 line_text (lines.SeatFill round) = codes "seat " ++ (decimal round ++ codes " fill\n")
 line_text (lines.Member who support) = member_line who support
 line_text (lines.CallOk index) = codes "call " ++ (decimal index ++ codes " ok\n")
+line_text (lines.Paid who amount) = amount_line (codes "paid ") who amount
+line_text (lines.Slashed who amount) = amount_line (codes "slashed ") who amount
 line_text (lines.CallRefused index code) = codes "call " ++ (decimal index ++ (codes " refused " ++ (decimal code ++ newline)))
 
 -- the last line of a replay that read its input to the end

@@ -20,3 +20,4 @@ pub mod Ran
 pub mod Answer
 pub mod Laws
 pub mod Crowding
+pub mod Demo

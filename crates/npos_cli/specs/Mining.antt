@@ -20,16 +20,12 @@ use Rattle.npos_cli.specs.Bundles.{Report, told}
 
 -- ## Weights
 
--- how many balancing rounds of PHRAGMMS follow each pick
-abbrev pub mms_rounds : ℕ
-mms_rounds = 8
-
 -- the weights that a miner makes: the greedy fill, or those of the run of its rule; for PHRAGMMS, whose run is a
 -- relation, it is said besides that they are feasible
 abbrev pub IsMined : Miner → Snapshot → Weights → Type 0
 IsMined miners.Fill snapshot weights = weights ≡ filled snapshot
 IsMined miners.Seq snapshot weights = weights ≡ mined snapshot
-IsMined miners.Mms snapshot weights = IsRun snapshot mms_rounds weights × IsFeasible snapshot weights
+IsMined (miners.Mms rounds) snapshot weights = IsRun snapshot rounds weights × IsFeasible snapshot weights
 
 -- ## Lines
 
@@ -69,7 +65,7 @@ packed_report snapshot (Err member) = lost_report member
 abbrev pub mine_report : Miner → Snapshot → Weights → Report
 mine_report miners.Fill snapshot weights = told (weights_lines snapshot weights) (verdict_plain snapshot weights)
 mine_report miners.Seq snapshot weights = packed_report snapshot (packed_of snapshot weights)
-mine_report miners.Mms snapshot weights = packed_report snapshot (packed_of snapshot weights)
+mine_report (miners.Mms rounds) snapshot weights = packed_report snapshot (packed_of snapshot weights)
 
 -- the report is that of the weights that the miner makes
 abbrev pub IsMineReport : Miner → Snapshot → Report → Type 0
@@ -85,4 +81,4 @@ IsExpanded snapshot own weights = (solution : List (List Entry)) × (packed_of s
 abbrev pub AreJudged : Miner → Snapshot → Weights → Weights → Type 0
 AreJudged miners.Fill snapshot own weights = weights ≡ own
 AreJudged miners.Seq snapshot own weights = IsExpanded snapshot own weights
-AreJudged miners.Mms snapshot own weights = IsExpanded snapshot own weights
+AreJudged (miners.Mms rounds) snapshot own weights = IsExpanded snapshot own weights

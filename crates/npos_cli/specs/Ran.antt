@@ -32,7 +32,6 @@ pub record Ran (job : Option Job) (left now : Option (List ℕ)) (old new : Opti
   pub few : ReadsBundle job → IsAnswer status → TakesAtMost (most_bundle + 1) left now
   pub accepted : (task : Task) → job ≡ Some (jobs.OnBundle task) → status ≡ statuses.Done → IfSome left (IsSound task)
   pub passes : job ≡ Some (jobs.OnBundle (tasks.Mine miners.Fill)) → status ≢ statuses.No
-  pub usage_memory : job ≡ None → status ≢ statuses.NoMemory
   pub halted_reading : job ≡ Some jobs.Replay → status ≡ statuses.ReadFault → HaltedReading left now old new
   pub halted_writing : job ≡ Some jobs.Replay → status ≡ statuses.WriteFault → HaltedWriting left now old new
   pub starved : job ≡ Some jobs.Replay → status ≡ statuses.NoMemory → HaltedStarving left now old new

@@ -280,6 +280,23 @@ const MINED: [(&str, u64, u64, Voters, &[u8], u8, &str); 10] = [
     ),
 ];
 
+/// Words that ask PHRAGMMS for rounds, which level an election of three seats further and further,
+/// and the text.
+const ROUNDS: [(&[&str], &str); 3] = [
+    (
+        &["npos", "mine", "--rounds", "1", "--miner", "mms"],
+        "member 0000000000000000000000000000000000000000000000000000000000000001 35\nmember 0000000000000000000000000000000000000000000000000000000000000002 17\nmember 0000000000000000000000000000000000000000000000000000000000000003 19\nscore 17 71 1875\nsolution 0008000416ca03000c04088a2e02000c0000000000000000000000000000\nverdict 0\n",
+    ),
+    (
+        &["npos", "mine", "--rounds=3", "--miner=mms"],
+        "member 0000000000000000000000000000000000000000000000000000000000000001 24\nmember 0000000000000000000000000000000000000000000000000000000000000002 22\nmember 0000000000000000000000000000000000000000000000000000000000000003 25\nscore 22 71 1685\nsolution 00080004aea102000c0408aec902000c0000000000000000000000000000\nverdict 0\n",
+    ),
+    (
+        &["npos", "mine", "--miner", "mms"],
+        "member 0000000000000000000000000000000000000000000000000000000000000001 23\nmember 0000000000000000000000000000000000000000000000000000000000000002 23\nmember 0000000000000000000000000000000000000000000000000000000000000003 25\nscore 23 71 1683\nsolution 00080004ba8602000c0408b6e802000c0000000000000000000000000000\nverdict 0\n",
+    ),
+];
+
 /// Appends a bundle up to its work.
 fn put_election(pen: &mut Pen, seats: u64, targets: u64, voters: Voters) -> Result<(), NoMemory> {
     pen.put_compact(seats)?;
@@ -384,6 +401,19 @@ fn elections_are_mined_or_get_their_fault(rt: HostRuntime) -> Result<(), Fail> {
         let (text, ended, left) = report(rt.alloc(), &words, pen.finish())?;
         assert_eq!(rt; text.as_slice(), lines.as_bytes());
         assert_eq!(rt; (ended, left), (status, 0));
+    }
+    Ok(())
+}
+
+#[test]
+fn the_rounds_are_those_that_were_asked_for(rt: HostRuntime) -> Result<(), Fail> {
+    for (words, lines) in ROUNDS {
+        let mut pen = Pen::new(rt.alloc());
+        put_election(&mut pen, 3, 4, &[(38, &[1, 3]), (33, &[2, 3])])?;
+        pen.put_bytes(&[0])?;
+        let (text, ended, left) = report(rt.alloc(), words, pen.finish())?;
+        assert_eq!(rt; text.as_slice(), lines.as_bytes());
+        assert_eq!(rt; (ended, left), (0, 0));
     }
     Ok(())
 }

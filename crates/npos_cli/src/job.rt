@@ -1,6 +1,8 @@
-//! What the words of a call ask for.
-ghost use Rattle.std.specs.Prelude.{◌≡◌, map, string_bytes};
-ghost use Rattle.npos_cli.specs.Words.{job_of, has_word, asks_to_mine, miner_of};
+//! The jobs that commands ask for.
+ghost use Rattle.std.specs.Prelude.{◌≡◌};
+ghost use Rattle.npos_cli.specs.Words.{job_by, miner_by};
+
+use npos_words::{self as words, Command};
 
 /// What the program is to do.
 #[derive(Clone, Copy, Debug, PartialEq, Eq)]
@@ -28,53 +30,29 @@ pub enum Miner {
     Fill,
     /// Sequential Phragmén.
     Seq,
-    /// PHRAGMMS.
-    Mms,
+    /// PHRAGMMS, with so many balancing rounds after each pick.
+    Mms(u32),
 }
 
-/// Whether the word at this place is this text.
-fn has_word(words: &[String], place: usize, text: &str) -> bool
-    ensures { result ≡ has_word (map string_bytes words.now) place text.now }
+/// The miner that a command names. The rounds are those of PHRAGMMS alone.
+fn miner_of(miner: words::Miner, rounds: u32) -> Miner
+    ensures { result ≡ miner_by miner rounds }
 {
-    match words.get(place) {
-        Some(word) => word.as_str() == text,
-        None => false,
+    match miner {
+        words::Miner::Fill => Miner::Fill,
+        words::Miner::Seq => Miner::Seq,
+        words::Miner::Mms => Miner::Mms(rounds),
     }
 }
 
-/// Whether the words ask for a committee by a miner, which the last one names.
-fn asks_to_mine(words: &[String]) -> bool
-    ensures { result ≡ asks_to_mine (map string_bytes words.now) }
+/// The job of a command, where there is one yet.
+pub fn job_of(command: Command) -> Option<Job>
+    ensures { result ≡ job_by command }
 {
-    words.len() == 4 && has_word(words, 1, "mine") && has_word(words, 2, "--miner")
-}
-
-/// The miner that the last word of four names.
-fn miner_of(words: &[String]) -> Option<Miner>
-    ensures { result ≡ miner_of (map string_bytes words.now) }
-{
-    if has_word(words, 3, "fill") {
-        Some(Miner::Fill)
-    } else if has_word(words, 3, "seq") {
-        Some(Miner::Seq)
-    } else if has_word(words, 3, "mms") {
-        Some(Miner::Mms)
-    } else {
-        None
-    }
-}
-
-/// The job that the words ask for. The first word is the program's name, which is not looked at.
-pub fn job_of(words: &[String]) -> Option<Job>
-    ensures { result ≡ job_of (map string_bytes words.now) }
-{
-    if words.len() == 2 && has_word(words, 1, "replay") {
-        Some(Job::Replay)
-    } else if words.len() == 2 && has_word(words, 1, "check") {
-        Some(Job::OnBundle(Task::Check))
-    } else if asks_to_mine(words) {
-        miner_of(words).map(|miner| Job::OnBundle(Task::Mine(miner)))
-    } else {
-        None
+    match command {
+        Command::Replay => Some(Job::Replay),
+        Command::Check => Some(Job::OnBundle(Task::Check)),
+        Command::Mine { miner, rounds } => Some(Job::OnBundle(Task::Mine(miner_of(miner, rounds)))),
+        Command::Pack | Command::Show | Command::Demo { .. } => None,
     }
 }

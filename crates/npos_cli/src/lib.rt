@@ -5,6 +5,7 @@ mod answers;
 #[cfg(test)]
 mod check_tests;
 mod checking;
+mod demo;
 mod edges;
 mod election;
 mod input;

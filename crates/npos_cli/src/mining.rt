@@ -1,27 +1,28 @@
 //! What `mine` makes of an election.
-ghost use Rattle.std.specs.Prelude.{◌≡◌, ◌≢◌, ℕ, ◌<◌, ◌++◌, flat_map, length, All, None, IfOk, IfErr, OnOk};
+ghost use Rattle.std.specs.Prelude.{◌≡◌, ◌≢◌, ℕ, ◌<◌, ◌≤◌, ◌++◌, flat_map, length, All, None, IfOk, IfErr, OnOk};
 ghost use Rattle.weight_book.specs.Weights.{IsFeasible};
 ghost use Rattle.npos_cli.specs.declared.job.Miner.TheVariants as miners;
 ghost use Rattle.election_check.specs.Laws.{packed_of};
-ghost use Rattle.election_check.specs.Packed.{expand_fault};
+ghost use Rattle.weight_book.specs.Scoring.{score_of};
+ghost use Rattle.compact_solution.specs.Solution.{solution_form};
+ghost use Rattle.election_check.specs.Packed.{expand_fault, expanded, verdict_packed};
 ghost use Rattle.npos_cli.specs.Mining.{line_of, weights_lines, solution_report, packed_report, IsMineReport};
 ghost use Rattle.npos_cli.specs.Answer.{report_of};
+ghost use Rattle.npos_cli.specs.Words.{MinerHasRounds};
 
 use crate::answers::{Answer, lost, told};
 use crate::checking::checker_of;
 use crate::job::Miner;
 use crate::numbers::{tell_member, tell_score, tell_solution};
 use compact_solution::{PackFault, Solution, pack};
+use election_check::{Checker, Verdict};
 use election_snapshot::Snapshot;
-use npos_base::NoMemory;
+use npos_base::{List, NoMemory, Score};
 use phragmms_miner::mine_mms;
 use quota_fill::fill;
 use seq_phragmen::mine_seq;
 use std::alloc::Global;
 use weight_book::Weights;
-
-/// How many balancing rounds of PHRAGMMS follow each pick.
-const ROUNDS: u32 = 8;
 
 /// Appends the lines of the members in the order of the committee.
 fn tell_members(text: &mut Vec<u8>, snapshot: &Snapshot, weights: &Weights) -> Result<(), NoMemory>
@@ -63,8 +64,47 @@ fn mine_by_fill(alloc: Global, snapshot: Snapshot) -> Result<Answer, NoMemory>
     told(lines, verdict)
 }
 
+/// What a solution expands to, its bytes, and the verdict on them with the score of what they
+/// expand to as the claim.
+#[derive(Drop)]
+pub struct Judged {
+    pub weights: Weights,
+    pub score: Score,
+    pub bytes: List<u8>,
+    pub verdict: Verdict,
+}
+
+/// Judges a solution that expands without a fault.
+pub fn judge(alloc: Global, checker: &mut Checker, solution: Solution) -> Result<Judged, NoMemory>
+    requires { expand_fault checker.old solution ≡ None }
+    ensures weights { IfOk result (λ judged.
+        judged.weights.plain ≡ expanded checker.old solution) }
+    ensures feasible { IfOk result (λ judged. IsFeasible checker.old judged.weights.plain) }
+    ensures score { IfOk result (λ judged.
+        judged.score ≡ score_of (expanded checker.old solution)) }
+    ensures bytes { IfOk result (λ judged. judged.bytes ≡ solution_form.spelling solution) }
+    ensures verdict { IfOk result (λ judged. judged.verdict ≡ verdict_packed checker.old
+        (score_of (expanded checker.old solution)) (solution_form.spelling solution)) }
+    ensures snapshot { checker.new ≡ checker.old }
+{
+    let _seats = checker.snapshot().seats();
+    let mut weights = Weights::with_room(alloc, checker.snapshot())?;
+    let mut again = Weights::with_room(alloc, checker.snapshot())?;
+    let _yes = checker.expand(&solution, &mut weights);
+    let score = weights.score();
+    let bytes = solution.encode(alloc)?;
+    drop(solution);
+    let verdict = checker.judge_bytes(alloc, bytes.as_slice(), &score, &mut again)?;
+    Ok(Judged {
+        weights,
+        score,
+        bytes,
+        verdict,
+    })
+}
+
 /// The answer of a solution that expands without a fault: what it expands to, its bytes, and the
-/// verdict on them with the score of what they expand to as the claim.
+/// verdict on them.
 fn answer_solution(
     alloc: Global,
     snapshot: Snapshot,
@@ -73,15 +113,13 @@ fn answer_solution(
     requires { expand_fault snapshot solution ≡ None }
     ensures { IfOk result (λ answer. report_of answer ≡ solution_report snapshot solution) }
 {
-    let _seats = snapshot.seats();
-    let mut weights = Weights::with_room(alloc, &snapshot)?;
-    let mut judged = Weights::with_room(alloc, &snapshot)?;
     let mut checker = checker_of(alloc, snapshot)?;
-    let _yes = checker.expand(&solution, &mut weights);
-    let claim = weights.score();
-    let bytes = solution.encode(alloc)?;
-    drop(solution);
-    let verdict = checker.judge_bytes(alloc, bytes.as_slice(), &claim, &mut judged)?;
+    let Judged {
+        weights,
+        score: _,
+        bytes,
+        verdict,
+    } = judge(alloc, &mut checker, solution)?;
     let mut lines = Vec::new(alloc);
     tell_weights(&mut lines, checker.snapshot(), weights)?;
     tell_solution(alloc, &mut lines, bytes.as_slice())?;
@@ -90,7 +128,7 @@ fn answer_solution(
 
 /// Packs weights of an election, or tells the lowest member that is lost. What they pack to expands
 /// without a fault.
-fn packed_weights(
+pub fn packed_weights(
     alloc: Global,
     snapshot: &Snapshot,
     weights: &Weights,
@@ -137,21 +175,24 @@ fn mine_by_load(alloc: Global, snapshot: Snapshot) -> Result<Answer, NoMemory>
     answer_packed(alloc, snapshot, weights)
 }
 
-/// The answer of PHRAGMMS on an election.
-fn mine_by_score(alloc: Global, snapshot: Snapshot) -> Result<Answer, NoMemory>
-    ensures { IfOk result (λ answer. IsMineReport miners.Mms snapshot (report_of answer)) }
+/// The answer of PHRAGMMS on an election, with so many balancing rounds after each pick.
+fn mine_by_score(alloc: Global, snapshot: Snapshot, rounds: u32) -> Result<Answer, NoMemory>
+    requires { 1 ≤ rounds }
+    ensures { IfOk result (λ answer. IsMineReport (miners.Mms rounds) snapshot
+        (report_of answer)) }
 {
-    let weights = mine_mms(alloc, &snapshot, ROUNDS)?;
+    let weights = mine_mms(alloc, &snapshot, rounds)?;
     answer_packed(alloc, snapshot, weights)
 }
 
 /// The answer of a miner on an election.
 pub fn mine(alloc: Global, snapshot: Snapshot, miner: Miner) -> Result<Answer, NoMemory>
+    requires { MinerHasRounds miner }
     ensures { IfOk result (λ answer. IsMineReport miner snapshot (report_of answer)) }
 {
     match miner {
         Miner::Fill => mine_by_fill(alloc, snapshot),
         Miner::Seq => mine_by_load(alloc, snapshot),
-        Miner::Mms => mine_by_score(alloc, snapshot),
+        Miner::Mms(rounds) => mine_by_score(alloc, snapshot, rounds),
     }
 }

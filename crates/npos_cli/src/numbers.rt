@@ -2,10 +2,11 @@
 ghost use Rattle.std.specs.Prelude.{◌≡◌, ◌≢◌, [], ◌∷◌, ◌++◌, flat_map, codes, OnOk};
 ghost use Rattle.election_snapshot.specs.declared.fault.SnapshotFault.TheVariants as faults;
 ghost use Rattle.npos_cli.specs.Verdicts.{number_text, numbers_line, member_line, score_line, solution_line, lost_line, verdict_numbers, verdict_line, fault_numbers, snapshot_line};
+ghost use Rattle.npos_cli.specs.Demo.{judged_line, size_line};
 
 use crate::telling::tell_account;
 use election_check::Verdict;
-use election_snapshot::SnapshotFault;
+use election_snapshot::{Snapshot, SnapshotFault};
 use hex::encode;
 use itoa::Buffer;
 use npos_base::{AccountId, MOST_TARGETS, MOST_VOTERS, NoMemory, Score};
@@ -64,6 +65,41 @@ pub fn tell_score(text: &mut Vec<u8>, score: &Score) -> Result<(), NoMemory>
             score.squares,
         ],
     )
+}
+
+/// Appends the line of a score with the verdict on the weights that have it, behind some words.
+pub fn tell_judged(
+    text: &mut Vec<u8>,
+    words: &str,
+    score: &Score,
+    verdict: Verdict,
+) -> Result<(), NoMemory>
+    ensures { OnOk result (text.new.items ≡ text.old.items
+        ++ judged_line words.now score.now verdict) }
+{
+    let numbers = [
+        u128::from(score.minimal),
+        u128::from(score.sum),
+        score.squares,
+    ];
+    text.extend_from_slice(words.as_bytes())?;
+    tell_numbers(text, &numbers)?;
+    text.extend_from_slice(b" ")?;
+    tell_verdict(text, verdict)
+}
+
+/// Appends the line of the size of a generated election.
+pub fn tell_size(text: &mut Vec<u8>, snapshot: &Snapshot) -> Result<(), NoMemory>
+    ensures { OnOk result (text.new.items ≡ text.old.items ++ size_line snapshot.now) }
+{
+    text.extend_from_slice(b"demo targets")?;
+    tell_number(text, snapshot.target_count() as u128)?;
+    text.extend_from_slice(b" voters")?;
+    tell_number(text, snapshot.voter_count() as u128)?;
+    text.extend_from_slice(b" total")?;
+    tell_number(text, u128::from(snapshot.total()))?;
+    text.extend_from_slice(b"\n")?;
+    Ok(())
 }
 
 /// Appends the line of a packed solution, its bytes in lower-case hexadecimal.

@@ -5,6 +5,7 @@ ghost use Rattle.npos_cli.specs.declared.job.Miner.TheVariants as miners;
 ghost use Rattle.npos_cli.specs.declared.status.Status.TheVariants as statuses;
 ghost use Rattle.npos_cli.specs.Tasks.{IsTaskReport, IsBundleReport, IsSound, IsSoundElection};
 ghost use Rattle.npos_cli.specs.Answer.{report_of};
+ghost use Rattle.npos_cli.specs.Words.{TaskHasRounds};
 
 use crate::answers::Answer;
 use crate::checking::check_work;
@@ -16,6 +17,7 @@ use std::alloc::Global;
 
 /// The answer on the election of a bundle that has so many bytes.
 fn report_on(alloc: Global, election: Election, task: Task, size: u64) -> Result<Answer, NoMemory>
+    requires { TaskHasRounds task }
     ensures { IfOk result (λ answer. IsTaskReport task size election (report_of answer)) }
 {
     let Election { snapshot, work } = election;
@@ -32,6 +34,7 @@ fn answer_election(
     task: Task,
     size: u64,
 ) -> Result<Answer, NoMemory>
+    requires { TaskHasRounds task }
     ensures report { IfOk result (λ answer. IsTaskReport task size election (report_of answer)) }
     ensures sound { IfOk result (λ answer. answer.status ≡ statuses.Done
         → IsSoundElection task election) }
@@ -44,6 +47,7 @@ fn answer_election(
 
 /// The answer on the bytes of a bundle, which go once they are read.
 pub fn answer_bytes(alloc: Global, bytes: Vec<u8>, task: Task) -> Result<Answer, NoMemory>
+    requires { TaskHasRounds task }
     ensures report { IfOk result (λ answer. IsBundleReport task bytes.items (report_of answer)) }
     ensures sound { IfOk result (λ answer. answer.status ≡ statuses.Done
         → IsSound task bytes.items) }

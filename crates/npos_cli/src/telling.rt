@@ -5,7 +5,7 @@ ghost use Rattle.npos_runtime.specs.declared.line.Line.TheVariants as lines;
 ghost use Rattle.npos_runtime.specs.Genesis.{fault_numbers};
 ghost use Rattle.npos_runtime.specs.declared.begin.GenesisFault.TheVariants as faults;
 ghost use Rattle.npos_cli.specs.Pieces.{piece_text};
-ghost use Rattle.npos_cli.specs.Chain.{end_line, line_text};
+ghost use Rattle.npos_cli.specs.Chain.{amount_line, end_line, line_text};
 
 use crate::numbers::{tell_member, tell_verdict};
 use election_check::Verdict;
@@ -152,6 +152,23 @@ fn tell_forfeit(
     tell_verdict(text, verdict)
 }
 
+/// Appends the line of an account and an amount, behind some words.
+fn tell_amount(text: &mut Vec<u8>, words: &str, who: AccountId, amount: u64) -> Result<(), NoMemory>
+    ensures { OnOk result
+        (text.new.items ≡ text.old.items ++ amount_line words.now who amount) }
+{
+    tell(
+        text,
+        &[
+            Piece::Words(words),
+            Piece::Account(who),
+            Piece::Words(" "),
+            Piece::Number(amount),
+            Piece::Words("\n"),
+        ],
+    )
+}
+
 /// Appends one line of a receipt.
 fn tell_line(text: &mut Vec<u8>, line: &Line) -> Result<(), NoMemory>
     ensures { OnOk result (text.new.items ≡ text.old.items ++ line_text line.now) }
@@ -260,6 +277,8 @@ fn tell_line(text: &mut Vec<u8>, line: &Line) -> Result<(), NoMemory>
                 Piece::Words(" ok\n"),
             ],
         ),
+        Line::Paid { who, amount } => tell_amount(text, "paid ", who, amount),
+        Line::Slashed { who, amount } => tell_amount(text, "slashed ", who, amount),
         Line::CallRefused { index, code } => tell(
             text,
             &[

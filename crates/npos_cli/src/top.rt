@@ -1,11 +1,12 @@
 //! The top call.
-ghost use Rattle.std.specs.Prelude.{◌≡◌, ◌≢◌, ◌⊎◌, ◌<◌, ◌+◌, None, Some, map, IfOk, IfSome, string_bytes};
+ghost use Rattle.std.specs.Prelude.{◌≡◌, ◌≢◌, ◌⊎◌, ◌<◌, ◌+◌, false, None, Some, map, IfOk, IfSome, string_bytes};
 ghost use Rattle.npos_base.specs.Outside.{Rose};
 ghost use Rattle.npos_cli.specs.declared.job.Job.TheVariants as jobs;
 ghost use Rattle.npos_cli.specs.declared.job.Task.{Task as task_kind};
 ghost use Rattle.npos_cli.specs.declared.job.Task.TheVariants as tasks;
 ghost use Rattle.npos_cli.specs.declared.job.Miner.TheVariants as miners;
-ghost use Rattle.npos_cli.specs.Words.{job_of};
+ghost use Rattle.npos_words.specs.Words.{has_verb};
+ghost use Rattle.npos_cli.specs.Words.{job_of, HasRounds, TaskHasRounds};
 ghost use Rattle.npos_cli.specs.Report.{ReadsInput, ReadsBundle, IsAnswer, IsJudged};
 ghost use Rattle.npos_cli.specs.Books.{BooksBalance};
 ghost use Rattle.npos_cli.specs.Headline.{SeatsAreSound};
@@ -26,7 +27,8 @@ use crate::laws::{replays_crowd_nothing_out, replays_seat_sound_committees};
 use crate::reading::MOST_BUNDLE;
 use crate::replaying::replay;
 use crate::tasks::answer_bytes;
-use npos_base::{Failed, Sink, Source};
+use npos_base::{Failed, NoMemory, Sink, Source};
+use npos_words::command_of;
 use std::alloc::Global;
 
 /// What the program writes where the words ask for no job.
@@ -36,6 +38,7 @@ const USAGE: &str = "usage: npos replay|check|mine|pack|show|demo\n";
 /// on it. The status of an Err is ReadFault or NoMemory.
 #[tactic(auto, using(crate::proofs::RunLaws::bundle_found, crate::proofs::RunLaws::bundle_drained, crate::proofs::RunLaws::bundle_few, crate::proofs::RunLaws::bundle_sound))]
 fn bundle_answer<S: Source>(alloc: Global, source: &mut S, task: Task) -> Result<Answer, Status>
+    requires { TaskHasRounds task }
     ensures due { IfOk result (λ answer. FindsFor (Some (jobs.OnBundle task)) (S.left source.old)
         answer.text.items answer.status) }
     ensures drained { IfOk result (λ answer. IsJudged answer.status
@@ -55,6 +58,7 @@ fn bundle_answer<S: Source>(alloc: Global, source: &mut S, task: Task) -> Result
 
 /// Reports on the bundle that is left in the source, and flushes the report.
 fn report<S: Source, K: Sink>(alloc: Global, source: &mut S, sink: &mut K, task: Task) -> Status
+    requires { TaskHasRounds task }
     ensures answers { IsAnswer result → AnswersFor (Some (jobs.OnBundle task)) (S.left source.old)
         (K.told sink.old) (K.told sink.new) result }
     ensures front { BeginsFor (Some (jobs.OnBundle task)) (S.left source.old)
@@ -99,9 +103,11 @@ fn run_job<S: Source, K: Sink>(
     source: &mut S,
     sink: &mut K,
 ) -> Status
-    ensures { Ran job (S.left source.old) (S.left source.new) (K.told sink.old)
+    requires { HasRounds job }
+    ensures ran { Ran job (S.left source.old) (S.left source.new) (K.told sink.old)
         (K.told sink.new) (S.faults source.old) (S.faults source.new) (K.faults sink.old)
         (K.faults sink.new) (source.new ≡ source.old) (sink.new ≡ sink.old) result }
+    ensures usage_memory { job ≡ None → result ≢ Status.NoMemory }
 {
     match job {
         None => tell_usage(sink),
@@ -110,6 +116,27 @@ fn run_job<S: Source, K: Sink>(
             Err(status) => status,
         },
         Some(Job::OnBundle(task)) => report(alloc, source, sink, task),
+    }
+}
+
+/// Finds the job that the words ask for, and does it. Where memory is refused before the job is
+/// known, nothing is read or written.
+fn run_words<S: Source, K: Sink>(
+    alloc: Global,
+    words: &[String],
+    source: &mut S,
+    sink: &mut K,
+) -> Status
+    ensures ran { Ran (job_of (map string_bytes words.now)) (S.left source.old)
+        (S.left source.new) (K.told sink.old) (K.told sink.new) (S.faults source.old)
+        (S.faults source.new) (K.faults sink.old) (K.faults sink.new)
+        (source.new ≡ source.old) (sink.new ≡ sink.old) result }
+    ensures usage_memory { has_verb (map string_bytes words.now) ≡ false
+        → result ≢ Status.NoMemory }
+{
+    match command_of(alloc, words) {
+        Ok(command) => run_job(alloc, command.and_then(job_of), source, sink),
+        Err(NoMemory) => Status::NoMemory,
     }
 }
 
@@ -151,7 +178,7 @@ pub fn run<S: Source, K: Sink>(
         (K.told sink.old) (K.told sink.new) }
     ensures wary { job_of (map string_bytes words.now) ≡ Some jobs.Replay
         → ReadsWhile (S.left source.old) (S.left source.new) }
-    ensures usage_memory { job_of (map string_bytes words.now) ≡ None
+    ensures usage_memory { has_verb (map string_bytes words.now) ≡ false
         → result ≢ Status.NoMemory }
     ensures unread { (ReadsInput (job_of (map string_bytes words.now)) → ⊥)
         → source.new ≡ source.old }
@@ -171,5 +198,5 @@ pub fn run<S: Source, K: Sink>(
     // two laws, which do nothing
     replays_seat_sound_committees();
     replays_crowd_nothing_out();
-    run_job(alloc, job_of(words), source, sink)
+    run_words(alloc, words, source, sink)
 }

@@ -1,0 +1,2 @@
+pub mod VoteLemmas
+pub mod DraftLemmas

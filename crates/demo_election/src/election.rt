@@ -1,0 +1,131 @@
+//! The election that a seed generates.
+ghost use Rattle.std.specs.Prelude.{◌≡◌, ◌++◌, [], ◌∷◌, ◌<◌, ◌≤◌, None, IfOk, OnOk};
+ghost use Rattle.election_snapshot.specs.Draft.{target_fault, with_target};
+ghost use Rattle.demo_election.specs.Generated.{state_after, targets_of, voter_from, voters_of, votes_round, generated};
+ghost use Rattle.demo_election.specs.Begun.{IsBegun};
+
+use crate::generator::draw;
+use election_snapshot::{Snapshot, SnapshotFault, SnapshotParts};
+use npos_base::{AccountId, MOST_NOMINATIONS, NoMemory};
+use std::alloc::Global;
+
+/// How many targets there are for each seat.
+const TARGETS_A_SEAT: u32 = 4;
+/// The least stake of a voter, in units; the greatest is below twice as much.
+const LEAST_STAKE: u64 = 1_000_000;
+
+/// Adds a target that has no fault.
+fn add_target(parts: &mut SnapshotParts, who: AccountId) -> Result<(), NoMemory>
+    requires { target_fault parts.old who ≡ None }
+    ensures { OnOk result (parts.new ≡ with_target parts.old who) }
+{
+    match parts.add_target(who) {
+        Ok(()) => Ok(()),
+        Err(SnapshotFault::NoMemory) => Err(NoMemory),
+        Err(_) => unreachable!(),
+    }
+}
+
+/// So many targets.
+#[tactic(auto, using(crate::proofs::DraftLemmas::target_is_free, crate::proofs::DraftLemmas::targets_more))]
+fn with_targets(alloc: Global, count: u32) -> Result<SnapshotParts, NoMemory>
+    requires { count ≤ 2048 }
+    ensures { IfOk result (λ parts. parts ≡ record { targets = targets_of count; voters = [] }) }
+{
+    let mut parts = SnapshotParts::new(alloc);
+    for place in 0..count {
+        let who = AccountId {
+            hi: 0,
+            lo: u128::from(place) + 1,
+        };
+        add_target(&mut parts, who)?;
+    }
+    Ok(parts)
+}
+
+/// Puts down so many votes from the first on, and from the last target on to target 0.
+#[tactic(auto, using(crate::proofs::VoteLemmas::votes_more))]
+fn put_votes(votes: &mut Vec<u16>, targets: u32, first: u32, count: u32) -> Result<(), NoMemory>
+    requires few { targets ≤ 2048 }
+    requires first { first < targets }
+    requires count { count ≤ targets }
+    ensures { OnOk result (votes.new.items ≡ votes_round targets first count) }
+{
+    votes.clear();
+    for i in 0..count {
+        votes.push(((first + i) % targets) as u16)?;
+    }
+    Ok(())
+}
+
+/// Adds the voter of this place, behind those before it. It takes the next three draws.
+#[tactic(auto, using(crate::proofs::DraftLemmas::drawn_is_free))]
+fn add_voter(
+    parts: &mut SnapshotParts,
+    votes: &mut Vec<u16>,
+    state: &mut u64,
+    targets: u32,
+    place: u32,
+) -> Result<(), NoMemory>
+    requires begun { IsBegun targets place parts.old }
+    requires few { place < 16384 }
+    ensures voter { OnOk result (parts.new ≡ record {
+      targets = parts.old.targets;
+      voters = parts.old.voters ++ voter_from targets state.old place ∷ [];
+    }) }
+    ensures state { OnOk result (state.new ≡ state_after state.old 3) }
+{
+    let stake = LEAST_STAKE + draw(state) % LEAST_STAKE;
+    let most = u64::from(targets.min(MOST_NOMINATIONS as u32));
+    let count = 1 + (draw(state) % most) as u32;
+    let first = (draw(state) % u64::from(targets)) as u32;
+    put_votes(votes, targets, first, count)?;
+    let who = AccountId {
+        hi: 1,
+        lo: u128::from(place) + 1,
+    };
+    parts.put_voter(who, stake, votes.as_slice())
+}
+
+/// So many voters behind the targets, from the draws of this seed on.
+#[tactic(auto, using(crate::proofs::DraftLemmas::voters_begun, crate::proofs::DraftLemmas::voters_more))]
+fn add_voters(
+    alloc: Global,
+    parts: &mut SnapshotParts,
+    seed: u64,
+    targets: u32,
+    count: u32,
+) -> Result<(), NoMemory>
+    requires begun { parts.old ≡ record { targets = targets_of targets; voters = [] } }
+    requires some { 1 ≤ targets }
+    requires few { targets ≤ 2048 }
+    requires few_voters { count ≤ 16384 }
+    ensures { OnOk result (parts.new
+        ≡ record { targets = targets_of targets; voters = voters_of seed targets count }) }
+{
+    let mut votes = Vec::with_capacity(alloc, MOST_NOMINATIONS)?;
+    let mut state = seed;
+    for place in 0..count {
+        add_voter(parts, &mut votes, &mut state, targets, place)?;
+    }
+    Ok(())
+}
+
+/// The election of four targets a seat that this seed generates, with so many voters. It is well
+/// formed, whatever the seed.
+#[tactic(auto, using(crate::proofs::DraftLemmas::seats_stand))]
+pub fn generated(alloc: Global, seed: u64, voters: u32, seats: u32) -> Result<Snapshot, NoMemory>
+    requires some_voters { 1 ≤ voters }
+    requires few_voters { voters ≤ 16384 }
+    requires some_seats { 1 ≤ seats }
+    requires few_seats { seats ≤ 512 }
+    ensures { IfOk result (λ snapshot. snapshot ≡ generated seed voters seats) }
+{
+    let targets = TARGETS_A_SEAT * seats;
+    let mut parts = with_targets(alloc, targets)?;
+    add_voters(alloc, &mut parts, seed, targets, voters)?;
+    match parts.finish(seats) {
+        Ok(snapshot) => Ok(snapshot),
+        Err(_) => unreachable!(),
+    }
+}

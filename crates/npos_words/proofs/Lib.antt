@@ -1,0 +1,4 @@
+pub mod OptionLemmas
+pub mod FoundLemmas
+pub mod NumberLemmas
+pub mod WordLemmas

@@ -1,0 +1,132 @@
+-- From the options that clap finds to the command, and what is known of a command.
+use Rattle.std.proofs.Common.{◌≡◌, ◌≤◌, ℕ, Bool, cond, true, false, ap, arith, List, [], ◌∷◌, codes, drop, refl, sym, subst, true≢false, ◌||◌, IfOk, IfSome, Option, Some, None, Result, Ok, Err}
+use Rattle.std.specs.List.{list_any}
+use Rattle.std.specs.Str.{bytes_eq}
+use Rattle.std.specs.Prelude.{not, ◌&&◌, option_and_then, option_map}
+use Rattle.clap.specs.Words.{first_value, found_of}
+use Rattle.clap.specs.declared.parser.matches.ArgMatches.{ArgMatches}
+use Rattle.npos_words.specs.declared.command.Command.{Command}
+use Rattle.npos_words.specs.declared.command.Command.TheVariants as commands
+use Rattle.npos_words.specs.declared.command.Miner.{Miner}
+use Rattle.npos_words.specs.Found.{Finds}
+use Rattle.npos_words.specs.Numbers.{number_within}
+use Rattle.npos_words.specs.Options.{Setting, Text, options_of, value_of}
+use Rattle.npos_words.specs.Words.{Values, alone, begins_with_verb, command_after, command_by, command_of, demo_by, demo_names, demo_of, has_verb, is_bare, is_verb, KeepsBounds, mine_by, mine_names, mine_of, miner_of, number_of, rounds_of}
+use Rattle.npos_words.proofs.NumberLemmas.{within_bounds}
+
+pub found_gives : {X : Type 0} (read : Values → Option X) (m : ArgMatches) (o : Option (List Setting)) → Finds (Some m) o
+    → read (first_value (found_of m)) ≡ option_and_then (λ given. read (value_of given)) o
+found_gives read m None h = absurd h
+found_gives read m (Some given) h = ap read (λ i name. h name i)
+
+-- ## Where memory is wanted
+
+no_command : (verb : Text) (words : List Text) → is_verb verb ≡ false → command_by verb words ≡ None
+no_command verb words none = go (bytes_eq verb (codes "replay")) (bytes_eq verb (codes "check")) (bytes_eq verb (codes "mine")) (bytes_eq verb (codes "pack")) (bytes_eq verb (codes "show")) (bytes_eq verb (codes "demo")) none
+  where
+    go : (a b c d e f : Bool) → (a || (b || (c || (d || (e || (f || false)))))) ≡ false
+        → cond a (alone commands.Replay words) (cond b (alone commands.Check words) (cond c (mine_by words) (cond d (alone commands.Pack words) (cond e (alone commands.Show words) (cond f (demo_by words) None))))) ≡ None
+    go true b c d e f none = absurd (true≢false none)
+    go false true c d e f none = absurd (true≢false none)
+    go false false true d e f none = absurd (true≢false none)
+    go false false false true e f none = absurd (true≢false none)
+    go false false false false true f none = absurd (true≢false none)
+    go false false false false false true none = absurd (true≢false none)
+    go false false false false false false none = refl
+
+-- words without a verb, or with one that is bare, have no form
+pub no_verb : (words : List Text) → has_verb words ≡ false → command_of words ≡ None
+no_verb words e = go (list_any is_bare (drop 1 words)) (drop 1 words) e
+  where
+    by : (behind : List Text) → begins_with_verb behind ≡ false → command_after behind ≡ None
+    by [] e = refl
+    by (verb ∷ words) e = no_command verb words e
+
+    true_and : (b : Bool) → (b && true) ≡ false → b ≡ false
+    true_and true e = e
+    true_and false e = e
+
+    go : (b : Bool) (behind : List Text) → (begins_with_verb behind && not b) ≡ false → cond b None (command_after behind) ≡ None
+    go true behind e = refl
+    go false behind e = by behind (true_and (begins_with_verb behind) e)
+
+-- ## The bounds of a command's numbers
+
+abbrev Within : ℕ → ℕ → Option ℕ → Type 0
+Within least most o = IfSome o (λ number. (least ≤ number) × (number ≤ most))
+
+rounds_kept : (miner : Miner) (text : Option Text) → KeepsBounds (option_map (commands.Mine miner) (rounds_of text))
+rounds_kept miner None = (omega arith, omega arith)
+rounds_kept miner (Some text) = by (number_within 1 100 text) (within_bounds 1 100 text)
+  where
+    by : (o : Option ℕ) → Within 1 100 o → KeepsBounds (option_map (commands.Mine miner) o)
+    by None h = tt
+    by (Some number) h = h
+
+mine_kept : (values : Values) → KeepsBounds (mine_of values)
+mine_kept values = by (option_and_then miner_of (values (codes "miner")))
+  where
+    by : (o : Option Miner) → KeepsBounds (option_and_then (λ miner. option_map (commands.Mine miner) (rounds_of (values (codes "rounds")))) o)
+    by None = tt
+    by (Some miner) = rounds_kept miner (values (codes "rounds"))
+
+number_kept : (values : Values) (name : Text) (least most : ℕ) → Within least most (number_of values name least most)
+number_kept values name least most = by (values name)
+  where
+    by : (o : Option Text) → Within least most (option_and_then (number_within least most) o)
+    by None = tt
+    by (Some text) = within_bounds least most text
+
+demo_kept : (values : Values) → KeepsBounds (demo_of values)
+demo_kept values = by_seed (number_of values (codes "seed") 0 18446744073709551615)
+  where
+    by_seats : (seed voters : ℕ) → (1 ≤ voters) × (voters ≤ 16384) → (o : Option ℕ) → Within 1 512 o → KeepsBounds (option_map (commands.Demo seed voters) o)
+    by_seats seed voters h None within = tt
+    by_seats seed voters h (Some seats) within = (h.0, h.1, within.0, within.1)
+
+    by_voters : (seed : ℕ) (o : Option ℕ) → Within 1 16384 o
+        → KeepsBounds (option_and_then (λ voters. option_map (commands.Demo seed voters) (number_of values (codes "seats") 1 512)) o)
+    by_voters seed None h = tt
+    by_voters seed (Some voters) h = by_seats seed voters h (number_of values (codes "seats") 1 512) (number_kept values (codes "seats") 1 512)
+
+    by_seed : (o : Option ℕ) → KeepsBounds (option_and_then (λ seed. option_and_then (λ voters. option_map (commands.Demo seed voters)
+        (number_of values (codes "seats") 1 512)) (number_of values (codes "voters") 1 16384)) o)
+    by_seed None = tt
+    by_seed (Some seed) = by_voters seed (number_of values (codes "voters") 1 16384) (number_kept values (codes "voters") 1 16384)
+
+read_kept : (read : Values → Option Command) → ((values : Values) → KeepsBounds (read values)) → (o : Option (List Setting))
+    → KeepsBounds (option_and_then (λ given. read (value_of given)) o)
+read_kept read keeps None = tt
+read_kept read keeps (Some given) = keeps (value_of given)
+
+alone_kept : (command : Command) → KeepsBounds (Some command) → (o : Option (List Setting)) → KeepsBounds (option_map (λ given. command) o)
+alone_kept command keeps None = tt
+alone_kept command keeps (Some given) = keeps
+
+by_kept : (verb : Text) (words : List Text) → KeepsBounds (command_by verb words)
+by_kept verb words = go (bytes_eq verb (codes "replay")) (bytes_eq verb (codes "check")) (bytes_eq verb (codes "mine")) (bytes_eq verb (codes "pack")) (bytes_eq verb (codes "show")) (bytes_eq verb (codes "demo"))
+  where
+    go : (a b c d e f : Bool)
+        → KeepsBounds (cond a (alone commands.Replay words) (cond b (alone commands.Check words) (cond c (mine_by words) (cond d (alone commands.Pack words) (cond e (alone commands.Show words) (cond f (demo_by words) None))))))
+    go true b c d e f = alone_kept commands.Replay tt (options_of [] words)
+    go false true c d e f = alone_kept commands.Check tt (options_of [] words)
+    go false false true d e f = read_kept mine_of mine_kept (options_of mine_names words)
+    go false false false true e f = alone_kept commands.Pack tt (options_of [] words)
+    go false false false false true f = alone_kept commands.Show tt (options_of [] words)
+    go false false false false false true = read_kept demo_of demo_kept (options_of demo_names words)
+    go false false false false false false = tt
+
+after_keeps : (words : List Text) → KeepsBounds (command_after words)
+after_keeps [] = tt
+after_keeps (verb ∷ words) = by_kept verb words
+
+pub keeps_bounds : (words : List Text) → KeepsBounds (command_of words)
+keeps_bounds words = go (list_any is_bare (drop 1 words)) (after_keeps (drop 1 words))
+  where
+    go : (b : Bool) → KeepsBounds (command_after (drop 1 words)) → KeepsBounds (cond b None (command_after (drop 1 words)))
+    go true keeps = tt
+    go false keeps = keeps
+
+pub result_keeps : {E : Type 0} (words : List Text) (result : Result (Option Command) E) → IfOk result (λ command. command ≡ command_after words) → IfOk result KeepsBounds
+result_keeps words (Ok command) is = subst KeepsBounds (sym is) (after_keeps words)
+result_keeps words (Err e) h = tt

@@ -1,0 +1,13 @@
+use Rattle.std.proofs.Common.{◌∙◌, Option, drop, map, string_bytes, subst}
+use Rattle.clap.specs.declared.parser.matches.ArgMatches.{ArgMatches}
+use Rattle.npos_words.specs.Found.{Finds}
+use Rattle.npos_words.specs.Options.{options_of}
+use Rattle.npos_words.specs.Words.{mine_names, mine_of}
+use Rattle.npos_words.proofs.WordLemmas.{found_gives}
+use Rattle.npos_words.proofs.words.mine_by.Goals as goal
+
+pub returns-in-Some : goal.returns-in-Some
+returns-in-Some c =
+    let given = options_of mine_names (drop 1 (map string_bytes c.args.words.now)) in
+    c.mine_of.ensures ∙ found_gives mine_of c.in-Some.options given
+    (subst (λ (found : Option ArgMatches). Finds found given) c.in-Some.is c.in_ok-options.ensures)

@@ -1,0 +1,4 @@
+pub mod Options
+pub mod Found
+pub mod Numbers
+pub mod Words

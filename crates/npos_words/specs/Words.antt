@@ -1,0 +1,108 @@
+-- The words of a call, and the command that they ask for.
+use Rattle.std.specs.Prelude.{⊤, ℕ, ◌≤◌, Bool, false, not, ◌&&◌, ◌||◌, ◌^◌, ◌-◌, List, [], ◌∷◌, drop, codes, Option, Some, None, option_map, option_and_then, if◌then◌else◌}
+use Rattle.std.specs.List.{list_any}
+use Rattle.std.specs.Str.{bytes_eq}
+use Rattle.npos_words.specs.declared.command.Command.{Command}
+use Rattle.npos_words.specs.declared.command.Command.TheVariants as commands
+use Rattle.npos_words.specs.declared.command.Miner.{Miner}
+use Rattle.npos_words.specs.declared.command.Miner.TheVariants as miners
+use Rattle.npos_words.specs.Numbers.{number_within}
+use Rattle.npos_words.specs.Options.{Text, options_of, value_of}
+
+-- ## The values
+
+abbrev pub miner_of : Text → Option Miner
+miner_of text =
+    if bytes_eq text (codes "fill") then Some miners.Fill
+    else if bytes_eq text (codes "seq") then Some miners.Seq
+    else if bytes_eq text (codes "mms") then Some miners.Mms
+    else None
+
+abbrev pub rounds_of : Option Text → Option ℕ
+rounds_of None = Some 8
+rounds_of (Some text) = number_within 1 100 text
+
+-- ## The commands, by the value of each option that is given
+
+-- what the options of a verb are, by name
+abbrev pub Values : Type 0
+Values = Text → Option Text
+
+abbrev pub number_of : Values → Text → ℕ → ℕ → Option ℕ
+number_of values name least most = option_and_then (number_within least most) (values name)
+
+abbrev pub mine_of : Values → Option Command
+mine_of values =
+    option_and_then (λ miner. option_map (commands.Mine miner) (rounds_of (values (codes "rounds"))))
+    (option_and_then miner_of (values (codes "miner")))
+
+abbrev pub demo_of : Values → Option Command
+demo_of values =
+    option_and_then (λ seed. option_and_then (λ voters. option_map (commands.Demo seed voters)
+    (number_of values (codes "seats") 1 512)) (number_of values (codes "voters") 1 16384))
+    (number_of values (codes "seed") 0 (2 ^ 64 - 1))
+
+abbrev pub mine_names : List Text
+mine_names = codes "miner" ∷ codes "rounds" ∷ []
+
+abbrev pub demo_names : List Text
+demo_names = codes "seed" ∷ codes "voters" ∷ codes "seats" ∷ []
+
+-- ## The words
+
+-- a command that has no options
+abbrev pub alone : Command → List Text → Option Command
+alone command words = option_map (λ given. command) (options_of [] words)
+
+abbrev pub mine_by : List Text → Option Command
+mine_by words = option_and_then (λ given. mine_of (value_of given)) (options_of mine_names words)
+
+abbrev pub demo_by : List Text → Option Command
+demo_by words = option_and_then (λ given. demo_of (value_of given)) (options_of demo_names words)
+
+-- the command of a verb, by the words behind it
+abbrev pub command_by : Text → List Text → Option Command
+command_by verb words =
+    if bytes_eq verb (codes "replay") then alone commands.Replay words
+    else if bytes_eq verb (codes "check") then alone commands.Check words
+    else if bytes_eq verb (codes "mine") then mine_by words
+    else if bytes_eq verb (codes "pack") then alone commands.Pack words
+    else if bytes_eq verb (codes "show") then alone commands.Show words
+    else if bytes_eq verb (codes "demo") then demo_by words
+    else None
+
+-- a word of one or two hyphens alone, which is neither an option nor a value
+abbrev pub is_bare : Text → Bool
+is_bare word = bytes_eq word (codes "-") || bytes_eq word (codes "--")
+
+abbrev pub command_after : List Text → Option Command
+command_after [] = None
+command_after (verb ∷ words) = command_by verb words
+
+-- The first word is the program's name, which is not looked at. The second is the verb. No word behind the first is bare.
+abbrev pub command_of : List Text → Option Command
+command_of words = if list_any is_bare (drop 1 words) then None else command_after (drop 1 words)
+
+-- ## Where memory is wanted
+
+abbrev pub verbs : List Text
+verbs = codes "replay" ∷ codes "check" ∷ codes "mine" ∷ codes "pack" ∷ codes "show" ∷ codes "demo" ∷ []
+
+abbrev pub is_verb : Text → Bool
+is_verb text = list_any (λ verb. bytes_eq text verb) verbs
+
+abbrev pub begins_with_verb : List Text → Bool
+begins_with_verb [] = false
+begins_with_verb (verb ∷ words) = is_verb verb
+
+-- the second word is a verb, and no word behind the first is bare
+abbrev pub has_verb : List Text → Bool
+has_verb words = begins_with_verb (drop 1 words) && not (list_any is_bare (drop 1 words))
+
+-- ## What is known of a command
+
+-- each number of a command is one that its option may have
+abbrev pub KeepsBounds : Option Command → Type 0
+KeepsBounds (Some (commands.Mine miner rounds)) = (1 ≤ rounds) × (rounds ≤ 100)
+KeepsBounds (Some (commands.Demo seed voters seats)) = (1 ≤ voters) × (voters ≤ 16384) × (1 ≤ seats) × (seats ≤ 512)
+KeepsBounds command = ⊤

@@ -1,0 +1,42 @@
+//! What a call may ask for.
+
+/// What the program is to do.
+#[derive(Clone, Copy, Debug, PartialEq, Eq)]
+pub enum Command {
+    /// To replay a stream.
+    Replay,
+    /// To judge the work of a bundle.
+    Check,
+    /// To make a committee of a bundle's election.
+    Mine {
+        /// Who makes it.
+        miner: Miner,
+        /// How many balancing rounds follow each pick of PHRAGMMS, from 1 to 100. The other miners
+        /// do not look at it.
+        rounds: u32,
+    },
+    /// To read a bundle in JSON and to write it in SCALE.
+    Pack,
+    /// To read a bundle in SCALE and to write it in JSON.
+    Show,
+    /// To make up an election and to report on it.
+    Demo {
+        /// What the election is drawn from.
+        seed: u64,
+        /// How many voters it has, from 1 to 16,384.
+        voters: u32,
+        /// How many seats it has, from 1 to 512.
+        seats: u32,
+    },
+}
+
+/// Who makes a committee.
+#[derive(Clone, Copy, Debug, PartialEq, Eq)]
+pub enum Miner {
+    /// The greedy fill, which always passes.
+    Fill,
+    /// Sequential Phragmén.
+    Seq,
+    /// PHRAGMMS.
+    Mms,
+}

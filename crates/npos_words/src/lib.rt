@@ -1,0 +1,13 @@
+//! The words of a call of npos: the command that they ask for.
+#![tactic(auto)]
+
+mod command;
+mod numbers;
+mod options;
+mod words;
+
+pub use command::{Command, Miner};
+pub use words::command_of;
+
+#[cfg(test)]
+mod tests;
