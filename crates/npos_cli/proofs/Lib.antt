@@ -21,3 +21,5 @@ pub mod ReportLaws
 pub mod FeedLaws
 pub mod CourseLaws
 pub mod JobLaws
+pub mod EraLaws
+pub mod StreamLaws

@@ -7,7 +7,7 @@ use Rattle.npos_cli.specs.declared.job.Job.{Job}
 use Rattle.npos_cli.specs.declared.job.Job.TheVariants as jobs
 use Rattle.npos_cli.specs.declared.status.Status.{Status}
 use Rattle.npos_cli.specs.declared.status.Status.TheVariants as statuses
-use Rattle.npos_cli.specs.Replay.{Outcome, IsReplay, Replayed, Ended}
+use Rattle.npos_cli.specs.Replay.{all_seated, Outcome, IsReplay, Replayed, Ended}
 use Rattle.npos_cli.specs.Chain.{npos_machine}
 use Rattle.npos_cli.specs.Report.{ReadsInput, IsAnswer, replay_status}
 use Rattle.npos_cli.specs.Owed.{IsAll, AnswersFor}
@@ -18,8 +18,14 @@ use Rattle.npos_cli.proofs.ChainLaws.{genesis_laws, turn_laws}
 -- no replay of a whole stream ends with a fault line
 stream_sound : (bytes : List ℕ) (out : Outcome Chain Election) → IsStream npos_machine bytes → IsReplay npos_machine bytes out → out.faulty ≡ false
 stream_sound bytes out stream replay =
+    let whole : Outcome Chain Election = record {
+      text = stream.text ++ npos_machine.ending stream.place.state;
+      faulty = false;
+      seated = all_seated npos_machine stream.start.state stream.reaches.blocks;
+      last = Some stream.place.state;
+    } in
     ap (λ (o : Outcome Chain Election). o.faulty)
-    (one_replay npos_machine genesis_laws turn_laws bytes out _ replay
+    (one_replay npos_machine genesis_laws turn_laws bytes out whole replay
     (Replayed stream.start stream.place stream.text (npos_machine.ending stream.place.state) false stream.starts stream.reaches (Ended stream.ended refl refl) refl))
 
 answer_done : (left : Option (List ℕ)) (old new : Option Told) (status : Status) → LeavesStream npos_machine left → AnswersFor (Some jobs.Replay) left old new status → status ≡ statuses.Done
