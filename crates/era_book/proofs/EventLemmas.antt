@@ -1,9 +1,8 @@
 -- Histories one after the other.
-use Rattle.std.proofs.Common.{◌≡◌, ℕ, ◌+◌, List, [], ◌∷◌, ◌++◌, refl, ap, ◌∙◌, arith}
-use Rattle.std.proofs.lemmas.List.{append_assoc}
+use Rattle.std.proofs.Common.{◌≡◌, ℕ, ◌+◌, List, [], ◌∷◌, ◌++◌, refl, ap, arith}
 use Rattle.era_book.specs.declared.exposure.Exposure.{Exposure}
 use Rattle.era_book.specs.Eras.{Eras}
-use Rattle.era_book.specs.Events.{Event, Started, Pointed, Paid, Reported, IsAccepted, AreAccepted, after, after_all, given_by, begun}
+use Rattle.era_book.specs.Events.{Event, Started, Pointed, Paid, Reported, AreAccepted, after, after_all, given_by, begun}
 
 pub accepted_append : (first second : List Event) (eras : Eras) → AreAccepted first eras → AreAccepted second (after_all first eras) → AreAccepted (first ++ second) eras
 accepted_append [] second eras here there = there

@@ -4,14 +4,13 @@ use Rattle.std.proofs.Common.{◌≡◌, ℕ, zero, suc, ◌+◌, ◌<◌, ◌�
 use Rattle.std.specs.List.{IsDistinct, AllByRecursion}
 use Rattle.std.specs.List.Sorted.{IsPermutation, IsNonDecreasingBy}
 use Rattle.std.proofs.lemmas.Bool.Decides.{nat_tests}
-use Rattle.std.proofs.lemmas.List.{append_assoc}
 use Rattle.std.proofs.lemmas.List.Sums.{sum_by-cons, sum_by-append, sum_by-le-sum_by}
 use Rattle.std.proofs.lemmas.List.Sorted.{sum_by-IsPermutation, IsNonDecreasingBy-drop}
 use Rattle.std.proofs.lemmas.List.Elements.{All-nil, All-cons, All-head, All-tail, All-filter, All-append, filter-append, recursion_from_All}
 use Rattle.npos_base.specs.declared.account.AccountId.{AccountId}
 use Rattle.npos_base.specs.declared.figures.Edge.{Edge}
 use Rattle.npos_base.specs.Account.{same_account}
-use Rattle.era_book.specs.Committee.{account_at, gives_to, is_of, backer_of, backers_among, backers_of, exposure_of, given_to, spent_by, same_pair, edges_by_voter}
+use Rattle.era_book.specs.Committee.{account_at, gives_to, is_of, backer_of, backers_of, exposure_of, given_to, spent_by, same_pair, edges_by_voter}
 use Rattle.era_book.proofs.CommitteeLemmas.{filter_sum}
 
 -- ---- the edges by voter weigh what the edges do

@@ -1,5 +1,5 @@
 -- The exposures of an elected committee are sound.
-use Rattle.std.proofs.Common.{◌≡◌, ℕ, zero, suc, ◌<◌, ◌≤◌, Bool, true, false, nat_eq, List, [], ◌∷◌, length, map, get_or, All, refl, ap, sym, subst, ◌∙◌, arith}
+use Rattle.std.proofs.Common.{◌≡◌, ℕ, zero, suc, ◌<◌, ◌≤◌, false, nat_eq, List, [], ◌∷◌, length, map, get_or, All, sym, ◌∙◌, arith}
 use Rattle.std.specs.List.{IsDistinct, AllByRecursion}
 use Rattle.std.proofs.lemmas.List.Elements.{All-nil, All-cons, All-head, All-tail, All-weaker}
 use Rattle.npos_base.specs.declared.account.AccountId.{AccountId}
@@ -7,8 +7,8 @@ use Rattle.npos_base.specs.declared.figures.Edge.{Edge}
 use Rattle.npos_base.specs.declared.limits.TheConstants.{WHOLE_FRACTION}
 use Rattle.npos_base.specs.Account.{same_account}
 use Rattle.era_book.specs.declared.exposure.Exposure.{Exposure}
-use Rattle.era_book.specs.Exposures.{IsSound, AreSound}
-use Rattle.era_book.specs.Committee.{account_at, exposure_of, given_to, same_pair, spent_by, edges_by_voter, IsWithin, IsElected, SoundLaw, OrderLaw}
+use Rattle.era_book.specs.Exposures.{IsSound}
+use Rattle.era_book.specs.Committee.{account_at, exposure_of, given_to, same_pair, edges_by_voter, IsWithin, SoundLaw, OrderLaw}
 use Rattle.era_book.proofs.CommitteeLemmas.{support_law}
 use Rattle.era_book.proofs.BackerLemmas.{apart_at, backers_law}
 use Rattle.era_book.proofs.OrderLemmas.{all_by_voter, pairs_by_voter, given_by_voter, spent_by_voter}

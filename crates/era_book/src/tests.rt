@@ -3,7 +3,7 @@
 ghost use Rattle.std.specs.Prelude.{◌≡◌, IfOk};
 ghost use Rattle.era_book.specs.Exposures.{AreSound};
 
-use crate::{Backer, EraBook, EraRefusal, Exposure, exposures_of, laws};
+use crate::{Backer, EraBook, EraRefusal, Exposure, exposures_by_voter, exposures_of, laws};
 use npos_base::{AccountId, Edge, List, NoMemory};
 use std::alloc::Global;
 use std::fmt::Write;
@@ -218,8 +218,54 @@ fn the_validator_stands_before_its_other_backers(rt: HostRuntime) -> Result<(), 
     let targets = [at(1), at(2)];
     let voters = [at(3), at(1), at(4)];
     let exposures = exposures_of(alloc, &targets, &[7, 8], &[90, 5], &voters, &[0, 1], &EDGES)?;
+    let text = backers_of(alloc, exposures.as_slice())?;
+    assert_eq!(rt; text.as_str(), "1 7 90: 1 50, 3 40,2 8 5: 4 5,");
+    Ok(())
+}
+
+/// The edges of three voters to the first target, not by voter.
+const MIXED: [Edge; 3] = [
+    Edge {
+        voter: 2,
+        target: 0,
+        amount: 5,
+    },
+    Edge {
+        voter: 1,
+        target: 0,
+        amount: 50,
+    },
+    Edge {
+        voter: 0,
+        target: 0,
+        amount: 40,
+    },
+];
+
+#[test]
+fn the_others_stand_in_the_order_of_the_voters(rt: HostRuntime) -> Result<(), Fail> {
+    let alloc = rt.alloc();
+    let targets = [at(1), at(2)];
+    let voters = [at(3), at(1), at(4)];
+    let mut edges = MIXED;
+    let exposures = exposures_by_voter(
+        alloc,
+        &targets,
+        &[7, 8],
+        &[95, 0],
+        &voters,
+        &[0, 1],
+        &mut edges,
+    )?;
+    let text = backers_of(alloc, exposures.as_slice())?;
+    assert_eq!(rt; text.as_str(), "1 7 95: 1 50, 3 40, 4 5,2 8 0:");
+    Ok(())
+}
+
+/// Each exposure with its backers.
+fn backers_of(alloc: Global, exposures: &[Exposure]) -> Result<String, Fail> {
     let mut text = String::new(alloc);
-    for seat in exposures.as_slice() {
+    for seat in exposures {
         write!(
             text,
             "{} {} {}:",
@@ -229,8 +275,7 @@ fn the_validator_stands_before_its_other_backers(rt: HostRuntime) -> Result<(), 
             write!(text, " {} {},", backer.who.lo, backer.amount)?;
         }
     }
-    assert_eq!(rt; text.as_str(), "1 7 90: 1 50, 3 40,2 8 5: 4 5,");
-    Ok(())
+    Ok(text)
 }
 
 #[test]

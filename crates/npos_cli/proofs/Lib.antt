@@ -22,3 +22,5 @@ pub mod FeedLaws
 pub mod CourseLaws
 pub mod JobLaws
 pub mod RewriteLaws
+pub mod EraLaws
+pub mod StreamLaws

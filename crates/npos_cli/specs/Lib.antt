@@ -22,3 +22,5 @@ pub mod Answer
 pub mod Laws
 pub mod Crowding
 pub mod Demo
+pub mod Eras
+pub mod Streams

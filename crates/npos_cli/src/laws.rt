@@ -6,10 +6,15 @@ ghost use Rattle.election_check.specs.Seats.{IsReordered};
 ghost use Rattle.npos_cli.specs.Chain.{npos_machine};
 ghost use Rattle.npos_cli.specs.Headline.{SeatsAreSound};
 ghost use Rattle.npos_cli.specs.Crowding.{NoneIsCrowdedOut};
+ghost use Rattle.npos_cli.specs.Eras.{ErasAreKept};
 ghost use Rattle.npos_cli.specs.Laws.{OwesOnce, OwesAlways, PacksBack, IsReplayedOnce, IsAlwaysReplayed, IsWholeOnce, IsAlwaysWhole, BeginsWithWhole, WholeGrows, FaultsStand};
 
 use election_check::{Checker, Elected};
-use npos_runtime::laws::{every_seated_committee_is_sound, nothing_valid_is_crowded_out_for_free};
+use npos_runtime::laws::{
+    each_round_is_decided_once, every_seated_committee_is_sound,
+    nothing_valid_is_crowded_out_for_free, payouts_are_within_the_reward,
+    slashes_are_within_the_stake,
+};
 use weight_book::Weights;
 
 /// Every committee that a replay seats, from a signed solution or from the fill, has a member for
@@ -27,6 +32,18 @@ pub fn replays_crowd_nothing_out()
     ensures { (bytes : List ℕ) → NoneIsCrowdedOut bytes }
 {
     nothing_valid_is_crowded_out_for_free();
+}
+
+/// Whatever blocks a replay takes, what they pay of an era is at most its reward, and what they make
+/// due from an account for an era is at most the stake with which it voted in the one election of
+/// that era. Each payout is minted as it is told, and a slash takes the lesser of what is due and
+/// what is bonded.
+pub fn replays_keep_the_bounds_of_eras()
+    ensures { (bytes : List ℕ) → ErasAreKept bytes }
+{
+    each_round_is_decided_once();
+    payouts_are_within_the_reward();
+    slashes_are_within_the_stake();
 }
 
 /// All words owe something for all bytes, and nothing else: a text and a status.

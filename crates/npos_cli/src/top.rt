@@ -10,7 +10,10 @@ ghost use Rattle.npos_cli.specs.Words.{job_of, KeepsBounds, TaskHasRounds};
 ghost use Rattle.npos_cli.specs.Report.{ReadsInput, ReadsBundle, IsAnswer, IsJudged};
 ghost use Rattle.npos_cli.specs.Books.{BooksBalance};
 ghost use Rattle.npos_cli.specs.Headline.{SeatsAreSound};
+ghost use Rattle.npos_cli.specs.Chain.{npos_machine};
 ghost use Rattle.npos_cli.specs.Crowding.{NoneIsCrowdedOut};
+ghost use Rattle.npos_cli.specs.Eras.{ErasAreKept};
+ghost use Rattle.npos_cli.specs.Streams.{LeavesStream};
 ghost use Rattle.npos_cli.specs.Verdicts.{most_bundle};
 ghost use Rattle.npos_cli.specs.Tasks.{IsSound};
 ghost use Rattle.npos_cli.specs.declared.status.Status.TheVariants as statuses;
@@ -25,7 +28,9 @@ use crate::demo::demo_text;
 use crate::edges::deliver;
 use crate::input::read_up_to;
 use crate::job::{Job, Task, job_of};
-use crate::laws::{replays_crowd_nothing_out, replays_seat_sound_committees};
+use crate::laws::{
+    replays_crowd_nothing_out, replays_keep_the_bounds_of_eras, replays_seat_sound_committees,
+};
 use crate::reading::MOST_BUNDLE;
 use crate::replaying::replay;
 use crate::rewriting::rewrite;
@@ -171,7 +176,7 @@ fn run_words<S: Source, K: Sink>(
 /// Does all that the program does: finds the job that the words ask for, reads its input from the
 /// source, writes to the sink what is due, flushes it, and says how it ended. `words[0]` is the
 /// program's name and is not looked at.
-#[tactic(auto, using(crate::proofs::BookLaws::books_told, crate::proofs::SeatLaws::told_sound, crate::proofs::CrowdingLaws::told_crowded))]
+#[tactic(auto, using(crate::proofs::BookLaws::books_told, crate::proofs::SeatLaws::told_sound, crate::proofs::CrowdingLaws::told_crowded, crate::proofs::EraLaws::told_eras))]
 pub fn run<S: Source, K: Sink>(
     alloc: Global,
     words: &[String],
@@ -204,6 +209,11 @@ pub fn run<S: Source, K: Sink>(
     ensures starved { job_of (map string_bytes words.now) ≡ Some jobs.Replay
         → result ≡ Status.NoMemory → HaltedStarving (S.left source.old) (S.left source.new)
         (K.told sink.old) (K.told sink.new) }
+    ensures whole { job_of (map string_bytes words.now) ≡ Some jobs.Replay
+        → LeavesStream npos_machine (S.left source.old)
+        → (Rose (S.faults source.old) (S.faults source.new) → ⊥)
+        → (Rose (K.faults sink.old) (K.faults sink.new) → ⊥)
+        → (result ≡ Status.Done) ⊎ (result ≡ Status.NoMemory) }
     ensures wary { job_of (map string_bytes words.now) ≡ Some jobs.Replay
         → ReadsWhile (S.left source.old) (S.left source.new) }
     ensures usage_memory { has_verb (map string_bytes words.now) ≡ false
@@ -215,6 +225,7 @@ pub fn run<S: Source, K: Sink>(
     ensures books { IfSome (S.left source.old) BooksBalance }
     ensures committees { IfSome (S.left source.old) SeatsAreSound }
     ensures crowding { IfSome (S.left source.old) NoneIsCrowdedOut }
+    ensures eras { IfSome (S.left source.old) ErasAreKept }
     ensures few { ReadsBundle (job_of (map string_bytes words.now)) → IsAnswer result
         → TakesAtMost (most_bundle + 1) (S.left source.old) (S.left source.new) }
     ensures accepted { (task : task_kind)
@@ -223,8 +234,9 @@ pub fn run<S: Source, K: Sink>(
     ensures passes { job_of (map string_bytes words.now)
         ≡ Some (jobs.OnBundle (tasks.Mine miners.Fill)) → result ≢ Status.No }
 {
-    // two laws, which do nothing
+    // three laws, which do nothing
     replays_seat_sound_committees();
     replays_crowd_nothing_out();
+    replays_keep_the_bounds_of_eras();
     run_words(alloc, words, source, sink)
 }

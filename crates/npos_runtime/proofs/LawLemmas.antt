@@ -51,7 +51,7 @@ seats_calls index (call ∷ calls) chain =
 abbrev pub undecided : Chain → Chain
 undecided chain = (round_phase (era_phase chain).state).state
 
-seats_step : (chain : Chain) (block : Block) → (step chain block).seated ≡ (decision_phase (undecided chain)).seated
+pub seats_step : (chain : Chain) (block : Block) → (step chain block).seated ≡ (decision_phase (undecided chain)).seated
 seats_step chain block =
     append-nil ((decision_phase (undecided chain)).seated ++ (calls_outcome 0 block.calls (before_calls chain)).seated)
     ∙ (ap (λ (es : List Election). (decision_phase (undecided chain)).seated ++ es) (seats_calls 0 block.calls (before_calls chain))

@@ -26,3 +26,8 @@ pub mod SubmitLemmas
 pub mod FateLemmas
 pub mod LawLemmas
 pub mod CrowdingLemmas
+pub mod HistoryLemmas
+pub mod ElectedLemmas
+pub mod SeatedLemmas
+pub mod StoryLemmas
+pub mod EraLawLemmas

@@ -20,3 +20,4 @@ pub mod Polling
 pub mod Fates
 pub mod Offers
 pub mod Laws
+pub mod EraLaws

@@ -5,6 +5,7 @@ ghost use Rattle.block_wire.specs.declared.block.Block.{Block as ABlock};
 ghost use Rattle.stake_ledger.specs.Ledger.{IsBalanced};
 ghost use Rattle.npos_runtime.specs.Step.{after_blocks};
 ghost use Rattle.npos_runtime.specs.Laws.{SoundStepLaw, SoundLaw, SeatsLaw, HeldLaw, FateLaw, CrowdingLaw};
+ghost use Rattle.npos_runtime.specs.EraLaws.{HistoryLaw, RewardLaw, PayoutLaw, SlashLaw, TakenLaw, OnceLaw, DueLaw};
 
 use crate::Runtime;
 use election_check::laws::{a_packed_yes_is_a_plain_yes, a_plain_yes_is_passing};
@@ -57,4 +58,48 @@ pub fn nothing_valid_is_crowded_out_for_free()
     ensures { CrowdingLaw }
 {
     a_packed_yes_is_a_plain_yes();
+}
+
+/// Each round is decided at most once: of all elections that are seated, no two have the number of
+/// one round, which is the number of the era for which it elects.
+pub fn each_round_is_decided_once()
+    ensures { OnceLaw }
+{
+    a_packed_yes_is_a_plain_yes();
+    a_plain_yes_is_passing();
+    every_fill_passes();
+}
+
+/// The eras are what the events of the blocks make of the first era, and each event is accepted, as
+/// an era book asks.
+pub fn eras_follow_the_blocks()
+    ensures { HistoryLaw }
+{
+    a_packed_yes_is_a_plain_yes();
+    a_plain_yes_is_passing();
+    every_fill_passes();
+}
+
+/// What an era pays is told line by line and minted, and is at most the reward of the era: each
+/// payout for itself, and all payouts of the era together, over all its validators.
+pub fn payouts_are_within_the_reward()
+    ensures each { PayoutLaw }
+    ensures together { RewardLaw }
+{
+    a_packed_yes_is_a_plain_yes();
+    a_plain_yes_is_passing();
+    every_fill_passes();
+}
+
+/// A slash takes the lesser of what is due and what the account has bonded, and no more. All that
+/// is due from an account for an era, over all validators and all reports, is at most the stake
+/// with which it voted in the election of that era.
+pub fn slashes_are_within_the_stake()
+    ensures each { SlashLaw }
+    ensures taken { TakenLaw }
+    ensures due { DueLaw }
+{
+    a_packed_yes_is_a_plain_yes();
+    a_plain_yes_is_passing();
+    every_fill_passes();
 }

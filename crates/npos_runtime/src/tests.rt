@@ -63,6 +63,10 @@ fn a_runtime_takes_the_block_that_is_due(rt: HostRuntime) -> Result<(), Fail> {
     laws::every_open_round_seats_a_committee();
     laws::deposits_are_held();
     laws::each_deposit_has_one_fate();
+    laws::each_round_is_decided_once();
+    laws::eras_follow_the_blocks();
+    laws::payouts_are_within_the_reward();
+    laws::slashes_are_within_the_stake();
     Ok(())
 }
 

@@ -1,0 +1,473 @@
+-- What eras come to over blocks: payouts within the reward, and slashes within the stake.
+use Rattle.std.proofs.Common.{◌≡◌, ◌≢◌, ℕ, zero, suc, ◌+◌, ◌-◌, ◌<◌, ◌≤◌, ◌^◌, min, Bool, true, false, cond, not, ◌==◌, nat_eq, nat_lt, All, List, [], ◌∷◌, ◌++◌, length, map, filter, sum_by, slice_get, unwrap_or, Option, Some, None, refl, ap, sym, subst, ◌∙◌, arith, if◌then◌else◌}
+use Rattle.std.specs.List.{IsDistinct}
+use Rattle.std.proofs.lemmas.Bool.Decides.{nat_tests}
+use Rattle.std.proofs.lemmas.List.{append-nil, append_assoc, length-append}
+use Rattle.std.proofs.lemmas.List.Sums.{sum_by-cons, sum_by-append}
+use Rattle.std.proofs.lemmas.List.Elements.{All-nil}
+use Rattle.npos_base.specs.declared.account.AccountId.{AccountId}
+use Rattle.npos_base.specs.Account.{same_account}
+use Rattle.npos_base.proofs.AccountOrder.{same_exact, same_itself}
+use Rattle.block_wire.specs.declared.genesis.Params.{Params}
+use Rattle.block_wire.specs.declared.genesis.Genesis.{Genesis}
+use Rattle.block_wire.specs.declared.genesis.Endowment.{Endowment}
+use Rattle.block_wire.specs.declared.genesis.Genesis.TheVariants as geneses
+use Rattle.block_wire.specs.declared.call.Call.{Call}
+use Rattle.block_wire.specs.declared.call.CallKind.{CallKind}
+use Rattle.block_wire.specs.declared.call.CallKind.TheVariants as kinds
+use Rattle.block_wire.specs.declared.block.Block.{Block}
+use Rattle.stake_ledger.specs.declared.chunks.Chunk.{Chunk}
+use Rattle.stake_ledger.specs.declared.row.Row.{Row}
+use Rattle.stake_ledger.specs.Chunks.{chunk_sum, without_first}
+use Rattle.stake_ledger.specs.Rows.{is_bonded, slashed_row}
+use Rattle.stake_ledger.specs.Ledger.{Ledger, row_at, changed, IsBalanced}
+use Rattle.stake_ledger.specs.Calls.{slash_amount, slashed, minted_free}
+use Rattle.stake_ledger.proofs.AccountLemmas.{row_at-slashed}
+use Rattle.election_check.specs.Laws.{PackedYesIsAccepting, PlainYesIsPassing}
+use Rattle.quota_fill.specs.Laws.{EveryFillPasses}
+use Rattle.era_book.specs.declared.exposure.Backer.{Backer}
+use Rattle.era_book.specs.declared.exposure.Exposure.{Exposure}
+use Rattle.era_book.specs.Exposures.{amount_sum, amount_for, exposed_for}
+use Rattle.era_book.specs.Calls.{slash_in}
+use Rattle.era_book.specs.Eras.{Eras, first_era}
+use Rattle.era_book.specs.Events.{Event, Paid, AreAccepted, after_all, given_by, pays, makes_due, begun, exposures_of}
+use Rattle.era_book.proofs.EventLemmas.{accepted_append, after_append, given_append}
+use Rattle.era_book.proofs.LawLemmas.{reward_law, due_law, for_sum}
+use Rattle.npos_runtime.specs.declared.chain.Chain.{Chain}
+use Rattle.npos_runtime.specs.declared.line.Line.{Line}
+use Rattle.npos_runtime.specs.declared.line.Line.TheVariants as lines
+use Rattle.npos_runtime.specs.declared.refusal.Refusal.{Refusal}
+use Rattle.npos_runtime.specs.Rules.{era_of, era_reward_of}
+use Rattle.npos_runtime.specs.Refusals.{code_of}
+use Rattle.npos_runtime.specs.Outcome.{Election}
+use Rattle.npos_runtime.specs.Offices.{payout_now, all_minted, paid_line, payout_told, slash_told, slashed_once, slashes, offence_told}
+use Rattle.npos_runtime.specs.Calls.{stop_of, done_of, told_of}
+use Rattle.npos_runtime.specs.Step.{call_after, call_outcome, calls_outcome, step, after_blocks, seated_by}
+use Rattle.npos_runtime.specs.Genesis.{params_fault, params_of, genesis_fault, genesis_chain}
+use Rattle.npos_runtime.specs.Live.{IsLive}
+use Rattle.npos_runtime.specs.Offers.{before_calls}
+use Rattle.npos_runtime.specs.Laws.{FitsBehind}
+use Rattle.npos_runtime.specs.EraLaws.{event_of_kind, event_of, events_of, events_in, events_by, HistoryLaw, over_calls, over_blocks, amount_paid, told_paid, paid_for, paid_by, paid_in, RewardLaw, chain_at, IsPaidOut, PayoutLaw, bonded, IsTaken, AreTaken, SlashLaw, amount_taken, told_taken, taken_for, taken_by, taken_in, due_of_kind, due_of, due_by, due_in, TakenLaw, OnceLaw, elected_for, stake_behind, DueLaw}
+use Rattle.npos_runtime.proofs.LiveLemmas.{same_or_not, slashed_live, live_before, live_calls, live_blocks, fixed_calls, params_before}
+use Rattle.npos_runtime.proofs.BeginLemmas.{live_begun}
+use Rattle.npos_runtime.proofs.OfficeLemmas.{payout_sums}
+use Rattle.npos_runtime.proofs.EraLemmas.{era_first}
+use Rattle.npos_runtime.proofs.HistoryLemmas.{payout_free, accepted_block, accepted_plain, eras_block, sum_blocks, params_step}
+use Rattle.npos_runtime.proofs.SeatedLemmas.{same_round, waiting_sound}
+use Rattle.npos_runtime.proofs.StoryLemmas.{IsStory, story_blocks, story_accepted, plain_seated, plain_begun}
+
+-- ## What payouts tell
+
+told_lines : (lines_of : List Backer) → told_paid (map paid_line lines_of) ≡ amount_sum lines_of
+told_lines [] = refl
+told_lines (line ∷ more) =
+    omega (arith, told_lines more, sum_by-cons amount_paid (paid_line line) (map paid_line more), sum_by-cons (λ (l : Backer). l.amount) line more)
+
+told_payout : (chain : Chain) (era : ℕ) (validator : AccountId) → told_paid (payout_told chain era validator) ≡ (payout_now chain era validator).total
+told_payout chain era validator = told_lines (payout_now chain era validator).lines ∙ sym (payout_sums chain.eras era validator (era_reward_of chain.params))
+
+paid_kind : (era index : ℕ) (chain : Chain) (who : AccountId) (kind : CallKind) (reward : ℕ) → era_reward_of chain.params ≡ reward
+    → paid_for era kind (lines.CallOk index ∷ told_of chain who kind) ≡ given_by (pays era reward) (event_of_kind kind) chain.eras
+unfolding told_of
+paid_kind era index chain who (kinds.Payout other validator) reward is =
+    subst (λ r. paid_for era (kinds.Payout other validator) (lines.CallOk index ∷ payout_told chain other validator) ≡ given_by (pays era r) (Paid other validator ∷ []) chain.eras) is (at (other == era)) where
+      sum : told_paid (lines.CallOk index ∷ payout_told chain other validator) ≡ (payout_now chain other validator).total
+      sum = sum_by-cons amount_paid (lines.CallOk index) (payout_told chain other validator) ∙ omega (arith, told_payout chain other validator)
+
+      at : (b : Bool) → (if b then told_paid (lines.CallOk index ∷ payout_told chain other validator) else 0) ≡ (if b then (payout_now chain other validator).total else 0) + 0
+      at true = omega (arith, sum)
+      at false = refl
+paid_kind era index chain who (kinds.Transfer to value) reward is = refl
+paid_kind era index chain who (kinds.Bond value) reward is = refl
+paid_kind era index chain who (kinds.BondExtra value) reward is = refl
+paid_kind era index chain who (kinds.Unbond value) reward is = refl
+paid_kind era index chain who (kinds.Rebond value) reward is = refl
+paid_kind era index chain who kinds.Withdraw reward is = refl
+paid_kind era index chain who (kinds.Nominate targets) reward is = refl
+paid_kind era index chain who (kinds.Validate commission) reward is = refl
+paid_kind era index chain who kinds.Chill reward is = refl
+paid_kind era index chain who (kinds.Rebag whom) reward is = refl
+paid_kind era index chain who (kinds.PutInFront lighter) reward is = refl
+paid_kind era index chain who (kinds.Submit round claim bytes) reward is = refl
+paid_kind era index chain who (kinds.Points items) reward is = refl
+paid_kind era index chain who (kinds.Offence other validator fraction) reward is = refl
+
+either_nothing : (b : Bool) → (if b then 0 else 0) ≡ zero
+either_nothing true = refl
+either_nothing false = refl
+
+refused_paid : (era index code : ℕ) (kind : CallKind) → paid_for era kind (lines.CallRefused index code ∷ []) ≡ 0
+refused_paid era index code (kinds.Payout other validator) = either_nothing (other == era)
+refused_paid era index code (kinds.Transfer to value) = refl
+refused_paid era index code (kinds.Bond value) = refl
+refused_paid era index code (kinds.BondExtra value) = refl
+refused_paid era index code (kinds.Unbond value) = refl
+refused_paid era index code (kinds.Rebond value) = refl
+refused_paid era index code kinds.Withdraw = refl
+refused_paid era index code (kinds.Nominate targets) = refl
+refused_paid era index code (kinds.Validate commission) = refl
+refused_paid era index code kinds.Chill = refl
+refused_paid era index code (kinds.Rebag whom) = refl
+refused_paid era index code (kinds.PutInFront lighter) = refl
+refused_paid era index code (kinds.Submit round claim bytes) = refl
+refused_paid era index code (kinds.Points items) = refl
+refused_paid era index code (kinds.Offence other validator fraction) = refl
+
+paid_call : (era : ℕ) (params : Option Params) (due : Option Refusal) (index : ℕ) (call : Call) (chain : Chain) → chain.params ≡ params
+    → paid_for era call.kind (call_after due index call chain).lines ≡ given_by (pays era (era_reward_of params)) (event_of due call.kind) chain.eras
+paid_call era params None index call chain is = paid_kind era index chain call.who call.kind (era_reward_of params) (ap era_reward_of is)
+paid_call era params (Some refusal) index call chain is = refused_paid era index (code_of refusal) call.kind
+
+-- ## What offences make due, and what they take
+
+due_kind : (era : ℕ) (who : AccountId) (kind : CallKind) (chain : Chain) → due_of_kind era who kind chain ≡ given_by (makes_due era who) (event_of_kind kind) chain.eras
+due_kind era who (kinds.Offence other validator fraction) chain = omega arith
+due_kind era who (kinds.Transfer to value) chain = refl
+due_kind era who (kinds.Bond value) chain = refl
+due_kind era who (kinds.BondExtra value) chain = refl
+due_kind era who (kinds.Unbond value) chain = refl
+due_kind era who (kinds.Rebond value) chain = refl
+due_kind era who kinds.Withdraw chain = refl
+due_kind era who (kinds.Nominate targets) chain = refl
+due_kind era who (kinds.Validate commission) chain = refl
+due_kind era who kinds.Chill chain = refl
+due_kind era who (kinds.Rebag whom) chain = refl
+due_kind era who (kinds.PutInFront lighter) chain = refl
+due_kind era who (kinds.Submit round claim bytes) chain = refl
+due_kind era who (kinds.Points items) chain = refl
+due_kind era who (kinds.Payout other validator) chain = refl
+
+due_call : (era : ℕ) (who : AccountId) (due : Option Refusal) (kind : CallKind) (chain : Chain) → due_of era who due kind chain ≡ given_by (makes_due era who) (event_of due kind) chain.eras
+due_call era who None kind chain = due_kind era who kind chain
+due_call era who (Some refusal) kind chain = refl
+
+-- the lines of one slash
+told_slash : (who of : AccountId) (taken amount : ℕ) → taken ≤ amount → told_taken who (slash_told of taken) ≤ cond (same_account of who) amount 0
+told_slash who of taken amount less = at (taken == 0) where
+  one : (b : Bool) → cond b taken 0 + 0 ≤ cond b amount 0
+  one true = omega (arith, less)
+  one false = omega arith
+
+  at : (b : Bool) → told_taken who (if b then [] else lines.Slashed of taken ∷ []) ≤ cond (same_account of who) amount 0
+  at true = omega arith
+  at false = omega (arith, one (same_account of who), sum_by-cons (amount_taken who) (lines.Slashed of taken) [])
+
+told_slashes : (who : AccountId) (dues : List Backer) (chain : Chain) → told_taken who (slashes dues chain).lines ≤ sum_by (λ (l : Backer). cond (same_account l.who who) l.amount 0) dues
+told_slashes who [] chain = omega arith
+told_slashes who (due ∷ more) chain =
+    let taken : ℕ = slash_amount (row_at chain.book due.who) due.amount in
+    let next : Chain = slashed_once due chain in
+    let less : taken ≤ due.amount = omega arith in
+    omega (
+      arith,
+      told_slash who due.who taken due.amount less,
+      told_slashes who more next,
+      sum_by-append (amount_taken who) (slash_told due.who taken) (slashes more next).lines,
+      sum_by-cons (λ (l : Backer). cond (same_account l.who who) l.amount 0) due more,
+    )
+
+taken_kind : (era : ℕ) (who : AccountId) (index : ℕ) (chain : Chain) (by : AccountId) (kind : CallKind)
+    → taken_for era who kind (lines.CallOk index ∷ told_of chain by kind) ≤ due_of_kind era who kind chain
+unfolding told_of
+taken_kind era who index chain by (kinds.Offence other validator fraction) = at (other == era) where
+  dues : List Backer
+  dues = slash_in chain.eras other validator fraction
+
+  at : (b : Bool) → (if b then told_taken who (lines.CallOk index ∷ offence_told chain other validator fraction) else 0)
+      ≤ (if b then amount_for who (slash_in chain.eras other validator fraction) else 0)
+  at true =
+      omega (
+        arith,
+        told_slashes who dues chain,
+        for_sum who dues,
+        sum_by-cons (amount_taken who) (lines.CallOk index) (offence_told chain other validator fraction),
+      )
+  at false = omega arith
+taken_kind era who index chain by (kinds.Transfer to value) = omega arith
+taken_kind era who index chain by (kinds.Bond value) = omega arith
+taken_kind era who index chain by (kinds.BondExtra value) = omega arith
+taken_kind era who index chain by (kinds.Unbond value) = omega arith
+taken_kind era who index chain by (kinds.Rebond value) = omega arith
+taken_kind era who index chain by kinds.Withdraw = omega arith
+taken_kind era who index chain by (kinds.Nominate targets) = omega arith
+taken_kind era who index chain by (kinds.Validate commission) = omega arith
+taken_kind era who index chain by kinds.Chill = omega arith
+taken_kind era who index chain by (kinds.Rebag whom) = omega arith
+taken_kind era who index chain by (kinds.PutInFront lighter) = omega arith
+taken_kind era who index chain by (kinds.Submit round claim bytes) = omega arith
+taken_kind era who index chain by (kinds.Points items) = omega arith
+taken_kind era who index chain by (kinds.Payout other validator) = omega arith
+
+refused_taken : (era : ℕ) (who : AccountId) (index code : ℕ) (kind : CallKind) → taken_for era who kind (lines.CallRefused index code ∷ []) ≡ 0
+refused_taken era who index code (kinds.Offence other validator fraction) = either_nothing (other == era)
+refused_taken era who index code (kinds.Payout other validator) = refl
+refused_taken era who index code (kinds.Transfer to value) = refl
+refused_taken era who index code (kinds.Bond value) = refl
+refused_taken era who index code (kinds.BondExtra value) = refl
+refused_taken era who index code (kinds.Unbond value) = refl
+refused_taken era who index code (kinds.Rebond value) = refl
+refused_taken era who index code kinds.Withdraw = refl
+refused_taken era who index code (kinds.Nominate targets) = refl
+refused_taken era who index code (kinds.Validate commission) = refl
+refused_taken era who index code kinds.Chill = refl
+refused_taken era who index code (kinds.Rebag whom) = refl
+refused_taken era who index code (kinds.PutInFront lighter) = refl
+refused_taken era who index code (kinds.Submit round claim bytes) = refl
+refused_taken era who index code (kinds.Points items) = refl
+
+taken_call : (era : ℕ) (who : AccountId) (due : Option Refusal) (index : ℕ) (call : Call) (chain : Chain)
+    → taken_for era who call.kind (call_after due index call chain).lines ≤ due_of era who due call.kind chain
+taken_call era who None index call chain = taken_kind era who index chain call.who call.kind
+taken_call era who (Some refusal) index call chain = omega (arith, refused_taken era who index (code_of refusal) call.kind)
+
+module _ (less more : ℕ → Call → Chain → ℕ) (each : (index : ℕ) (call : Call) (chain : Chain) → less index call chain ≤ more index call chain) where
+  fewer_calls : (index : ℕ) (calls : List Call) (chain : Chain) → over_calls less index calls chain ≤ over_calls more index calls chain
+  fewer_calls index [] chain = omega arith
+  fewer_calls index (call ∷ calls) chain = omega (arith, each index call chain, fewer_calls (index + 1) calls (call_outcome index call chain).state)
+
+  fewer_blocks : (chain : Chain) (blocks : List Block) → over_blocks less chain blocks ≤ over_blocks more chain blocks
+  fewer_blocks chain [] = omega arith
+  fewer_blocks chain (block ∷ rest) = omega (arith, fewer_calls 0 block.calls (before_calls chain), fewer_blocks (step chain block).state rest)
+
+pub taken_law : TakenLaw
+taken_law genesis blocks era who sound fit =
+    fewer_blocks (taken_by era who) (due_by era who) (λ index call chain. taken_call era who (stop_of chain call.who call.kind) index call chain) (genesis_chain genesis) blocks
+
+-- ## One slash
+
+first_left : (n : ℕ) (chunks : List Chunk) → chunk_sum (without_first n chunks) + min n (chunk_sum chunks) ≡ chunk_sum chunks
+first_left n [] = omega arith
+first_left n (c ∷ later) = at (nat_lt n c.value) refl (first_left (n - c.value) later) where
+  all : chunk_sum (c ∷ later) ≡ c.value + chunk_sum later
+  all = sum_by-cons (λ (x : Chunk). x.value) c later
+
+  at : (b : Bool) → nat_lt n c.value ≡ b → chunk_sum (without_first (n - c.value) later) + min (n - c.value) (chunk_sum later) ≡ chunk_sum later
+      → chunk_sum (if b then record c { value = c.value - n } ∷ later else without_first (n - c.value) later) + min n (chunk_sum (c ∷ later)) ≡ chunk_sum (c ∷ later)
+  at true is rest =
+      let below : n < c.value = grind (arith, nat_tests) in
+      let part : chunk_sum (record c { value = c.value - n } ∷ later) ≡ (c.value - n) + chunk_sum later = sum_by-cons (λ (x : Chunk). x.value) (record c { value = c.value - n }) later in
+      omega (arith, below, part, all)
+  at false is rest =
+      let past : c.value ≤ n = grind (arith, nat_tests) in
+      omega (arith, past, rest, all)
+
+row_left : (n : ℕ) (row : Row) → bonded (slashed_row n row) + slash_amount row n ≡ bonded row
+row_left n row = omega (arith, first_left (n - row.active) row.chunks)
+
+slash_burns : (due : Backer) (book : Ledger) → (slashed due.who due.amount book).burned ≡ book.burned + slash_amount (row_at book due.who) due.amount
+slash_burns due book = at (is_bonded (row_at book due.who)) refl where
+  at : (b : Bool) → is_bonded (row_at book due.who) ≡ b
+      → (if not b then book else record (changed due.who (slashed_row due.amount) book) { burned = book.burned + slash_amount (row_at book due.who) due.amount }).burned
+      ≡ book.burned + slash_amount (row_at book due.who) due.amount
+  at true is = refl
+  at false is =
+      let none : bonded (row_at book due.who) ≡ 0 = grind (arith, nat_tests) in
+      omega (arith, none)
+
+taken_once : (due : Backer) (book : Ledger) → IsBalanced book → IsTaken due (slash_amount (row_at book due.who) due.amount) book (slashed due.who due.amount book)
+taken_once due book balanced = record {
+  lesser = refl;
+  left = ap (λ (row : Row). bonded row + slash_amount (row_at book due.who) due.amount) own ∙ row_left due.amount (row_at book due.who);
+  free = ap (λ (row : Row). row.free) own;
+  held = ap (λ (row : Row). row.held) own;
+  others = λ other apart. row_at-slashed due.who due.amount book other balanced
+      ∙ ap (λ b. if b then slashed_row due.amount (row_at book other) else row_at book other) (no_other other apart);
+  burned = slash_burns due book;
+} where
+  own : row_at (slashed due.who due.amount book) due.who ≡ slashed_row due.amount (row_at book due.who)
+  own = row_at-slashed due.who due.amount book due.who balanced
+      ∙ ap (λ b. if b then slashed_row due.amount (row_at book due.who) else row_at book due.who) (same_itself due.who)
+
+  no_other : (other : AccountId) → other ≢ due.who → same_account other due.who ≡ false
+  no_other other apart = at (same_account other due.who) refl where
+    at : (b : Bool) → same_account other due.who ≡ b → b ≡ false
+    at true is = absurd (apart (same_exact other due.who is))
+    at false is = refl
+
+taken_each : (dues : List Backer) (chain : Chain) → IsLive chain → AreTaken dues chain.book (slashes dues chain).lines (slashes dues chain).state.book
+taken_each [] chain live = (refl, refl)
+taken_each (due ∷ more) chain live =
+    let next : Chain = slashed_once due chain in (
+      slash_amount (row_at chain.book due.who) due.amount,
+      slashed due.who due.amount chain.book,
+      (slashes more next).lines,
+      taken_once due chain.book live.balanced,
+      refl,
+      taken_each more next (slashed_live due chain live),
+    )
+
+-- the chain in the midst of a block is live
+live_at : (genesis : Genesis) (blocks : List Block) (calls : List Call) → genesis_fault genesis ≡ None → FitsBehind genesis blocks → IsLive (chain_at genesis blocks calls)
+live_at genesis blocks calls sound fit =
+    let chain : Chain = after_blocks (genesis_chain genesis) blocks in
+    live_calls 0 calls (before_calls chain) (live_before chain (live_blocks (genesis_chain genesis) blocks (live_begun genesis sound) fit))
+
+pub slash_law : SlashLaw
+unfolding told_of done_of
+slash_law genesis blocks calls who era validator fraction sound fit free =
+    let chain : Chain = chain_at genesis blocks calls in
+    taken_each (slash_in chain.eras era validator fraction) chain (live_at genesis blocks calls sound fit)
+
+-- ## From the genesis on
+
+no_exposure : (who : AccountId) (era : ℕ) → exposed_for who (unwrap_or (slice_get ([] ∷ []) era) []) ≡ 0
+no_exposure who zero = refl
+no_exposure who (suc era) = refl
+
+nobody_twice : IsDistinct same_round []
+unfolding IsDistinct
+nobody_twice = tt
+
+module _ (packed : PackedYesIsAccepting) (plain : PlainYesIsPassing) (fill : EveryFillPasses) where
+  -- the story of a genesis with params
+  full_story : (endowments : List Endowment) (params : Params) (blocks : List Block)
+      → genesis_fault (geneses.Full endowments params) ≡ None → FitsBehind (geneses.Full endowments params) blocks
+      → IsStory params (after_blocks (genesis_chain (geneses.Full endowments params)) blocks) (seated_by (genesis_chain (geneses.Full endowments params)) blocks)
+      (events_by (genesis_chain (geneses.Full endowments params)) blocks)
+  full_story endowments params blocks sound fit =
+      let first : Chain = genesis_chain (geneses.Full endowments params) in
+      let live : IsLive first = live_begun (geneses.Full endowments params) sound in
+      story_blocks params packed plain fill live.params first blocks [] [] live fit (record {
+        between = record {
+          params_are = refl;
+          timely = tt;
+          waits = tt;
+          latest = All-nil (λ (e : Election). e.round ≤ era_of (Some params) 1 + 1);
+          earlier = λ before. All-nil (λ (e : Election). e.round ≤ era_of (Some params) 1);
+          once = nobody_twice;
+        };
+        current = sym (era_first (Some params));
+        accepted = tt;
+        eras_are = refl;
+        count = refl;
+        covered = λ who k. omega (arith, no_exposure who k);
+      })
+
+  plain_accepted : (chain : Chain) (blocks : List Block) → chain.params ≡ None → AreAccepted (events_by chain blocks) chain.eras
+  plain_accepted chain [] none = tt
+  plain_accepted chain (block ∷ more) none =
+      accepted_append (events_in chain block) (events_by (step chain block).state more) chain.eras (accepted_plain chain block none)
+      (subst (AreAccepted (events_by (step chain block).state more)) (sym (eras_block chain block)) (plain_accepted (step chain block).state more (params_step chain block ∙ none)))
+
+  eras_blocks : (chain : Chain) (blocks : List Block) → after_all (events_by chain blocks) chain.eras ≡ (after_blocks chain blocks).eras
+  eras_blocks chain [] = refl
+  eras_blocks chain (block ∷ more) =
+      after_append (events_in chain block) (events_by (step chain block).state more) chain.eras
+      ∙ ap (after_all (events_by (step chain block).state more)) (eras_block chain block)
+      ∙ eras_blocks (step chain block).state more
+
+  accepted_from : (genesis : Genesis) (blocks : List Block) → genesis_fault genesis ≡ None → FitsBehind genesis blocks → AreAccepted (events_by (genesis_chain genesis) blocks) first_era
+  accepted_from (geneses.Plain endowments) blocks sound fit = plain_accepted (genesis_chain (geneses.Plain endowments)) blocks refl
+  accepted_from (geneses.Full endowments params) blocks sound fit = (full_story endowments params blocks sound fit).accepted
+
+  pub history_law : HistoryLaw
+  history_law genesis blocks sound fit = (accepted_from genesis blocks sound fit, eras_blocks (genesis_chain genesis) blocks)
+
+  pub once_law : OnceLaw
+  unfolding IsDistinct
+  once_law (geneses.Plain endowments) blocks sound fit =
+      subst (λ (elections : List Election). IsDistinct same_round elections) (sym (plain_seated (genesis_chain (geneses.Plain endowments)) blocks refl)) tt
+  once_law (geneses.Full endowments params) blocks sound fit = (full_story endowments params blocks sound fit).between.once
+
+  pub rewards_law : RewardLaw
+  rewards_law genesis blocks era sound fit =
+      let params : Option Params = params_of genesis in
+      let sum : paid_in era genesis blocks ≡ given_by (pays era (era_reward_of params)) (events_by (genesis_chain genesis) blocks) first_era =
+      sum_blocks params (paid_by era) (pays era (era_reward_of params)) (λ index call chain is. paid_call era params (stop_of chain call.who call.kind) index call chain is) (λ exposures eras. refl)
+      (genesis_chain genesis) blocks refl in
+      omega (arith, sum, reward_law era (era_reward_of params) (events_by (genesis_chain genesis) blocks) (accepted_from genesis blocks sound fit))
+
+  covered_from : (genesis : Genesis) (blocks : List Block) (era : ℕ) (who : AccountId) → genesis_fault genesis ≡ None → FitsBehind genesis blocks
+      → exposed_for who (exposures_of era (events_by (genesis_chain genesis) blocks)) ≤ stake_behind who (elected_for era (seated_by (genesis_chain genesis) blocks))
+  covered_from (geneses.Plain endowments) blocks era who sound fit =
+      let none : exposed_for who (exposures_of era (events_by (genesis_chain (geneses.Plain endowments)) blocks)) ≡ 0 =
+      ap (λ (es : List (List Exposure)). exposed_for who (unwrap_or (slice_get ([] ∷ es) era) [])) (plain_begun (genesis_chain (geneses.Plain endowments)) blocks refl) ∙ no_exposure who era in
+      omega (arith, none)
+  covered_from (geneses.Full endowments params) blocks era who sound fit = (full_story endowments params blocks sound fit).covered who era
+
+  pub dues_law : DueLaw
+  dues_law genesis blocks era who sound fit =
+      let events : List Event = events_by (genesis_chain genesis) blocks in
+      let sum : due_in era who genesis blocks ≡ given_by (makes_due era who) events first_era =
+      sum_blocks (params_of genesis) (due_by era who) (makes_due era who) (λ index call chain is. due_call era who (stop_of chain call.who call.kind) call.kind chain) (λ exposures eras. refl)
+      (genesis_chain genesis) blocks refl in
+      omega (arith, sum, due_law era who events (accepted_from genesis blocks sound fit), covered_from genesis blocks era who sound fit)
+
+  -- ## One payout
+
+  -- the block up to these calls
+  abbrev cut : List Call → Block
+  cut calls = record { number = 0; calls = calls }
+
+  accepted_block_from : (genesis : Genesis) (blocks : List Block) (calls : List Call) → genesis_fault genesis ≡ None → FitsBehind genesis blocks
+      → AreAccepted (events_by (genesis_chain genesis) blocks ++ events_in (after_blocks (genesis_chain genesis) blocks) (cut calls)) first_era
+  accepted_block_from (geneses.Plain endowments) blocks calls sound fit =
+      let first : Chain = genesis_chain (geneses.Plain endowments) in
+      accepted_append (events_by first blocks) (events_in (after_blocks first blocks) (cut calls)) first_era (accepted_from (geneses.Plain endowments) blocks sound fit)
+      (subst (AreAccepted (events_in (after_blocks first blocks) (cut calls))) (sym (eras_blocks first blocks)) (accepted_plain (after_blocks first blocks) (cut calls) (plain_params first blocks refl))) where
+        plain_params : (chain : Chain) (more : List Block) → chain.params ≡ None → (after_blocks chain more).params ≡ None
+        plain_params chain [] none = none
+        plain_params chain (block ∷ more) none = plain_params (step chain block).state more (params_step chain block ∙ none)
+  accepted_block_from (geneses.Full endowments params) blocks calls sound fit =
+      let first : Chain = genesis_chain (geneses.Full endowments params) in
+      let live : IsLive first = live_begun (geneses.Full endowments params) sound in
+      story_accepted params packed plain fill live.params (after_blocks first blocks) (cut calls) (seated_by first blocks) (events_by first blocks) (live_blocks first blocks live fit)
+      (full_story endowments params blocks sound fit)
+
+  params_blocks : (chain : Chain) (blocks : List Block) → (after_blocks chain blocks).params ≡ chain.params
+  params_blocks chain [] = refl
+  params_blocks chain (block ∷ more) = params_blocks (step chain block).state more ∙ params_step chain block
+
+  minted_all : (lines_of : List Backer) (book : Ledger) → (all_minted lines_of book).minted ≡ book.minted + amount_sum lines_of
+  minted_all [] book = omega arith
+  minted_all (line ∷ more) book = omega (arith, minted_all more (minted_free line.who line.amount book), sum_by-cons (λ (l : Backer). l.amount) line more)
+
+  pub payout_law : PayoutLaw
+  unfolding stop_of done_of told_of
+  payout_law genesis blocks calls who era validator sound fit free = record {
+    told = told_payout chain era validator;
+    minted = minted_all (payout_now chain era validator).lines chain.book
+        ∙ ap (λ n. chain.book.minted + n) (sym (payout_sums chain.eras era validator (era_reward_of chain.params)));
+    within = within;
+  } where
+    first : Chain
+    first = genesis_chain genesis
+
+    before : Chain
+    before = after_blocks (genesis_chain genesis) blocks
+
+    chain : Chain
+    chain = chain_at genesis blocks calls
+
+    reward : ℕ
+    reward = era_reward_of (chain_at genesis blocks calls).params
+
+    events : List Event
+    events = events_by (genesis_chain genesis) blocks ++ events_in (after_blocks (genesis_chain genesis) blocks) (cut calls)
+
+    eras_are : after_all events first_era ≡ chain.eras
+    eras_are =
+        after_append (events_by first blocks) (events_in before (cut calls)) first_era
+        ∙ ap (after_all (events_in before (cut calls))) (eras_blocks first blocks)
+        ∙ eras_block before (cut calls)
+
+    accepted : AreAccepted (events ++ Paid era validator ∷ []) first_era
+    accepted =
+        accepted_append events (Paid era validator ∷ []) first_era (accepted_block_from genesis blocks calls sound fit)
+        (subst (AreAccepted (Paid era validator ∷ [])) (sym eras_are) (payout_free chain era validator free, tt))
+
+    itself : (n : ℕ) → cond (nat_eq era era) n 0 ≡ n
+    itself n = let same : nat_eq era era ≡ true = grind (arith, nat_tests) in ap (λ b. cond b n 0) same
+
+    last : given_by (pays era reward) (Paid era validator ∷ []) chain.eras ≡ (payout_now chain era validator).total
+    last = omega (arith, itself (payout_now chain era validator).total)
+
+    within : (payout_now chain era validator).total ≤ era_reward_of chain.params
+    within =
+        omega (
+          arith,
+          reward_law era reward (events ++ Paid era validator ∷ []) accepted,
+          given_append (pays era reward) events (Paid era validator ∷ []) first_era,
+          ap (given_by (pays era reward) (Paid era validator ∷ [])) eras_are,
+          last,
+        )

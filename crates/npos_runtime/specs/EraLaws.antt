@@ -1,0 +1,236 @@
+-- What eras come to over blocks: what is paid of an era's reward, and what is due and taken from
+-- those who stood behind its validators.
+use Rattle.std.specs.Prelude.{◌≡◌, ◌≢◌, ℕ, ◌+◌, ◌≤◌, min, Bool, ◌==◌, if◌then◌else◌, List, [], ◌∷◌, ◌++◌, sum_by, filter, find, Option, Some, None}
+use Rattle.std.specs.List.{IsDistinct}
+use Rattle.npos_base.specs.declared.account.AccountId.{AccountId}
+use Rattle.npos_base.specs.Account.{same_account}
+use Rattle.block_wire.specs.declared.call.Call.{Call}
+use Rattle.block_wire.specs.declared.call.CallKind.{CallKind}
+use Rattle.block_wire.specs.declared.call.CallKind.TheVariants as kinds
+use Rattle.block_wire.specs.declared.block.Block.{Block}
+use Rattle.block_wire.specs.declared.genesis.Genesis.{Genesis}
+use Rattle.stake_ledger.specs.declared.row.Row.{Row}
+use Rattle.stake_ledger.specs.Chunks.{chunk_sum}
+use Rattle.stake_ledger.specs.Ledger.{Ledger, row_at}
+use Rattle.election_snapshot.specs.Snapshot.{Snapshot}
+use Rattle.era_book.specs.declared.exposure.Backer.{Backer}
+use Rattle.era_book.specs.Exposures.{amount_for}
+use Rattle.era_book.specs.Calls.{slash_in}
+use Rattle.era_book.specs.Eras.{first_era}
+use Rattle.era_book.specs.Events.{Event, Started, Pointed, Paid, Reported, AreAccepted, after_all}
+use Rattle.npos_runtime.specs.declared.chain.Chain.{Chain}
+use Rattle.npos_runtime.specs.declared.line.Line.{Line}
+use Rattle.npos_runtime.specs.declared.line.Line.TheVariants as lines
+use Rattle.npos_runtime.specs.declared.refusal.Refusal.{Refusal}
+use Rattle.npos_runtime.specs.Committee.{Committee}
+use Rattle.npos_runtime.specs.Exposed.{exposed}
+use Rattle.npos_runtime.specs.Rules.{begun_era, era_reward_of}
+use Rattle.npos_runtime.specs.Outcome.{Election}
+use Rattle.npos_runtime.specs.Genesis.{genesis_fault, genesis_chain, params_of}
+use Rattle.npos_runtime.specs.Calls.{stop_of, done_of, told_of}
+use Rattle.npos_runtime.specs.Offices.{payout_now, slash_told}
+use Rattle.npos_runtime.specs.Step.{call_outcome, calls_outcome, step, after_blocks, seated_by}
+use Rattle.npos_runtime.specs.Offers.{before_calls}
+use Rattle.npos_runtime.specs.Laws.{FitsBehind}
+
+-- ## What happens to the eras
+
+-- an era begins with the exposures of who waited
+abbrev pub started_by : Option Committee → Option ℕ → List Event
+started_by waiting None = []
+started_by waiting (Some era) = Started (exposed waiting) ∷ []
+
+abbrev pub event_of_kind : CallKind → List Event
+event_of_kind (kinds.Points items) = Pointed items ∷ []
+event_of_kind (kinds.Payout era validator) = Paid era validator ∷ []
+event_of_kind (kinds.Offence era validator fraction) = Reported era validator fraction ∷ []
+event_of_kind other = []
+
+-- a refused call is no event
+abbrev pub event_of : Option Refusal → CallKind → List Event
+event_of None kind = event_of_kind kind
+event_of (Some refusal) kind = []
+
+abbrev pub events_of : ℕ → List Call → Chain → List Event
+events_of index [] chain = []
+events_of index (call ∷ calls) chain =
+    event_of (stop_of chain call.who call.kind) call.kind
+    ++ events_of (index + 1) calls (call_outcome index call chain).state
+
+abbrev pub events_in : Chain → Block → List Event
+events_in chain block =
+    started_by chain.waiting (begun_era chain.params chain.due) ++ events_of 0 block.calls (before_calls chain)
+
+abbrev pub events_by : Chain → List Block → List Event
+events_by chain [] = []
+events_by chain (block ∷ more) = events_in chain block ++ events_by (step chain block).state more
+
+-- The eras of the chain are what the blocks' events make of era 0, and each event is accepted.
+abbrev pub HistoryLaw : Type 0
+HistoryLaw = (genesis : Genesis) (blocks : List Block)
+    → genesis_fault genesis ≡ None → FitsBehind genesis blocks
+    → AreAccepted (events_by (genesis_chain genesis) blocks) first_era
+    × (after_all (events_by (genesis_chain genesis) blocks) first_era
+    ≡ (after_blocks (genesis_chain genesis) blocks).eras)
+
+-- ## What blocks come to, summed over their calls
+
+-- each call by its place in its block and by the chain as it is then
+abbrev pub over_calls : (ℕ → Call → Chain → ℕ) → ℕ → List Call → Chain → ℕ
+over_calls gives index [] chain = 0
+over_calls gives index (call ∷ calls) chain =
+    gives index call chain + over_calls gives (index + 1) calls (call_outcome index call chain).state
+
+abbrev pub over_blocks : (ℕ → Call → Chain → ℕ) → Chain → List Block → ℕ
+over_blocks gives chain [] = 0
+over_blocks gives chain (block ∷ more) =
+    over_calls gives 0 block.calls (before_calls chain) + over_blocks gives (step chain block).state more
+
+-- ## Payouts
+
+abbrev pub amount_paid : Line → ℕ
+amount_paid (lines.Paid who amount) = amount
+amount_paid other = 0
+
+-- what lines tell to be paid
+abbrev pub told_paid : List Line → ℕ
+told_paid told = sum_by amount_paid told
+
+-- what the lines of a call tell to be paid of the reward of an era
+abbrev pub paid_for : ℕ → CallKind → List Line → ℕ
+paid_for era (kinds.Payout other validator) told = if other == era then told_paid told else 0
+paid_for era other told = 0
+
+abbrev pub paid_by : ℕ → ℕ → Call → Chain → ℕ
+paid_by era index call chain = paid_for era call.kind (call_outcome index call chain).lines
+
+-- what blocks tell to be paid of the reward of an era, over all its validators
+abbrev pub paid_in : ℕ → Genesis → List Block → ℕ
+paid_in era genesis blocks = over_blocks (paid_by era) (genesis_chain genesis) blocks
+
+-- All that is paid of an era is at most its reward.
+abbrev pub RewardLaw : Type 0
+RewardLaw = (genesis : Genesis) (blocks : List Block) (era : ℕ)
+    → genesis_fault genesis ≡ None → FitsBehind genesis blocks
+    → paid_in era genesis blocks ≤ era_reward_of (params_of genesis)
+
+-- the chain behind these blocks, once the next one has begun and these of its calls are done
+abbrev pub chain_at : Genesis → List Block → List Call → Chain
+chain_at genesis blocks calls =
+    (calls_outcome 0 calls (before_calls (after_blocks (genesis_chain genesis) blocks))).state
+
+-- the lines of a payout tell its total, which is minted, and is at most the reward of the era
+pub record IsPaidOut (chain : Chain) (who : AccountId) (era : ℕ) (validator : AccountId) : Type 0 where
+  pub told : told_paid (told_of chain who (kinds.Payout era validator)) ≡ (payout_now chain era validator).total
+  pub minted : (done_of chain who (kinds.Payout era validator)).book.minted
+      ≡ chain.book.minted + (payout_now chain era validator).total
+  pub within : (payout_now chain era validator).total ≤ era_reward_of chain.params
+
+abbrev pub PayoutLaw : Type 0
+PayoutLaw = (genesis : Genesis) (blocks : List Block) (calls : List Call) (who : AccountId) (era : ℕ) (validator : AccountId)
+    → genesis_fault genesis ≡ None → FitsBehind genesis blocks
+    → stop_of (chain_at genesis blocks calls) who (kinds.Payout era validator) ≡ None
+    → IsPaidOut (chain_at genesis blocks calls) who era validator
+
+-- ## Offences
+
+-- what the account has bonded: what is active and what is unbonding
+abbrev pub bonded : Row → ℕ
+bonded row = row.active + chunk_sum row.chunks
+
+-- The lesser of what is due and what is bonded is taken and burned, and nothing else changes.
+pub record IsTaken (due : Backer) (taken : ℕ) (old new : Ledger) : Type 0 where
+  pub lesser : taken ≡ min due.amount (bonded (row_at old due.who))
+  pub left : bonded (row_at new due.who) + taken ≡ bonded (row_at old due.who)
+  pub free : (row_at new due.who).free ≡ (row_at old due.who).free
+  pub held : (row_at new due.who).held ≡ (row_at old due.who).held
+  pub others : (other : AccountId) → other ≢ due.who → row_at new other ≡ row_at old other
+  pub burned : new.burned ≡ old.burned + taken
+
+-- one after the other is taken, and told where it is above 0
+abbrev pub AreTaken : List Backer → Ledger → List Line → Ledger → Type 0
+AreTaken [] old told new = (told ≡ []) × (new ≡ old)
+AreTaken (due ∷ more) old told new =
+    (taken : ℕ) × (between : Ledger) × (rest : List Line) × IsTaken due taken old between
+    × (told ≡ slash_told due.who taken ++ rest) × AreTaken more between rest new
+
+abbrev pub SlashLaw : Type 0
+SlashLaw = (genesis : Genesis) (blocks : List Block) (calls : List Call) (who : AccountId)
+    (era : ℕ) (validator : AccountId) (fraction : ℕ)
+    → genesis_fault genesis ≡ None → FitsBehind genesis blocks
+    → stop_of (chain_at genesis blocks calls) who (kinds.Offence era validator fraction) ≡ None
+    → AreTaken (slash_in (chain_at genesis blocks calls).eras era validator fraction)
+    (chain_at genesis blocks calls).book
+    (told_of (chain_at genesis blocks calls) who (kinds.Offence era validator fraction))
+    (done_of (chain_at genesis blocks calls) who (kinds.Offence era validator fraction)).book
+
+abbrev pub amount_taken : AccountId → Line → ℕ
+amount_taken who (lines.Slashed other amount) = if same_account other who then amount else 0
+amount_taken who other = 0
+
+-- what lines tell to be taken from an account
+abbrev pub told_taken : AccountId → List Line → ℕ
+told_taken who told = sum_by (amount_taken who) told
+
+-- what the lines of a call tell to be taken from an account for an era
+abbrev pub taken_for : ℕ → AccountId → CallKind → List Line → ℕ
+taken_for era who (kinds.Offence other validator fraction) told = if other == era then told_taken who told else 0
+taken_for era who other told = 0
+
+abbrev pub taken_by : ℕ → AccountId → ℕ → Call → Chain → ℕ
+taken_by era who index call chain = taken_for era who call.kind (call_outcome index call chain).lines
+
+-- what blocks tell to be taken from an account for an era, over all its validators and all reports
+abbrev pub taken_in : ℕ → AccountId → Genesis → List Block → ℕ
+taken_in era who genesis blocks = over_blocks (taken_by era who) (genesis_chain genesis) blocks
+
+-- what a call makes due from an account for an era; a refused call makes nothing due
+abbrev pub due_of_kind : ℕ → AccountId → CallKind → Chain → ℕ
+due_of_kind era who (kinds.Offence other validator fraction) chain =
+    if other == era then amount_for who (slash_in chain.eras other validator fraction) else 0
+due_of_kind era who other chain = 0
+
+abbrev pub due_of : ℕ → AccountId → Option Refusal → CallKind → Chain → ℕ
+due_of era who None kind chain = due_of_kind era who kind chain
+due_of era who (Some refusal) kind chain = 0
+
+abbrev pub due_by : ℕ → AccountId → ℕ → Call → Chain → ℕ
+due_by era who index call chain = due_of era who (stop_of chain call.who call.kind) call.kind chain
+
+-- what blocks make due from an account for an era, over all its validators and all reports
+abbrev pub due_in : ℕ → AccountId → Genesis → List Block → ℕ
+due_in era who genesis blocks = over_blocks (due_by era who) (genesis_chain genesis) blocks
+
+-- No more is taken than is due.
+abbrev pub TakenLaw : Type 0
+TakenLaw = (genesis : Genesis) (blocks : List Block) (era : ℕ) (who : AccountId)
+    → genesis_fault genesis ≡ None → FitsBehind genesis blocks
+    → taken_in era who genesis blocks ≤ due_in era who genesis blocks
+
+-- ## The election of an era
+
+-- each round is decided once, and elects for the era of its number
+abbrev pub OnceLaw : Type 0
+OnceLaw = (genesis : Genesis) (blocks : List Block)
+    → genesis_fault genesis ≡ None → FitsBehind genesis blocks
+    → IsDistinct (λ first second. first.round == second.round) (seated_by (genesis_chain genesis) blocks)
+
+-- the election that seated the committee of an era, if one did
+abbrev pub elected_for : ℕ → List Election → Option Election
+elected_for era elections = find (λ election. election.round == era) elections
+
+-- the stake with which an account voted
+abbrev pub stake_in : Snapshot → AccountId → ℕ
+stake_in snapshot who =
+    sum_by (λ voter. voter.stake) (filter (λ voter. same_account voter.account who) snapshot.voters)
+
+abbrev pub stake_behind : AccountId → Option Election → ℕ
+stake_behind who None = 0
+stake_behind who (Some election) = stake_in election.snapshot who
+
+-- All that is due from an account for an era is at most its stake in the election of that era.
+abbrev pub DueLaw : Type 0
+DueLaw = (genesis : Genesis) (blocks : List Block) (era : ℕ) (who : AccountId)
+    → genesis_fault genesis ≡ None → FitsBehind genesis blocks
+    → due_in era who genesis blocks
+    ≤ stake_behind who (elected_for era (seated_by (genesis_chain genesis) blocks))
