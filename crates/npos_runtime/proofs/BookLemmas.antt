@@ -1,6 +1,5 @@
 -- The books of a chain, while deposits are held, returned and burned.
-use Rattle.std.proofs.Common.{◌≡◌, ℕ, zero, suc, ◌+◌, ◌-◌, ◌≤◌, min, Bool, true, false, not, nat_lt, get_or, Some, None, is_some, All, List, [], ◌∷◌, ◌++◌, take, drop, refl, sym, ◌∙◌, ap, subst, arith, ◌==◌, if◌then◌else◌, IsPermutation}
-use Rattle.std.proofs.lemmas.Grind.{common_steps}
+use Rattle.std.proofs.Common.{◌≡◌, ℕ, ◌+◌, ◌-◌, ◌≤◌, Bool, true, false, not, nat_lt, get_or, Some, None, is_some, All, List, [], ◌∷◌, ◌++◌, refl, sym, ◌∙◌, ap, subst, arith, ◌==◌, if◌then◌else◌, IsPermutation}
 use Rattle.std.proofs.lemmas.List.Sums.{sum_by-cons}
 use Rattle.std.proofs.lemmas.List.Elements.{All-cons, All-head, All-tail}
 use Rattle.std.proofs.lemmas.List.{append-nil, take-append-drop}
@@ -12,7 +11,7 @@ use Rattle.stake_ledger.specs.declared.row.Row.{Row}
 use Rattle.stake_ledger.specs.declared.chunks.Chunk.{Chunk}
 use Rattle.stake_ledger.specs.Rows as rows
 use Rattle.stake_ledger.specs.Rows.{worth}
-use Rattle.stake_ledger.specs.Ledger.{Ledger, row_at, row_of, changed, total, IsBalanced}
+use Rattle.stake_ledger.specs.Ledger.{Ledger, row_at, row_of, changed, IsBalanced}
 use Rattle.stake_ledger.specs.Chunks.{without_first}
 use Rattle.stake_ledger.specs.Rows.{is_bonded}
 use Rattle.stake_ledger.specs.Calls.{deposit_held, deposit_returned, deposit_burned, minted_free, room_of, slashed, slash_amount}
@@ -27,7 +26,7 @@ use Rattle.era_book.specs.declared.exposure.Backer.{Backer}
 use Rattle.era_book.specs.Exposures.{amount_sum}
 use Rattle.npos_runtime.specs.Offices.{all_minted}
 use Rattle.npos_runtime.specs.Decision.{fails, losers, others, reward_in, rewarded, paid_out, books_decided}
-use Rattle.npos_runtime.specs.Deposits.{AreHeld, deposits_of, returned, burned, all_returned, all_burned}
+use Rattle.npos_runtime.specs.Deposits.{AreHeld, returned, burned, all_returned, all_burned}
 use Rattle.npos_runtime.proofs.DepositLemmas.{held_within, held_returned, held_burned, held_minted, held_more}
 
 -- what a chain keeps of its books, where these submissions are not settled

@@ -1,19 +1,15 @@
 -- Nothing valid is crowded out: while a round is open, its queue is what the offers to it made of an empty one.
-use Rattle.std.proofs.Common.{◌≡◌, ◌≢◌, ◌⊎◌, inl, inr, ℕ, zero, suc, ◌+◌, ◌-◌, ◌*◌, ◌/◌, ◌%◌, ◌≤◌, ◌<◌, ◌^◌, Bool, true, false, cond, not, nat_lt, nat_le, ◌==◌, ◌&&◌, ◌||◌, All, Contains, List, [], ◌∷◌, ◌++◌, length, map, take, drop, fold, find, slice_get, Option, Some, None, MatchOption, refl, sym, ◌∙◌, ap, subst, arith, if◌then◌else◌, true≢false, append_assoc}
+use Rattle.std.proofs.Common.{◌≡◌, ◌⊎◌, inl, inr, ℕ, ◌+◌, ◌-◌, ◌≤◌, ◌<◌, ◌^◌, Bool, true, false, cond, not, nat_lt, ◌==◌, ◌&&◌, ◌||◌, All, Contains, List, [], ◌∷◌, ◌++◌, length, map, find, slice_get, Option, Some, None, MatchOption, refl, sym, ◌∙◌, ap, subst, arith, if◌then◌else◌, true≢false, append_assoc}
 use Rattle.std.specs.Option.{option_or}
 use Rattle.std.specs.Result.{is_err}
 use Rattle.std.specs.List.{prefix_len}
-use Rattle.std.proofs.Math.Nat.{suc-mod, mod-lt, mod-eq_of_lt, mod_self}
-use Rattle.std.proofs.lemmas.Nat.{div-mul-add, div-add-mod'}
 use Rattle.std.proofs.lemmas.Bool.Decides.{nat_tests}
 use Rattle.std.proofs.lemmas.List.{append-nil, take-append-drop}
 use Rattle.std.proofs.lemmas.List.Sums.{fold-append}
 use Rattle.std.proofs.lemmas.List.Elements.{All-nil, All-cons, Contains-append_left, Contains-append_right}
 use Rattle.npos_base.specs.declared.account.AccountId.{AccountId}
 use Rattle.npos_base.specs.declared.figures.Score.{Score}
-use Rattle.npos_base.specs.Score.{is_better}
 use Rattle.block_wire.specs.declared.genesis.Params.{Params}
-use Rattle.block_wire.specs.declared.genesis.Genesis.{Genesis}
 use Rattle.block_wire.specs.declared.genesis.Genesis.TheVariants as geneses
 use Rattle.block_wire.specs.declared.call.Call.{Call}
 use Rattle.block_wire.specs.declared.call.CallKind.{CallKind}
@@ -26,10 +22,7 @@ use Rattle.submission_queue.proofs.QueueLemmas.{refused_stays}
 use Rattle.submission_queue.proofs.LawLemmas.{crowding}
 use Rattle.election_snapshot.specs.Snapshot.{Snapshot}
 use Rattle.weight_book.specs.Scoring.{score_of}
-use Rattle.compact_solution.specs.Decoded.{decoded}
-use Rattle.election_check.specs.declared.verdict.Verdict.{Verdict}
 use Rattle.election_check.specs.declared.verdict.Verdict.TheVariants as verdicts
-use Rattle.election_check.specs.Packed.{weights_decoded}
 use Rattle.election_check.specs.Laws.{PackedYesIsAccepting}
 use Rattle.stake_ledger.specs.Ledger.{Ledger, row_at}
 use Rattle.stake_ledger.specs.declared.refusal.LedgerRefusal.{LedgerRefusal}
@@ -40,18 +33,18 @@ use Rattle.npos_runtime.specs.declared.refusal.Refusal.{Refusal}
 use Rattle.npos_runtime.specs.declared.refusal.Refusal.TheVariants as refusals
 use Rattle.npos_runtime.specs.declared.round.Round.{Round}
 use Rattle.npos_runtime.specs.declared.round.Round.TheVariants as rounds
-use Rattle.npos_runtime.specs.Rules.{era_of, place_of, is_signed, is_decision, places_of, reward_of, solution_max_of}
+use Rattle.npos_runtime.specs.Rules.{era_of, place_of, is_signed, is_decision, reward_of, solution_max_of}
 use Rattle.npos_runtime.specs.Ballots.{snapshot_of, commissions_of}
-use Rattle.npos_runtime.specs.Rounds.{begun_round, round_after, round_now, round_of, round_phase, is_few, is_poor}
-use Rattle.npos_runtime.specs.Signed.{is_open, takes_submissions, current_round, submission_of, form_refusal, offer_refusal, submit_stop, submitted}
-use Rattle.npos_runtime.specs.Decision.{judged, is_yes, fails, losers, others, forfeit_line, paid_lines, seat_line, member_lines, committee_of, deposit_lines, decided, decision_of, decision_phase}
+use Rattle.npos_runtime.specs.Rounds.{begun_round, round_after, round_phase, is_few, is_poor}
+use Rattle.npos_runtime.specs.Signed.{is_open, current_round, submission_of, form_refusal, offer_refusal, submit_stop, submitted}
+use Rattle.npos_runtime.specs.Decision.{judged, is_yes, fails, losers, others, forfeit_line, paid_lines, seat_line, member_lines, committee_of, decision_of, decision_phase}
 use Rattle.npos_runtime.specs.Deposits.{all_burned}
 use Rattle.npos_runtime.specs.Outcome.{Outcome, quiet}
 use Rattle.npos_runtime.specs.Calls.{stop_of, done_of}
 use Rattle.npos_runtime.specs.Step.{era_phase, call_after, call_outcome, calls_outcome, closed, step, after_blocks}
-use Rattle.npos_runtime.specs.Genesis.{params_fault, phases_fit, numbers_fault, is_within, threshold_fault, limits_fault, genesis_fault, genesis_chain}
-use Rattle.npos_runtime.specs.Live.{IsLive, AreSound}
-use Rattle.npos_runtime.specs.Offers.{is_offered, offer_of, offers_in, offers_by, before_calls, LosesTo, FillsAfter, IsNoneCrowdedOut}
+use Rattle.npos_runtime.specs.Genesis.{params_fault, genesis_chain}
+use Rattle.npos_runtime.specs.Live.{IsLive}
+use Rattle.npos_runtime.specs.Offers.{is_offered, offer_of, offers_in, offers_by, before_calls, LosesTo, FillsAfter}
 use Rattle.npos_runtime.specs.Laws.{CrowdingLaw as RoundsLaw}
 use Rattle.npos_runtime.proofs.DecisionLemmas.{winner_holds, fails_first, holds_first}
 use Rattle.npos_runtime.proofs.LiveLemmas.{live_before, due_before, live_call, live_step, live_blocks, due_step, due_calls, fixed_calls, params_decision}

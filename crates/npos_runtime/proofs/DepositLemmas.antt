@@ -1,18 +1,17 @@
 -- What is held, while deposits are held, returned and burned.
-use Rattle.std.proofs.Common.{◌≡◌, ℕ, zero, suc, ◌+◌, ◌-◌, ◌≤◌, Bool, true, false, cond, All, List, [], ◌∷◌, ◌++◌, drop, slice_get, Option, Some, None, is_some, refl, sym, ◌∙◌, ap, subst, arith, ◌==◌, ◌||◌, sum_by, if◌then◌else◌, true≢false}
+use Rattle.std.proofs.Common.{◌≡◌, ℕ, ◌+◌, ◌-◌, ◌≤◌, Bool, true, false, All, List, [], ◌∷◌, drop, slice_get, Some, None, is_some, refl, sym, ◌∙◌, ap, subst, arith, ◌||◌, if◌then◌else◌, true≢false}
 use Rattle.std.proofs.lemmas.List.Elements.{All-cons, All-head, All-tail}
 use Rattle.std.proofs.lemmas.List.Sums.{sum_by-cons}
-use Rattle.std.proofs.lemmas.Grind.{common_steps}
 use Rattle.npos_base.specs.declared.account.AccountId.{AccountId}
 use Rattle.npos_base.specs.Account.{same_account}
-use Rattle.npos_base.proofs.AccountOrder.{same_exact, same_itself}
+use Rattle.npos_base.proofs.AccountOrder.{same_itself}
 use Rattle.stake_ledger.specs.declared.row.Row.{Row}
 use Rattle.stake_ledger.specs.Rows as rows
 use Rattle.stake_ledger.specs.Ledger.{Ledger, row_at, row_of, changed}
 use Rattle.stake_ledger.specs.Calls.{deposit_held, minted_free}
-use Rattle.stake_ledger.proofs.AccountLemmas.{row_at-changed, row_at-returned, row_at-burned, row_at-minted, known-changed, known-returned, known-burned, known-minted}
+use Rattle.stake_ledger.proofs.AccountLemmas.{row_at-changed, row_at-returned, row_at-burned, known-changed, known-returned, known-burned}
 use Rattle.submission_queue.specs.declared.submission.Submission.{Submission}
-use Rattle.npos_runtime.specs.Deposits.{AreHeld, deposits_of, returned, burned, all_returned}
+use Rattle.npos_runtime.specs.Deposits.{AreHeld, deposits_of, returned, burned}
 
 -- the first of a list that has one
 pub front : {A : Type 0} (items : List A) (item : A) → slice_get items 0 ≡ Some item → items ≡ item ∷ drop 1 items

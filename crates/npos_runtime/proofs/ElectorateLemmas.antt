@@ -1,5 +1,5 @@
 -- The snapshot of a round that is not void is well formed.
-use Rattle.std.proofs.Common.{◌≡◌, ℕ, zero, suc, ◌+◌, ◌-◌, ◌*◌, ◌≤◌, ◌<◌, ◌^◌, Bool, true, false, nat_eq, nat_lt, nat_le, ◌||◌, ◌&&◌, not, All, List, [], ◌∷◌, ◌++◌, length, map, sum, Option, Some, None, refl, sym, ◌∙◌, ap, subst, arith, if◌then◌else◌, true≢false}
+use Rattle.std.proofs.Common.{◌≡◌, ℕ, suc, ◌*◌, ◌≤◌, ◌<◌, Bool, true, false, nat_lt, nat_le, ◌||◌, ◌&&◌, not, All, List, [], ◌∷◌, ◌++◌, length, map, sum, Option, Some, None, refl, sym, ◌∙◌, ap, subst, arith, if◌then◌else◌, true≢false}
 use Rattle.std.specs.List.{IsDistinct}
 use Rattle.std.specs.Option.{option_or}
 use Rattle.std.specs.Ordering.{is_eq}
@@ -13,17 +13,14 @@ use Rattle.npos_base.proofs.AccountOrder.{account_total, account_apart, same_exa
 use Rattle.block_wire.specs.declared.genesis.Params.{Params}
 use Rattle.voter_lists.specs.Roles.{RoleList, role_of, validators_of}
 use Rattle.voter_lists.specs.Bags.{walk}
-use Rattle.voter_lists.specs.Ranked.{AreRanked}
 use Rattle.voter_lists.proofs.ValidatorLemmas.{validators_rise}
-use Rattle.election_snapshot.specs.Snapshot.{Voter, Snapshot, AreVotersOf, IsWellFormed, total_of, stakes_of}
+use Rattle.election_snapshot.specs.Snapshot.{Voter, AreVotersOf, total_of, stakes_of}
 use Rattle.election_snapshot.specs.Kept.{AreKept, voters_of}
 use Rattle.election_snapshot.specs.Draft.{Draft, accounts_of, voter_fault, with_voter}
 use Rattle.election_snapshot.proofs.KeptLemmas.{kept_with}
 use Rattle.npos_runtime.specs.declared.chain.Chain.{Chain}
-use Rattle.npos_runtime.specs.declared.begin.GenesisFault.{GenesisFault}
-use Rattle.npos_runtime.specs.declared.round.Round.{Round}
 use Rattle.npos_runtime.specs.declared.round.Round.TheVariants as rounds
-use Rattle.npos_runtime.specs.Genesis.{params_fault, numbers_fault, limits_fault, threshold_fault, is_within}
+use Rattle.npos_runtime.specs.Genesis.{numbers_fault, limits_fault, threshold_fault, is_within}
 use Rattle.std.proofs.lemmas.List.Elements.{All-nil, All-cons}
 use Rattle.npos_runtime.specs.Ballots.{active_of, votes_of, is_eligible, ballot_of, seats_of, snapshot_of, commission_in, commissions_of}
 use Rattle.npos_runtime.specs.Rounds.{is_few, is_poor, round_now}

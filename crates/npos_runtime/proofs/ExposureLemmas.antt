@@ -1,6 +1,6 @@
 -- A committee that waits is elected, as the era book asks.
-use Rattle.std.proofs.Common.{◌≡◌, ℕ, suc, ◌+◌, ◌<◌, Bool, true, false, nat_eq, ◌||◌, All, List, [], ◌∷◌, length, get_or, refl, sym, ap, arith, true≢false}
-use Rattle.std.specs.List.{range_with_len, IsDistinct}
+use Rattle.std.proofs.Common.{◌≡◌, ℕ, suc, ◌<◌, Bool, true, false, nat_eq, ◌||◌, All, List, [], ◌∷◌, length, get_or, refl, sym, ap, arith, true≢false}
+use Rattle.std.specs.List.{IsDistinct}
 use Rattle.std.proofs.lemmas.Bool.Decides.{nat_tests}
 use Rattle.std.proofs.lemmas.List.Elements.{All-head, All-tail}
 use Rattle.std.proofs.lemmas.List.FromFn.{get_or-map-range_with_len}

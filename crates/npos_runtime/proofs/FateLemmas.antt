@@ -1,5 +1,5 @@
 -- Each accepted submission is settled once.
-use Rattle.std.proofs.Common.{◌≡◌, ℕ, zero, suc, ◌+◌, ◌≤◌, ◌<◌, ◌^◌, Bool, true, false, cond, nat_lt, ◌==◌, ◌||◌, List, [], ◌∷◌, ◌++◌, length, map, take, drop, count_by, sum_by, Option, Some, None, option_map, option_to_list, refl, sym, ◌∙◌, ap, subst, arith, if◌then◌else◌}
+use Rattle.std.proofs.Common.{◌≡◌, ℕ, ◌+◌, ◌≤◌, ◌^◌, Bool, true, false, cond, nat_lt, ◌==◌, List, [], ◌∷◌, ◌++◌, length, map, Option, Some, None, option_map, option_to_list, refl, ap, arith, if◌then◌else◌}
 use Rattle.std.specs.List.{prefix_len}
 use Rattle.std.proofs.lemmas.Bool.Decides.{nat_tests}
 use Rattle.std.proofs.lemmas.List.{take-append-drop}
@@ -19,7 +19,7 @@ use Rattle.npos_runtime.specs.Offices.{payout_now, payout_told, paid_line, slash
 use Rattle.election_snapshot.specs.Snapshot.{Snapshot}
 use Rattle.weight_book.specs.Weights.{Weights}
 use Rattle.submission_queue.specs.declared.submission.Submission.{Submission}
-use Rattle.submission_queue.specs.Ranking.{Ranking, offered, offer_answer}
+use Rattle.submission_queue.specs.Ranking.{Ranking, offered}
 use Rattle.npos_runtime.specs.declared.chain.Chain.{Chain}
 use Rattle.npos_runtime.specs.declared.line.Line.{Line}
 use Rattle.npos_runtime.specs.declared.line.Line.TheVariants as lines
@@ -31,7 +31,7 @@ use Rattle.npos_runtime.specs.Ballots.{snapshot_of}
 use Rattle.npos_runtime.specs.Rounds.{begun_round, is_few, is_poor, round_line, round_phase}
 use Rattle.npos_runtime.specs.Deposits.{returned, return_lines, all_burned}
 use Rattle.npos_runtime.specs.Signed.{ejected, submission_of, form_refusal, offer_refusal}
-use Rattle.npos_runtime.specs.Decision.{fails, losers, others, forfeit_line, reward_in, paid_lines, seat_line, member_line, deposit_lines, committee_of, decided, decision_of, decision_phase}
+use Rattle.npos_runtime.specs.Decision.{fails, losers, others, forfeit_line, reward_in, paid_lines, seat_line, member_line, committee_of, decided, decision_of, decision_phase}
 use Rattle.npos_runtime.specs.Calls.{stop_of, done_of, told_of}
 use Rattle.npos_runtime.specs.Outcome.{Outcome, quiet}
 use Rattle.npos_runtime.specs.Step.{era_phase, call_after, call_outcome, calls_outcome, step, after_blocks, told_by}
@@ -40,7 +40,7 @@ use Rattle.npos_runtime.specs.Live.{IsLive}
 use Rattle.npos_runtime.specs.Offers.{before_calls}
 use Rattle.npos_runtime.specs.Fates.{settles, fate, waiting_with, issued}
 use Rattle.npos_runtime.proofs.OfferLemmas.{taken}
-use Rattle.npos_runtime.proofs.LiveLemmas.{offer_free, second_none, live_era, live_round, live_decision, live_before, live_call, live_step, due_step}
+use Rattle.npos_runtime.proofs.LiveLemmas.{offer_free, second_none, live_before, live_call, live_step, due_step}
 use Rattle.npos_runtime.proofs.BeginLemmas.{live_begun}
 
 module _ (number : ℕ) where

@@ -1,16 +1,11 @@
 -- The elections that blocks seat, and what is held after them.
-use Rattle.std.proofs.Common.{◌≡◌, ℕ, zero, suc, ◌+◌, ◌≤◌, ◌<◌, ◌^◌, Bool, true, false, ◌==◌, ◌&&◌, not, nat_le, nat_lt, All, List, [], ◌∷◌, ◌++◌, length, Option, Some, None, refl, sym, ◌∙◌, ap, subst, arith, if◌then◌else◌}
-use Rattle.std.specs.Option.{option_or}
+use Rattle.std.proofs.Common.{◌≡◌, ℕ, ◌+◌, ◌≤◌, ◌^◌, Bool, true, false, ◌==◌, All, List, [], ◌∷◌, ◌++◌, length, Option, Some, None, refl, sym, ◌∙◌, ap, subst, arith, if◌then◌else◌}
 use Rattle.std.proofs.lemmas.Bool.Decides.{nat_tests}
 use Rattle.std.proofs.lemmas.List.{append-nil}
 use Rattle.std.proofs.lemmas.List.Elements.{All-nil, All-cons, All-append}
 use Rattle.block_wire.specs.declared.genesis.Params.{Params}
-use Rattle.block_wire.specs.declared.genesis.Genesis.{Genesis}
-use Rattle.block_wire.specs.declared.call.CallKind.{CallKind}
-use Rattle.block_wire.specs.declared.call.CallKind.TheVariants as kinds
 use Rattle.block_wire.specs.declared.call.Call.{Call}
 use Rattle.block_wire.specs.declared.block.Block.{Block}
-use Rattle.npos_base.specs.declared.account.AccountId.{AccountId}
 use Rattle.election_snapshot.specs.Snapshot.{Snapshot}
 use Rattle.weight_book.specs.Proportional.{AveragingLaw}
 use Rattle.election_check.specs.Laws.{PackedYesIsAccepting, PlainYesIsPassing}
@@ -19,13 +14,12 @@ use Rattle.npos_runtime.specs.declared.chain.Chain.{Chain}
 use Rattle.npos_runtime.specs.declared.refusal.Refusal.{Refusal}
 use Rattle.npos_runtime.specs.declared.round.Round.{Round}
 use Rattle.npos_runtime.specs.declared.round.Round.TheVariants as rounds
-use Rattle.npos_runtime.specs.Committee.{Committee}
 use Rattle.npos_runtime.specs.Rules.{era_of, is_decision, place_of}
 use Rattle.npos_runtime.specs.Rounds.{begun_round, round_after, round_phase}
-use Rattle.npos_runtime.specs.Genesis.{params_fault, numbers_fault, threshold_fault, limits_fault, phases_fit, is_within, genesis_fault, genesis_chain}
-use Rattle.npos_runtime.specs.Decision.{others, decided_weights, committee_of, decision_of, decision_phase}
+use Rattle.npos_runtime.specs.Genesis.{genesis_chain}
+use Rattle.npos_runtime.specs.Decision.{others, decided_weights, decision_of, decision_phase}
 use Rattle.npos_runtime.specs.Outcome.{Election, Outcome, quiet}
-use Rattle.npos_runtime.specs.Calls.{stop_of, done_of}
+use Rattle.npos_runtime.specs.Calls.{stop_of}
 use Rattle.npos_runtime.specs.Step.{era_phase, call_after, call_outcome, calls_outcome, step, seated_by}
 use Rattle.npos_runtime.specs.Live.{IsLive, IsSoundRound, AreSound}
 use Rattle.npos_runtime.specs.Laws.{IsSound, SoundStepLaw, SoundLaw, SeatsLaw, HeldLaw}

@@ -3,15 +3,15 @@ use Rattle.std.proofs.Common.{◌≡◌, ℕ, zero, suc, ◌+◌, ◌-◌, ◌�
 use Rattle.std.specs.Result.{is_err}
 use Rattle.std.proofs.lemmas.Bool.Decides.{nat_tests}
 use Rattle.std.proofs.lemmas.List.{append-nil, take_all}
-use Rattle.std.proofs.lemmas.List.Sorted.{IsPermutation-refl, IsPermutation-trans, IsPermutation-insert, IsPermutation-middle, IsPermutation-append_right}
+use Rattle.std.proofs.lemmas.List.Sorted.{IsPermutation-trans, IsPermutation-insert, IsPermutation-middle, IsPermutation-append_right}
 use Rattle.npos_base.specs.Score.{is_better}
 use Rattle.std.specs.List.{position_or_len}
 use Rattle.submission_queue.specs.declared.submission.Submission.{Submission}
-use Rattle.submission_queue.specs.Rank.{outranks, placed, ranked, IsRanked}
-use Rattle.submission_queue.specs.Ranking.{Ranking, IsOrdered, offered, offer_answer, against}
+use Rattle.submission_queue.specs.Rank.{outranks, placed}
+use Rattle.submission_queue.specs.Ranking.{Ranking, IsOrdered, offered, offer_answer}
 use Rattle.submission_queue.proofs.RankLemmas.{inserted_is_placed}
 use Rattle.submission_queue.proofs.QueueLemmas.{placed_fits, placed_over_last, placed_ordered, replaced_ordered}
-use Rattle.npos_runtime.specs.Signed.{ejected, put_out}
+use Rattle.npos_runtime.specs.Signed.{ejected}
 use Rattle.npos_runtime.proofs.BallotLemmas.{take_next}
 
 placed_permutation : (xs : List Submission) (x : Submission) → IsPermutation (x ∷ xs) (placed xs x)

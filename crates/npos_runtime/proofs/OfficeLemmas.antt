@@ -1,6 +1,5 @@
 -- What is paid and what is minted.
-use Rattle.std.proofs.Common.{◌≡◌, ℕ, ◌+◌, ◌-◌, ◌≤◌, Bool, true, false, is_some, List, [], ◌∷◌, ◌++◌, map, Option, Some, None, refl, sym, ◌∙◌, ap, subst, arith, nat_lt, ◌||◌, append_assoc, if◌then◌else◌}
-use Rattle.std.proofs.lemmas.Bool.{ltb-false}
+use Rattle.std.proofs.Common.{◌≡◌, ℕ, ◌+◌, ◌-◌, ◌≤◌, Bool, true, false, is_some, List, [], ◌∷◌, Option, Some, None, refl, ◌∙◌, ap, arith, ◌||◌, if◌then◌else◌}
 use Rattle.std.proofs.lemmas.Cmp.{tied_itself}
 use Rattle.std.proofs.lemmas.List.Sums.{sum_by-cons}
 use Rattle.std.specs.BTreeMap.{insert_entry}
@@ -12,10 +11,9 @@ use Rattle.npos_base.specs.declared.account.AccountId.{AccountId}
 use Rattle.npos_base.specs.Account.{account_cmp}
 use Rattle.npos_base.proofs.AccountOrder.{account_total, same_itself}
 use Rattle.stake_ledger.specs.declared.row.Row.{Row}
-use Rattle.stake_ledger.specs.declared.refusal.LedgerRefusal.TheVariants.{IssuanceCap}
 use Rattle.stake_ledger.specs.Rows.{gained, deposited}
 use Rattle.stake_ledger.specs.Ledger.{Ledger, row_of, row_in, with_row}
-use Rattle.stake_ledger.specs.Calls.{deposit_held, minted_free, mint_refusal, room_of}
+use Rattle.stake_ledger.specs.Calls.{deposit_held, minted_free, room_of}
 use Rattle.stake_ledger.proofs.LedgerLemmas.{row_in_put}
 use Rattle.stake_ledger.proofs.AccountLemmas.{known-changed}
 use Rattle.era_book.specs.declared.exposure.Backer.{Backer}

@@ -1,11 +1,8 @@
 -- The members of a committee in rising order.
-use Rattle.std.proofs.Common.{◌≡◌, ℕ, zero, suc, ◌+◌, ◌<◌, ◌≤◌, Bool, true, false, cond, nat_eq, ◌||◌, All, List, [], ◌∷◌, ◌++◌, filter, map, take, get_or, slice_get, Some, length, refl, sym, ◌∙◌, ap, ap₂, subst, arith, true≢false, IsPermutation}
-use Rattle.std.specs.List.{range_with_len, list_any, AllPairs}
-use Rattle.std.specs.List.Sorted.{IsStrictlyIncreasing, IsStrictlySortedBy}
-use Rattle.std.specs.Ordering.{nat_cmp}
-use Rattle.std.specs.declared.cmp.Ordering.{Ordering}
-use Rattle.std.specs.declared.cmp.Ordering.TheVariants.{Less}
-use Rattle.std.proofs.lemmas.Bool.Decides.{nat_tests, eqb_tells}
+use Rattle.std.proofs.Common.{◌≡◌, ℕ, zero, suc, ◌+◌, ◌<◌, ◌≤◌, Bool, true, false, cond, nat_eq, ◌||◌, All, List, [], ◌∷◌, ◌++◌, filter, map, take, get_or, slice_get, Some, length, refl, sym, ◌∙◌, ap, ap₂, arith, IsPermutation}
+use Rattle.std.specs.List.{range_with_len, AllPairs}
+use Rattle.std.specs.List.Sorted.{IsStrictlyIncreasing}
+use Rattle.std.proofs.lemmas.Bool.Decides.{nat_tests}
 use Rattle.std.proofs.lemmas.List.Kept.{AllPairs-from_increasing}
 use Rattle.std.proofs.lemmas.List.Elements.{All-cons, All-head, All-tail}
 use Rattle.election_snapshot.specs.Snapshot.{Snapshot, has}

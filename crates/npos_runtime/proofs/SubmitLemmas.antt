@@ -1,5 +1,5 @@
 -- A submission that ejects another.
-use Rattle.std.proofs.Common.{◌≡◌, ◌≤◌, false, List, [], ◌∷◌, ◌++◌, Option, Some, Ok, Result, refl, ap, sym, subst}
+use Rattle.std.proofs.Common.{◌≡◌, ◌≤◌, [], ◌∷◌, ◌++◌, Some, Ok, refl, ap, sym, subst}
 use Rattle.std.specs.Result.{is_err}
 use Rattle.stake_ledger.specs.Ledger.{Ledger, row_at}
 use Rattle.stake_ledger.specs.Calls.{deposit_held}

@@ -1,5 +1,5 @@
 -- The decided weights have a plain Yes, and pass.
-use Rattle.std.proofs.Common.{◌≡◌, List, [], ◌∷◌, ◌∙◌, ap, sym, refl}
+use Rattle.std.proofs.Common.{◌≡◌, List, [], ◌∷◌, ◌∙◌, ap, refl}
 use Rattle.submission_queue.specs.declared.submission.Submission.{Submission}
 use Rattle.election_snapshot.specs.Snapshot.{Snapshot, IsWellFormed}
 use Rattle.compact_solution.specs.Decoded.{decoded}

@@ -1,6 +1,6 @@
 -- The decision of a round: the submissions are judged by rank, the first that holds wins, and its
 -- committee is seated, or the fill where none holds.
-use Rattle.std.specs.Prelude.{ℕ, Bool, true, false, not, ◌+◌, min, List, [], ◌∷◌, ◌++◌, length, map, filter, take, drop, get_or, Option, Some, None, if◌then◌else◌}
+use Rattle.std.specs.Prelude.{ℕ, Bool, true, false, not, min, List, [], ◌∷◌, ◌++◌, length, map, filter, take, drop, get_or, Option, Some, None, if◌then◌else◌}
 use Rattle.std.specs.List.{prefix_len, range_with_len}
 use Rattle.stake_ledger.specs.Ledger.{Ledger}
 use Rattle.stake_ledger.specs.Calls.{minted_free, room_of}

@@ -1,5 +1,5 @@
 -- The deposits of submissions: what is held, and what becomes of it.
-use Rattle.std.specs.Prelude.{◌≡◌, ℕ, true, is_some, List, [], ◌∷◌, map, fold, sum_by, All, if◌then◌else◌}
+use Rattle.std.specs.Prelude.{◌≡◌, ℕ, true, is_some, List, map, fold, sum_by, All, if◌then◌else◌}
 use Rattle.npos_base.specs.declared.account.AccountId.{AccountId}
 use Rattle.npos_base.specs.Account.{same_account}
 use Rattle.stake_ledger.specs.Ledger.{Ledger, row_at, row_of}

@@ -1,7 +1,6 @@
 -- What becomes of submissions: each accepted one takes the next number, waits, and is settled once.
 use Rattle.std.specs.Prelude.{ℕ, Bool, false, List, count_by, nat_lt, ◌==◌, if◌then◌else◌}
 use Rattle.submission_queue.specs.declared.submission.Submission.{Submission}
-use Rattle.npos_runtime.specs.declared.chain.Chain.{Chain}
 use Rattle.npos_runtime.specs.declared.line.Line.{Line}
 use Rattle.npos_runtime.specs.declared.line.Line.TheVariants as lines
 

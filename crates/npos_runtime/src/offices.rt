@@ -23,11 +23,7 @@ fn is_root(chain: &Chain, who: AccountId) -> bool
 }
 
 /// Gives points to members of the current era.
-pub fn points(
-    chain: &mut Chain,
-    who: AccountId,
-    items: List<(AccountId, u32)>,
-) -> Result<(), Stop>
+pub fn points(chain: &mut Chain, who: AccountId, items: List<(AccountId, u32)>) -> Result<(), Stop>
     ensures { Meets (points_stop chain.old who items)
         (points_done chain.old items) chain.old chain.new result }
 {
@@ -119,11 +115,7 @@ fn slash(chain: &mut Chain, more: &mut Vec<Line>, due: Backer) -> Result<(), NoM
 }
 
 /// Slashes one account after the other.
-fn slash_all(
-    chain: &mut Chain,
-    more: &mut Vec<Line>,
-    dues: List<Backer>,
-) -> Result<(), NoMemory>
+fn slash_all(chain: &mut Chain, more: &mut Vec<Line>, dues: List<Backer>) -> Result<(), NoMemory>
     requires { IsLive chain.old }
     ensures { OnOk result (Goes (slashes dues chain.old) chain.new more.old.items more.new.items) }
 {

@@ -13,7 +13,9 @@ use npos_base::AccountId;
 pub fn root_of(params: &Option<Params>) -> AccountId
     ensures { result ≡ rules.root_of params.now }
 {
-    params.as_ref().map_or(AccountId { hi: 0, lo: 0 }, |params| params.root)
+    params
+        .as_ref()
+        .map_or(AccountId { hi: 0, lo: 0 }, |params| params.root)
 }
 
 /// The number of eras that stake stays bonded after an unbond: Substrate's bonding duration.

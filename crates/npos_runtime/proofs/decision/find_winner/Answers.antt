@@ -1,4 +1,4 @@
-use Rattle.std.proofs.Common.{◌≡◌, ◌++◌, ◌∷◌, [], List, drop, map, ap, sym, subst, ◌∙◌, append_assoc, Some, arith}
+use Rattle.std.proofs.Common.{◌≡◌, ◌++◌, ◌∷◌, [], List, drop, map, ap, sym, subst, ◌∙◌, append_assoc, arith}
 use Rattle.stake_ledger.specs.Ledger.{Ledger}
 use Rattle.submission_queue.specs.declared.submission.Submission.{Submission}
 use Rattle.submission_queue.specs.Ranking.{Ranking}

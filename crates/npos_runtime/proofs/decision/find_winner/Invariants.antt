@@ -1,4 +1,4 @@
-use Rattle.std.proofs.Common.{◌≡◌, ◌++◌, ℕ, map, length}
+use Rattle.std.proofs.Common.{◌≡◌, ◌++◌, map, length}
 use Rattle.weight_book.specs.Weights.{no_weights}
 use Rattle.weight_book.specs.Room.{HasRoom}
 use Rattle.npos_runtime.specs.Deposits.{AreHeld, all_burned}

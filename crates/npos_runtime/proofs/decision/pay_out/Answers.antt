@@ -1,8 +1,8 @@
-use Rattle.std.proofs.Common.{◌≡◌, true, ◌∷◌, ap, sym, subst, ◌∙◌, refl, is_some}
+use Rattle.std.proofs.Common.{◌≡◌, true, ◌∷◌, sym, subst, refl, is_some}
 use Rattle.stake_ledger.specs.Ledger.{Ledger, row_of}
-use Rattle.npos_runtime.specs.Deposits.{AreHeld, returned}
-use Rattle.npos_runtime.specs.Decision.{reward_in, rewarded}
-use Rattle.npos_runtime.proofs.DepositLemmas.{known_first, known_returned, held_returned, held_minted}
+use Rattle.npos_runtime.specs.Deposits.{AreHeld}
+use Rattle.npos_runtime.specs.Decision.{reward_in}
+use Rattle.npos_runtime.proofs.DepositLemmas.{known_returned, held_returned, held_minted}
 use Rattle.npos_runtime.proofs.decision.pay_out.Goals as goal
 
 pub reward-requires : goal.reward-requires

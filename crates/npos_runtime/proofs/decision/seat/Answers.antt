@@ -1,4 +1,4 @@
-use Rattle.std.proofs.Common.{◌≡◌, ◌<◌, All, List, ℕ, length, ap, sym, subst, ◌∙◌}
+use Rattle.std.proofs.Common.{◌<◌, All, length, subst}
 use Rattle.std.specs.List.Sorted.{IsStrictlyIncreasing}
 use Rattle.election_snapshot.specs.Snapshot.{Snapshot}
 use Rattle.npos_runtime.proofs.SeatLemmas.{in_order}

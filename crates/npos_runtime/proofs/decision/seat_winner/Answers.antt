@@ -1,4 +1,4 @@
-use Rattle.std.proofs.Common.{◌≡◌, ◌∙◌, ap, sym}
+use Rattle.std.proofs.Common.{◌∙◌, ap}
 use Rattle.npos_runtime.proofs.VerdictLemmas.{winner_passes}
 use Rattle.npos_runtime.proofs.decision.seat_winner.Goals as goal
 

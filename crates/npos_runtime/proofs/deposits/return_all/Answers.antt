@@ -1,8 +1,7 @@
-use Rattle.std.proofs.Common.{◌≡◌, ◌++◌, List, ◌∷◌, [], drop, ap, sym, subst, ◌∙◌, append_assoc, Some}
+use Rattle.std.proofs.Common.{◌≡◌, ◌++◌, List, ◌∷◌, [], drop, ap, sym, subst, ◌∙◌, append_assoc}
 use Rattle.stake_ledger.specs.Ledger.{Ledger}
 use Rattle.submission_queue.specs.declared.submission.Submission.{Submission}
 use Rattle.submission_queue.specs.Ranking.{Ranking}
-use Rattle.npos_runtime.specs.declared.line.Line.{Line}
 use Rattle.npos_runtime.specs.Deposits.{AreHeld, returned, all_returned, return_line, return_lines}
 use Rattle.npos_runtime.proofs.DepositLemmas.{front, held_returned}
 use Rattle.npos_runtime.proofs.deposits.return_all.Goals as goal

@@ -1,4 +1,4 @@
-use Rattle.std.proofs.Common.{◌≡◌, ◌++◌, ℕ, length}
+use Rattle.std.proofs.Common.{◌≡◌, ◌++◌, length}
 use Rattle.npos_runtime.specs.Deposits.{AreHeld, all_returned, return_lines}
 use Rattle.npos_runtime.proofs.deposits.return_all.Given as goal
 

@@ -1,5 +1,4 @@
-use Rattle.std.proofs.Common.{◌≡◌, Ok, Some, ap, sym, ◌∙◌}
-use Rattle.submission_queue.specs.Ranking.{offer_answer}
+use Rattle.std.proofs.Common.{Ok, ap, sym, ◌∙◌}
 use Rattle.npos_runtime.proofs.SubmitLemmas.{ejected_held}
 use Rattle.npos_runtime.proofs.signed.take_in.Goals as goal
 

@@ -1,10 +1,10 @@
-use Rattle.std.proofs.Common.{◌≡◌, ◌+◌, ◌-◌, ◌*◌, ◌≤◌, ◌<◌, ◌^◌, ℕ, length, arith, ap, sym, subst, ◌∙◌}
+use Rattle.std.proofs.Common.{◌≡◌, ◌+◌, ◌-◌, arith, ap, sym, subst, ◌∙◌}
 use Rattle.npos_runtime.specs.Offers.{before_calls}
 use Rattle.npos_runtime.specs.declared.chain.Chain.{Chain}
 use Rattle.npos_runtime.specs.Step.{era_phase, calls_outcome}
 use Rattle.npos_runtime.specs.Rounds.{round_phase}
 use Rattle.npos_runtime.specs.Decision.{decision_phase}
-use Rattle.npos_runtime.specs.Live.{IsLive, IsReady, most_calls}
+use Rattle.npos_runtime.specs.Live.{IsLive}
 use Rattle.npos_runtime.specs.Rules.{era_of}
 use Rattle.npos_runtime.proofs.EraLemmas.{era_within}
 use Rattle.npos_runtime.proofs.LiveLemmas.{live_era, live_round, live_before, live_closed, due_before, next_before, due_calls, next_calls, era_step}
