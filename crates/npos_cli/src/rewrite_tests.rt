@@ -1,4 +1,4 @@
-//! Bundles in one form and the other, through the top call.
+//! Bundles in one form and the other, and generated elections, through the top call.
 use crate::run;
 use npos_base::{List, MemorySink, MemorySource, NoMemory};
 use std::alloc::Global;
@@ -49,10 +49,27 @@ const REFUSED: [(&str, &[u8], &str); 6] = [
     ("show", b"\x04\x00\x00\x00\x00", "fault 4 trailing\n"),
 ];
 
-// What this verb writes for these bytes, and the status.
-fn answered(alloc: Global, verb: &str, bytes: &[u8]) -> Result<(Vec<u8>, u8), NoMemory> {
+// Seed, voters and seats of generated elections, and what is written of them.
+const DEMOS: [([&str; 3], &str); 3] = [
+    (
+        ["--seed=7", "--voters=2000", "--seats=32"],
+        "demo targets 128 voters 2000 total 2989752419\nfill score 25873683 2533760683 217241973097621563 verdict 0\nseq score 64642732 2708088316 232654365039395356 verdict 0\n",
+    ),
+    (
+        ["--seats=1", "--voters=1", "--seed=0"],
+        "demo targets 4 voters 1 total 1951807\nfill score 1951807 1951807 3809550565249 verdict 0\nseq score 1951807 1951807 3809550565249 verdict 0\n",
+    ),
+    (
+        ["--seed=0", "--voters=3", "--seats=512"],
+        "demo targets 2048 voters 3 total 5445227\nfill score 0 329685 3506199975 verdict 0\nseq lost 0\n",
+    ),
+];
+
+// What these words write for these bytes, and the status.
+fn answered(alloc: Global, said: &[&str], bytes: &[u8]) -> Result<(Vec<u8>, u8), NoMemory> {
     let mut words = Vec::new(alloc);
-    for word in ["npos", verb] {
+    words.push(String::from_str(alloc, "npos")?)?;
+    for word in said {
         words.push(String::from_str(alloc, word)?)?;
     }
     let bytes = List::from_vec(Vec::from_slice(alloc, bytes)?);
@@ -66,8 +83,8 @@ fn answered(alloc: Global, verb: &str, bytes: &[u8]) -> Result<(Vec<u8>, u8), No
 #[test]
 fn bundles_are_shown_and_packed(rt: HostRuntime) -> Result<(), Fail> {
     for (bytes, line) in SHOWN {
-        let (text, shown) = answered(rt.alloc(), "show", bytes)?;
-        let (back, packed) = answered(rt.alloc(), "pack", text.as_slice())?;
+        let (text, shown) = answered(rt.alloc(), &["show"], bytes)?;
+        let (back, packed) = answered(rt.alloc(), &["pack"], text.as_slice())?;
         assert_eq!(rt; text.as_slice(), line.as_bytes());
         assert_eq!(rt; back.as_slice(), bytes);
         assert_eq!(rt; (shown, packed), (0, 0));
@@ -78,9 +95,23 @@ fn bundles_are_shown_and_packed(rt: HostRuntime) -> Result<(), Fail> {
 #[test]
 fn what_is_no_bundle_is_refused(rt: HostRuntime) -> Result<(), Fail> {
     for (verb, bytes, line) in REFUSED {
-        let (text, status) = answered(rt.alloc(), verb, bytes)?;
+        let (text, status) = answered(rt.alloc(), &[verb], bytes)?;
         assert_eq!(rt; text.as_slice(), line.as_bytes());
         assert_eq!(rt; status, 3);
+    }
+    Ok(())
+}
+
+#[test]
+fn generated_elections_are_reported_on(rt: HostRuntime) -> Result<(), Fail> {
+    for (options, text) in DEMOS {
+        let [first, second, third] = options;
+        let words = ["demo", first, second, third];
+        let (once, status) = answered(rt.alloc(), &words, b"")?;
+        let (again, _) = answered(rt.alloc(), &words, b"")?;
+        assert_eq!(rt; once.as_slice(), text.as_bytes());
+        assert_eq!(rt; again.as_slice(), text.as_bytes());
+        assert_eq!(rt; status, 0);
     }
     Ok(())
 }
