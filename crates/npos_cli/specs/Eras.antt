@@ -23,7 +23,8 @@ pub record AreWithin (genesis : Genesis) (blocks : List Block) : Type 0 where
   pub taken : (era : ℕ) (who : AccountId) → taken_in era who genesis blocks ≤ due_in era who genesis blocks
   pub dues : (era : ℕ) (who : AccountId) → due_in era who genesis blocks
       ≤ stake_behind who (elected_for era (seated_by (genesis_chain genesis) blocks))
-  pub once : IsDistinct (λ first second. first.round == second.round) (seated_by (genesis_chain genesis) blocks)
+  pub once : IsDistinct (λ first second. first.round == second.round)
+      (seated_by (genesis_chain genesis) blocks)
 
 -- each payout that is accepted behind these blocks and calls is minted as it is told
 abbrev pub PaysAsTold : Genesis → List Block → List Call → Type 0

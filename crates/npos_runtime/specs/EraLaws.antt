@@ -59,7 +59,8 @@ events_of index (call ∷ calls) chain =
 
 abbrev pub events_in : Chain → Block → List Event
 events_in chain block =
-    started_by chain.waiting (begun_era chain.params chain.due) ++ events_of 0 block.calls (before_calls chain)
+    started_by chain.waiting (begun_era chain.params chain.due)
+    ++ events_of 0 block.calls (before_calls chain)
 
 abbrev pub events_by : Chain → List Block → List Event
 events_by chain [] = []
@@ -121,13 +122,15 @@ chain_at genesis blocks calls =
 
 -- the lines of a payout tell its total, which is minted, and is at most the reward of the era
 pub record IsPaidOut (chain : Chain) (who : AccountId) (era : ℕ) (validator : AccountId) : Type 0 where
-  pub told : told_paid (told_of chain who (kinds.Payout era validator)) ≡ (payout_now chain era validator).total
+  pub told : told_paid (told_of chain who (kinds.Payout era validator))
+      ≡ (payout_now chain era validator).total
   pub minted : (done_of chain who (kinds.Payout era validator)).book.minted
       ≡ chain.book.minted + (payout_now chain era validator).total
   pub within : (payout_now chain era validator).total ≤ era_reward_of chain.params
 
 abbrev pub PayoutLaw : Type 0
-PayoutLaw = (genesis : Genesis) (blocks : List Block) (calls : List Call) (who : AccountId) (era : ℕ) (validator : AccountId)
+PayoutLaw = (genesis : Genesis) (blocks : List Block) (calls : List Call) (who : AccountId)
+    (era : ℕ) (validator : AccountId)
     → genesis_fault genesis ≡ None → FitsBehind genesis blocks
     → stop_of (chain_at genesis blocks calls) who (kinds.Payout era validator) ≡ None
     → IsPaidOut (chain_at genesis blocks calls) who era validator
@@ -174,7 +177,8 @@ told_taken who told = sum_by (amount_taken who) told
 
 -- what the lines of a call tell to be taken from an account for an era
 abbrev pub taken_for : ℕ → AccountId → CallKind → List Line → ℕ
-taken_for era who (kinds.Offence other validator fraction) told = if other == era then told_taken who told else 0
+taken_for era who (kinds.Offence other validator fraction) told =
+    if other == era then told_taken who told else 0
 taken_for era who other told = 0
 
 abbrev pub taken_by : ℕ → AccountId → ℕ → Call → Chain → ℕ
