@@ -2,3 +2,4 @@ pub mod OptionLemmas
 pub mod FoundLemmas
 pub mod NumberLemmas
 pub mod WordLemmas
+pub mod SpellLemmas

@@ -47,10 +47,10 @@ or_both a b e f = ap₂ or_else e f
 
 -- ## Texts
 
-same_text : (a b : Text) → bytes_eq a b ≡ true → a ≡ b
+pub same_text : (a b : Text) → bytes_eq a b ≡ true → a ≡ b
 same_text a b e = (bytes_eq-Decides a b).0 e
 
-equal_self : (a : Text) → bytes_eq a a ≡ true
+pub equal_self : (a : Text) → bytes_eq a a ≡ true
 equal_self a = (bytes_eq-Decides a a).1 refl
 
 pub or_false : (a b : Bool) → (a || b) ≡ false → (a ≡ false) × (b ≡ false)
@@ -217,7 +217,7 @@ unknown_fails : (names : List Text) (name : Text) (v : Option Text) (h : Held) �
     → Fails (long_fault (known names) false (arg_by_long (known names) name) v h)
 unknown_fails names name v h e = rw (no_long names name e) (one_fails _ _)
 
-abbrev is_blank : Text → Bool
+abbrev pub is_blank : Text → Bool
 is_blank [] = true
 is_blank (x ∷ xs) = false
 

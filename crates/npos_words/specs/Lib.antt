@@ -2,3 +2,4 @@ pub mod Options
 pub mod Found
 pub mod Numbers
 pub mod Words
+pub mod Laws

@@ -1,5 +1,5 @@
 //! Words and the commands that they ask for. The expected ones are the rules', by hand.
-use crate::{Command, Miner, command_of};
+use crate::{Command, Miner, command_of, laws};
 use npos_base::NoMemory;
 use std::alloc::Global;
 use std::test::Fail;
@@ -97,6 +97,11 @@ fn words_of(alloc: Global, line: &str) -> Result<Vec<String>, Fail> {
         words.push(String::from_str(alloc, word)?)?;
     }
     Ok(words)
+}
+
+#[test]
+fn each_law_is_called(_rt: HostRuntime) {
+    laws::options_are_read_where_they_are_spelled();
 }
 
 #[test]
