@@ -24,3 +24,4 @@ pub mod JobLaws
 pub mod RewriteLaws
 pub mod EraLaws
 pub mod StreamLaws
+pub mod WordsLaws
