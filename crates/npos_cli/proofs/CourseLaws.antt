@@ -1,31 +1,29 @@
 -- How a replay comes on that reads piece by piece and writes block by block, and how it ends.
-use Rattle.std.proofs.Common.{◌≡◌, ◌⊎◌, inl, inr, ◌≤◌, ◌+◌, ◌-◌, ℕ, Bool, true, false, List, [], ◌++◌, length, take, drop, Option, Some, None, Result, Ok, Err, refl, sym, ◌∙◌, ap, subst, append_assoc, arith, length-append, true≢false}
+use Rattle.std.proofs.Common.{◌≡◌, inl, inr, ◌≤◌, ◌+◌, ◌-◌, ℕ, Bool, false, List, [], ◌++◌, length, take, drop, Option, Some, None, Result, Ok, Err, refl, sym, ◌∙◌, ap, subst, append_assoc, arith, length-append, true≢false}
 use Rattle.std.proofs.lemmas.List.{append-nil, take-append-drop, take-append-le}
-use Rattle.npos_base.specs.Outside.{Told, Appends, Flushes}
+use Rattle.npos_base.specs.Outside.{Told, Appends}
 use Rattle.scale_wire.specs.declared.fault.Why.TheVariants.{Short}
 use Rattle.scale_wire.specs.declared.fault.WireFault.{WireFault}
-use Rattle.scale_wire.specs.Reading.{Place, IsRead}
+use Rattle.scale_wire.specs.Reading.{Place}
 use Rattle.block_wire.specs.declared.genesis.Genesis.{Genesis}
-use Rattle.block_wire.specs.Genesis.{genesis_form}
 use Rattle.npos_runtime.specs.declared.chain.Chain.{Chain}
-use Rattle.npos_runtime.specs.Outcome.{Election}
 use Rattle.npos_cli.specs.declared.replaying.Stop.TheVariants.{More, Last}
 use Rattle.npos_cli.specs.declared.job.Job.TheVariants as jobs
 use Rattle.npos_cli.specs.declared.status.Status.{Status}
 use Rattle.npos_cli.specs.declared.status.Status.TheVariants as statuses
-use Rattle.npos_cli.specs.Replay.{Spot, turn, Starts, Reaches, all_seated, Replayed, Outcome, IsReplay, IsWhole, NoStart, IsFront}
+use Rattle.npos_cli.specs.Replay.{Spot, Starts, Reaches, all_seated, Replayed, IsWhole, NoStart, IsFront}
 use Rattle.npos_cli.specs.Chain.{npos_machine}
-use Rattle.npos_cli.specs.Ahead.{first_place, MayFollow, HasSeen, FeedsMore, CutsGenesis, AwaitsGenesis, BeginsBy, Begins}
-use Rattle.npos_cli.specs.Turning.{spot, grown, IsCutHere, StopsSurely, WritesOn, IsUndecided, InGenesis, Behind, KeepsUp}
-use Rattle.npos_cli.specs.Owed.{IsAll, LeftAfter, IsDrained, Delivers, DeliversFront, FindsReplay, BeginsFor, IsOwedFor, Puts, FlushesBy}
+use Rattle.npos_cli.specs.Ahead.{HasSeen, FeedsMore, CutsGenesis, AwaitsGenesis, Begins}
+use Rattle.npos_cli.specs.Turning.{spot, grown, WritesOn, InGenesis, Behind, KeepsUp}
+use Rattle.npos_cli.specs.Owed.{IsAll, LeftAfter, DeliversFront, FindsReplay, BeginsFor, IsOwedFor, Puts, FlushesBy}
 use Rattle.npos_cli.specs.Report.{JobOwes, replay_status}
-use Rattle.npos_cli.specs.Streaming.{Course, Finished, WritesBlocks, CutBy, Halts, Runs, Delivered, ReplayEnds, HasWritten}
+use Rattle.npos_cli.specs.Streaming.{Course, Finished, CutBy, Halts, Delivered, HasWritten}
 use Rattle.npos_cli.proofs.ChainLaws.{genesis_laws, turn_laws}
 use Rattle.npos_cli.proofs.ReplayLaws.{reaches_itself, unreadable}
 use Rattle.npos_cli.proofs.WholeLaws.{passes_grow, start_grows, whole_grows, reached_front, undecided_whole}
 use Rattle.npos_cli.proofs.EdgeLaws.{left_join, left_none, seen_once, seen_more, delivered, fronted}
 use Rattle.npos_cli.proofs.TurnLaws.{appends_join, appends_none, reaches_join}
-use Rattle.npos_cli.proofs.StartLaws.{found, outcome}
+use Rattle.npos_cli.proofs.StartLaws.{found}
 use Rattle.npos_cli.proofs.RunLaws.{front_found}
 
 -- ## Fronts

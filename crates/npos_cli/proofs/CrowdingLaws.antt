@@ -1,11 +1,10 @@
 -- What the runtime says of offers over blocks holds of the blocks that a replay takes.
-use Rattle.std.proofs.Common.{◌≡◌, ℕ, ◌+◌, ◌≤◌, ◌^◌, List, [], ◌∷◌, length, Option, Some, None, Ok, Err, IfSome, refl, sym, ◌∙◌, ap, subst, arith}
+use Rattle.std.proofs.Common.{◌≡◌, ℕ, ◌+◌, ◌≤◌, ◌^◌, List, [], ◌∷◌, length, Option, Some, None, Ok, Err, IfSome, refl, ◌∙◌, ap, subst, arith}
 use Rattle.block_wire.specs.declared.block.Block.{Block}
 use Rattle.block_wire.specs.declared.genesis.Genesis.{Genesis}
 use Rattle.npos_runtime.specs.declared.chain.Chain.{Chain}
 use Rattle.npos_runtime.specs.declared.begin.GenesisFault.{GenesisFault}
 use Rattle.npos_runtime.specs.Genesis.{genesis_fault, genesis_chain, fault_numbers}
-use Rattle.npos_runtime.specs.Step.{step}
 use Rattle.npos_runtime.specs.Offers.{IsNoneCrowdedOut}
 use Rattle.npos_runtime.specs.Laws.{CrowdingLaw}
 use Rattle.npos_runtime.proofs.LiveLemmas.{due_step}
@@ -14,7 +13,7 @@ use Rattle.npos_cli.specs.Chain.{npos_machine, started}
 use Rattle.npos_cli.specs.Crowding.{NoneIsCrowdedOut}
 use Rattle.npos_cli.proofs.BookLaws.{live_by, live_passes}
 
-due_passes : (blocks : List Block) (p q : Spot Chain) (text : List ℕ) → Passes npos_machine blocks p q text
+pub due_passes : (blocks : List Block) (p q : Spot Chain) (text : List ℕ) → Passes npos_machine blocks p q text
     → q.state.due ≡ p.state.due + length blocks
 due_passes [] p q text passes = ap (λ (s : Spot Chain). s.state.due) passes.0 ∙ omega arith
 due_passes (block ∷ blocks) p q text passes =

@@ -6,8 +6,7 @@ use Rattle.npos_runtime.specs.declared.chain.Chain.{Chain}
 use Rattle.npos_runtime.specs.declared.begin.GenesisFault.{GenesisFault}
 use Rattle.npos_runtime.specs.Genesis.{genesis_fault, genesis_chain, fault_numbers}
 use Rattle.npos_runtime.specs.EraLaws.{RewardLaw, PayoutLaw, SlashLaw, TakenLaw, OnceLaw, DueLaw}
-use Rattle.npos_cli.specs.Replay.{Spot}
-use Rattle.npos_cli.specs.Chain.{npos_machine, started}
+use Rattle.npos_cli.specs.Chain.{started}
 use Rattle.npos_cli.specs.Eras.{ErasHold, ErasAreKept}
 use Rattle.npos_cli.proofs.BookLaws.{live_by, live_passes}
 use Rattle.npos_cli.proofs.CrowdingLaws.{due_passes}

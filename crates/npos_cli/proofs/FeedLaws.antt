@@ -1,7 +1,7 @@
 -- What a read that feeds a reader comes to.
-use Rattle.std.proofs.Common.{◌≡◌, ◌+◌, ◌≤◌, ◌<◌, ℕ, Bool, true, false, List, [], ◌++◌, length, take, drop, Option, Some, None, Result, Ok, Err, refl, sym, ◌∙◌, ap, subst, arith}
-use Rattle.std.proofs.lemmas.List.{append-nil, take-append-drop, length-take-le}
-use Rattle.npos_base.specs.Outside.{Takes, Gives, IsAtEnd}
+use Rattle.std.proofs.Common.{◌≡◌, ◌≤◌, ◌<◌, ℕ, Bool, true, List, [], ◌++◌, length, take, drop, Option, Some, None, Ok, Err, refl, sym, ◌∙◌, ap, arith}
+use Rattle.std.proofs.lemmas.List.{take-append-drop, length-take-le}
+use Rattle.npos_base.specs.Outside.{Takes, IsAtEnd}
 use Rattle.scale_wire.specs.Reading.{Place}
 use Rattle.npos_cli.specs.declared.status.Status.TheVariants.{ReadFault, NoMemory}
 use Rattle.npos_cli.specs.Owed.{LeftAfter}

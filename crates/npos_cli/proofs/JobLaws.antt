@@ -1,5 +1,5 @@
 -- What a run of each job says.
-use Rattle.std.proofs.Common.{◌≡◌, ◌≢◌, ◌⊎◌, inl, inr, ◌<◌, ◌+◌, ℕ, Bool, true, false, List, [], ◌++◌, Option, Some, None, Result, Ok, Err, IfSome, refl, sym, ◌∙◌, ap, subst, arith}
+use Rattle.std.proofs.Common.{◌≡◌, ◌≢◌, ◌⊎◌, inl, inr, ◌<◌, ◌+◌, ℕ, Bool, true, false, List, Option, Some, None, Ok, Err, IfSome, refl, sym, subst, arith}
 use Rattle.std.proofs.lemmas.List.{append-nil}
 use Rattle.npos_base.specs.Outside.{Told, Rose}
 use Rattle.npos_cli.specs.declared.job.Job.{Job}
@@ -10,17 +10,17 @@ use Rattle.npos_cli.specs.declared.job.Rewriting.{Rewriting}
 use Rattle.npos_cli.specs.declared.job.Miner.TheVariants as miners
 use Rattle.npos_cli.specs.declared.status.Status.{Status}
 use Rattle.npos_cli.specs.declared.status.Status.TheVariants as statuses
-use Rattle.npos_cli.specs.Report.{ReadsInput, ReadsBundle, IsAnswer, IsJudged, replay_status}
+use Rattle.npos_cli.specs.Report.{IsAnswer, IsJudged, replay_status}
 use Rattle.npos_cli.specs.Verdicts.{most_bundle}
 use Rattle.npos_cli.specs.Tasks.{IsSound}
 use Rattle.npos_cli.specs.Words.{usage_line}
 use Rattle.npos_cli.specs.Chain.{npos_machine}
-use Rattle.npos_cli.specs.Owed.{LeftAfter, FindsFor, AnswersFor, BeginsFor, IsDrained, TakesAtMost, Delivers, DeliversFront, FindsReplay, KeepsFlushed, HasRead, HasWrote, ReadsWell, WritesWell}
+use Rattle.npos_cli.specs.Owed.{LeftAfter, FindsFor, AnswersFor, BeginsFor, IsDrained, TakesAtMost, DeliversFront, KeepsFlushed, HasRead, HasWrote, ReadsWell, WritesWell}
 use Rattle.npos_cli.specs.Turning.{KeepsUp}
-use Rattle.npos_cli.specs.Streaming.{Delivered, Halts, CutBy, ReplayEnds, HaltedReading, HaltedWriting, HaltedStarving, ReadsWhile}
+use Rattle.npos_cli.specs.Streaming.{Delivered, Halts, CutBy, ReplayEnds, ReadsWhile}
 use Rattle.npos_cli.specs.Demo.{demo_report}
 use Rattle.npos_cli.specs.Ran.{Ran, UsageEnds, DemoEnds}
-use Rattle.npos_cli.proofs.EdgeLaws.{fronted, unflushed}
+use Rattle.npos_cli.proofs.EdgeLaws.{unflushed}
 use Rattle.npos_cli.proofs.RunLaws.{found_unread, nothing_asked, front_found, front_delivered}
 use Rattle.npos_cli.proofs.CourseLaws.{finds_for, has_written, begins_starved}
 
@@ -98,6 +98,11 @@ usage_ran left old new reads writes wrote Unread Unwritten statuses.BadInput unr
 usage_ran left old new reads writes wrote Unread Unwritten statuses.ReadFault unread ends has = absurd ends
 usage_ran left old new reads writes wrote Unread Unwritten statuses.NoMemory unread ends has = absurd ends
 
+-- nothing was delivered, which is a front of any text
+front_none : (now : Option Told) (text : List ℕ) → DeliversFront now now text
+front_none None text = tt
+front_none (Some now) text = (now, 0, refl, sym (append-nil now.written))
+
 -- ## A generated election
 
 pub demo_ran : (seed voters seats : ℕ) (left : Option (List ℕ)) (old new : Option Told) (reads writes wrote : ℕ) (Unread Unwritten : Type 0) (status : Status) → Unread
@@ -140,15 +145,11 @@ demo_ran seed voters seats left old new reads writes wrote Unread Unwritten stat
   at_answer statuses.Usage ends answer = absurd ends
   at_answer statuses.BadInput ends answer = absurd ends
 
-  nothing : (now : Option Told) → DeliversFront now now text
-  nothing None = tt
-  nothing (Some now) = (now, 0, refl, sym (append-nil now.written))
-
   at_front : (s : Status) → DemoEnds text old new Unwritten s → BeginsFor job left old new
   at_front statuses.Done ends = front_delivered job left old new text statuses.Done owed ends
   at_front statuses.WriteFault ends = front_found job left old new text statuses.Done owed ends.0
   at_front statuses.NoMemory ends =
-      front_found job left old new text statuses.Done owed (subst (λ (now : Option Told). DeliversFront old now text) (sym ends.1) (nothing old))
+      front_found job left old new text statuses.Done owed (subst (λ (now : Option Told). DeliversFront old now text) (sym ends.1) (front_none old text))
   at_front statuses.ReadFault ends = absurd ends
   at_front statuses.No ends = absurd ends
   at_front statuses.Usage ends = absurd ends
@@ -159,13 +160,13 @@ demo_ran seed voters seats left old new reads writes wrote Unread Unwritten stat
   kept (Some now) = (now, refl, refl)
 
   at_flush : (s : Status) → DemoEnds text old new Unwritten s → (IsAnswer s → ⊥) → KeepsFlushed old new
-  at_flush statuses.Done ends no = absurd (no tt)
-  at_flush statuses.WriteFault ends no = ends.1
-  at_flush statuses.NoMemory ends no = subst (λ (now : Option Told). KeepsFlushed old now) (sym ends.1) (kept old)
-  at_flush statuses.ReadFault ends no = absurd ends
-  at_flush statuses.No ends no = absurd (no tt)
-  at_flush statuses.Usage ends no = absurd (no tt)
-  at_flush statuses.BadInput ends no = absurd (no tt)
+  at_flush statuses.Done ends unanswered = absurd (unanswered tt)
+  at_flush statuses.WriteFault ends unanswered = ends.1
+  at_flush statuses.NoMemory ends unanswered = subst (λ (now : Option Told). KeepsFlushed old now) (sym ends.1) (kept old)
+  at_flush statuses.ReadFault ends unanswered = absurd ends
+  at_flush statuses.No ends unanswered = absurd (unanswered tt)
+  at_flush statuses.Usage ends unanswered = absurd (unanswered tt)
+  at_flush statuses.BadInput ends unanswered = absurd (unanswered tt)
 
   no_read : (s : Status) → DemoEnds text old new Unwritten s → s ≡ statuses.ReadFault → ⊥
   no_read statuses.ReadFault ends e = ends
@@ -225,7 +226,6 @@ rewrite_ran way left now old new reads read writes wrote Unread Unwritten status
   few = λ _. few;
   accepted = λ task e. cc;
   passes = λ e. cc;
-  usage_memory = λ e. cc;
   halted_reading = λ e. cc;
   halted_writing = λ e. cc;
   starved = λ e. cc;
@@ -369,7 +369,7 @@ starved_ran job left old reads writes Unread Unwritten unread unwritten =
     let halts = begins_starved left old in
     record {
       answers = λ answer. absurd answer;
-      front = λ text status owed. fronted old old [] text halts.told (text, refl);
+      front = λ text status owed. front_none old text;
       read_fault = λ e. cc;
       read_fault_comes = λ rose. absurd (omega (arith, rose));
       write_fault = λ e. cc;

@@ -25,3 +25,4 @@ pub mod RewriteLaws
 pub mod EraLaws
 pub mod StreamLaws
 pub mod WordsLaws
+pub mod DemoLaws

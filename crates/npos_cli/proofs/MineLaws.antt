@@ -1,5 +1,5 @@
 -- The lines of a committee, in rising order.
-use Rattle.std.proofs.Common.{◌≡◌, ℕ, suc, zero, ◌+◌, ◌<◌, ◌≤◌, true, List, [], ◌∷◌, ◌++◌, length, get_or, take, filter, flat_map, nat_eq, All, IsPermutation, slice_get, Some, None, Option, Result, Ok, Err, IfOk, refl, ap, ap₂, sym, subst, ◌∙◌, arith, append_assoc}
+use Rattle.std.proofs.Common.{◌≡◌, ℕ, ◌+◌, ◌<◌, List, [], ◌∷◌, ◌++◌, length, get_or, take, filter, flat_map, nat_eq, All, IsPermutation, None, Result, Ok, Err, IfOk, ap, ap₂, sym, subst, ◌∙◌, arith, append_assoc}
 use Rattle.std.specs.List.{range_with_len, IsDistinct}
 use Rattle.std.specs.List.Sorted.{IsNonDecreasing}
 use Rattle.std.proofs.lemmas.List.{take_more, flat_map_more}
@@ -8,10 +8,10 @@ use Rattle.std.proofs.lemmas.Map.Keys.{IsDistinct-IsPermutation}
 use Rattle.npos_base.specs.declared.account.AccountId.{AccountId}
 use Rattle.npos_base.specs.declared.figures.Edge.{Edge}
 use Rattle.npos_base.specs.declared.figures.Score.{Score}
-use Rattle.election_snapshot.specs.Snapshot.{Snapshot, IsWellFormed, no_account, has, stakes_of}
+use Rattle.election_snapshot.specs.Snapshot.{Snapshot, IsWellFormed, has, stakes_of}
 use Rattle.weight_book.specs.Weights.{Weights, IsFeasible, support}
 use Rattle.weight_book.proofs.SumLemmas.{eqb_turned}
-use Rattle.quota_fill.proofs.InLemmas.{In, in_filter, from_filter, in_range, from_range, in_has, from_has, in_permuted, all_at}
+use Rattle.quota_fill.proofs.InLemmas.{in_filter, from_filter, in_range, in_has, from_has, in_permuted, all_at}
 use Rattle.quota_fill.proofs.OrderLemmas.{same_list, rises_sorted, rises-filter, rises_range}
 use Rattle.npos_cli.specs.Verdicts.{member_line, score_line, solution_line}
 use Rattle.npos_cli.specs.Bundles.{told}

@@ -1,41 +1,22 @@
 -- From what is owed to what each status says.
-use Rattle.std.proofs.Common.{◌≡◌, ◌≢◌, ◌⊎◌, inl, inr, ℕ, Bool, true, false, List, [], length, nat_lt, if◌then◌else◌, Option, Some, None, Result, Ok, Err, IfSome, IsSome, refl, sym, ◌∙◌, ap, subst}
+use Rattle.std.proofs.Common.{◌≡◌, ◌≢◌, ◌⊎◌, inl, inr, ℕ, Bool, true, false, List, [], Option, Some, None, IfSome, IsSome, refl, sym, ap, subst}
 use Rattle.npos_base.specs.Outside.{Told}
 use Rattle.npos_cli.specs.declared.job.Job.{Job}
 use Rattle.npos_cli.specs.declared.job.Job.TheVariants as jobs
 use Rattle.npos_cli.specs.declared.status.Status.{Status}
 use Rattle.npos_cli.specs.declared.status.Status.TheVariants as statuses
-use Rattle.scale_wire.specs.declared.fault.WireFault.{WireFault}
-use Rattle.scale_wire.specs.WholeReading.{read_as}
-use Rattle.block_wire.specs.declared.bundle.Bundle.{Bundle}
-use Rattle.block_wire.specs.declared.bundle.Work.{Work}
-use Rattle.block_wire.specs.declared.bundle.Work.TheVariants.{Nothing, Packed, Plain}
-use Rattle.block_wire.specs.Bundles.{bundle_form}
-use Rattle.block_wire.specs.BundleLaws.{bundle_laws}
-use Rattle.election_snapshot.specs.Snapshot.{Snapshot}
-use Rattle.election_snapshot.specs.declared.fault.SnapshotFault.{SnapshotFault}
-use Rattle.election_check.specs.declared.verdict.Verdict.{Verdict}
-use Rattle.election_check.specs.declared.verdict.Verdict.TheVariants as verdicts
-use Rattle.election_check.specs.Plain.{verdict_plain}
-use Rattle.election_check.specs.Packed.{verdict_packed}
-use Rattle.npos_cli.specs.Elections.{snapshot_of}
-use Rattle.npos_cli.specs.Verdicts.{long_line, most_bundle}
-use Rattle.quota_fill.specs.Filled.{filled}
-use Rattle.npos_cli.specs.declared.reading.Election.{Election}
 use Rattle.npos_cli.specs.declared.job.Task.{Task}
-use Rattle.npos_cli.specs.declared.job.Task.TheVariants as tasks
-use Rattle.npos_cli.specs.declared.job.Miner.TheVariants as miners
-use Rattle.npos_cli.specs.Bundles.{Report, faulty, verdict_status, work_report, election_of, read_election}
+use Rattle.npos_cli.specs.Bundles.{Report, faulty}
 use Rattle.npos_cli.specs.Tasks.{IsBundleReport}
 use Rattle.npos_cli.specs.Words.{HasForm, job_of, usage_line}
-use Rattle.npos_cli.specs.Report.{JobOwes, Owes, replay_status, ReadsInput, IsAnswer, IsJudged}
+use Rattle.npos_cli.specs.Report.{JobOwes, replay_status, ReadsInput, IsAnswer, IsJudged}
 use Rattle.npos_cli.specs.Replay.{Outcome, IsReplay}
 use Rattle.npos_runtime.specs.declared.chain.Chain.{Chain}
 use Rattle.npos_runtime.specs.Outcome.{Election as Seated}
 use Rattle.npos_cli.specs.Chain.{npos_machine}
 use Rattle.npos_cli.specs.Books.{BooksBalance}
 use Rattle.npos_cli.specs.Headline.{SeatsAreSound, IsPromised}
-use Rattle.npos_cli.specs.Owed.{IsAll, IsDrained, Delivers, DeliversFront, DeliversReplay, DeliversReplayFront, Comes, ComesWith, Answers, IsOwed, BeginsToAnswer}
+use Rattle.npos_cli.specs.Owed.{IsDrained, Delivers, DeliversFront, DeliversReplay, DeliversReplayFront, Comes, ComesWith, Answers, IsOwed, BeginsToAnswer}
 use Rattle.npos_cli.proofs.RewriteLaws.{of_rewriting}
 use Rattle.npos_cli.proofs.RunLaws.{one_owed}
 use Rattle.npos_cli.proofs.StatusLaws.{of_bundle}

@@ -8,7 +8,6 @@ use Rattle.election_snapshot.specs.declared.fault.SnapshotFault.TheVariants.{Bad
 use Rattle.election_snapshot.specs.Snapshot.{Snapshot, total_of}
 use Rattle.election_snapshot.specs.Draft.{Draft, first_seats_fault, finish_fault, seated}
 use Rattle.weight_book.specs.Weights.{Weights}
-use Rattle.npos_cli.specs.declared.job.Miner.{Miner}
 use Rattle.npos_cli.specs.declared.job.Task.{Task}
 use Rattle.npos_cli.specs.declared.job.Task.TheVariants as tasks
 use Rattle.npos_cli.specs.declared.reading.Election.{Election}

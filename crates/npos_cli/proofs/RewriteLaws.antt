@@ -1,11 +1,10 @@
 -- What is owed where a bundle is written in its other form, and that the one form gives the other back.
-use Rattle.std.proofs.Common.{◌≡◌, ℕ, ◌+◌, ◌<◌, ◌≤◌, Bool, true, false, List, [], ◌++◌, length, nat_lt, Option, Some, None, Result, Ok, Err, if◌then◌else◌, refl, sym, ◌∙◌, ap, subst, inl, inr, arith, length-append}
+use Rattle.std.proofs.Common.{◌≡◌, ℕ, ◌<◌, ◌≤◌, Bool, true, false, List, [], ◌++◌, length, nat_lt, Option, Some, None, Result, Ok, Err, if◌then◌else◌, refl, sym, ◌∙◌, ap, subst, inl, inr, arith, length-append}
 use Rattle.std.proofs.lemmas.Bool.{lt-ltb, le-ltb, cases_lt}
 use Rattle.std.proofs.lemmas.List.{append-nil}
 use Rattle.serde_json.specs.Written.{compact_text}
 use Rattle.scale_wire.specs.declared.fault.WireFault.{WireFault}
 use Rattle.scale_wire.specs.Form.{IsBytes}
-use Rattle.scale_wire.specs.Laws.{IsWhole, IsRefusedWhole}
 use Rattle.scale_wire.specs.DecidedLaws.{decided_whole}
 use Rattle.scale_wire.specs.WholeReading.{read_as, read_value, read_fault}
 use Rattle.block_wire.specs.declared.bundle.Bundle.{Bundle}

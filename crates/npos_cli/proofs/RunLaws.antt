@@ -1,5 +1,5 @@
 -- From what a run owes and what was delivered to the clauses of `run`.
-use Rattle.std.proofs.Common.{◌≡◌, ◌⊎◌, inl, inr, ℕ, ◌+◌, ◌<◌, ◌≤◌, Bool, true, false, List, [], ◌++◌, length, nat_lt, Option, Some, None, Result, Ok, Err, IfSome, if◌then◌else◌, refl, sym, ◌∙◌, ap, subst, arith, length-append}
+use Rattle.std.proofs.Common.{◌≡◌, inl, inr, ℕ, ◌+◌, ◌<◌, ◌≤◌, Bool, true, false, List, [], ◌++◌, length, nat_lt, Option, Some, None, Result, Err, IfSome, if◌then◌else◌, refl, sym, ◌∙◌, ap, subst, arith, length-append}
 use Rattle.std.proofs.lemmas.List.{take_all, append-nil}
 use Rattle.std.proofs.lemmas.Bool.{lt-ltb, cases_lt, true≢false}
 use Rattle.npos_base.specs.Outside.{Told}
@@ -9,8 +9,8 @@ use Rattle.npos_cli.specs.declared.job.Job.TheVariants as jobs
 use Rattle.npos_cli.specs.declared.status.Status.{Status}
 use Rattle.npos_cli.specs.declared.status.Status.TheVariants as statuses
 use Rattle.npos_cli.specs.Words.{job_by, job_of, usage_line, KeepsBounds as JobKeepsBounds}
-use Rattle.npos_cli.specs.Report.{JobOwes, Owes, replay_status, IsAnswer, IsJudged}
-use Rattle.npos_cli.specs.Replay.{Outcome, IsReplay}
+use Rattle.npos_cli.specs.Report.{JobOwes, Owes, replay_status, IsJudged}
+use Rattle.npos_cli.specs.Replay.{Outcome}
 use Rattle.npos_runtime.specs.declared.chain.Chain.{Chain}
 use Rattle.npos_runtime.specs.Outcome.{Election}
 use Rattle.npos_cli.specs.Chain.{npos_machine}
@@ -24,7 +24,7 @@ use Rattle.npos_cli.specs.Bundles.{Report, faulty, read_election, election_in}
 use Rattle.npos_cli.specs.Demo.{demo_report}
 use Rattle.npos_cli.specs.Rewriting.{rewrite_report}
 use Rattle.npos_cli.specs.Tasks.{IsReportOn, IsBundleReport, IsSound}
-use Rattle.npos_cli.specs.Owed.{IsAll, LeftAfter, ReadsUpTo, TakesAtMost, IsDrained, Delivers, DeliversFront, FindsFor, BeginsFor}
+use Rattle.npos_cli.specs.Owed.{ReadsUpTo, TakesAtMost, IsDrained, Delivers, DeliversFront, FindsFor, BeginsFor}
 use Rattle.std.specs.Prelude.{option_map}
 use Rattle.npos_words.specs.declared.command.Command.{Command}
 use Rattle.npos_words.specs.declared.command.Command.TheVariants as commands

@@ -1,5 +1,5 @@
 -- Every committee that a replay seats is sound, since every block of a live chain seats none but sound ones.
-use Rattle.std.proofs.Common.{◌≡◌, ◌<◌, ◌^◌, ℕ, List, [], ◌∷◌, ◌++◌, All, Option, Some, None, IfSome, refl, sym, subst, length, arith}
+use Rattle.std.proofs.Common.{ℕ, List, [], ◌∷◌, All, Option, Some, None, IfSome, refl, sym, subst, arith}
 use Rattle.std.proofs.lemmas.List.Elements.{All-append}
 use Rattle.block_wire.specs.declared.block.Block.{Block}
 use Rattle.npos_runtime.specs.declared.chain.Chain.{Chain}
@@ -8,7 +8,7 @@ use Rattle.npos_runtime.specs.Outcome.{Election}
 use Rattle.npos_runtime.specs.Step.{step}
 use Rattle.npos_runtime.specs.Live.{IsLive}
 use Rattle.npos_runtime.specs.Laws.{IsSound, SoundStepLaw}
-use Rattle.npos_cli.specs.Replay.{Spot, Passes, behind, all_seated, Outcome, IsReplay, BadGenesis, FaultyGenesis, Replayed}
+use Rattle.npos_cli.specs.Replay.{Spot, Passes, behind, all_seated, Outcome, BadGenesis, FaultyGenesis, Replayed}
 use Rattle.npos_cli.specs.Chain.{npos_machine}
 use Rattle.npos_cli.specs.Headline.{SeatsAreSound}
 use Rattle.npos_cli.proofs.BookLaws.{live_turn, live_by}

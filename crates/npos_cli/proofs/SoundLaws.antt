@@ -1,7 +1,5 @@
 -- What is reported with a Yes is sound, and the fill is always reported so.
 use Rattle.std.proofs.Common.{◌≡◌, ◌≢◌, ℕ, Bool, true, false, nat_lt, if◌then◌else◌, List, length, Result, Ok, Err, IfOk, refl, sym, ◌∙◌, ap, subst}
-use Rattle.npos_base.specs.declared.figures.Edge.{Edge}
-use Rattle.npos_base.specs.declared.figures.Score.{Score}
 use Rattle.npos_base.specs.declared.no_memory.NoMemory.{NoMemory}
 use Rattle.scale_wire.specs.declared.fault.WireFault.{WireFault}
 use Rattle.scale_wire.specs.WholeReading.{read_as}
@@ -16,7 +14,6 @@ use Rattle.weight_book.specs.Weights.{Weights}
 use Rattle.weight_book.proofs.AveragingLemmas.{averaging}
 use Rattle.weight_book.specs.Scoring.{score_of}
 use Rattle.compact_solution.specs.Solution.{Entry, solution_form}
-use Rattle.compact_solution.specs.Decoded.{decoded}
 use Rattle.quota_fill.specs.Filled.{filled}
 use Rattle.quota_fill.proofs.PassingLemmas.{fill_passes}
 use Rattle.election_check.specs.declared.verdict.Verdict.{Verdict}

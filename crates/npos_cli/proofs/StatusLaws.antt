@@ -1,5 +1,5 @@
 -- The statuses of reports on bundles: done, a No, or a fault line.
-use Rattle.std.proofs.Common.{◌≡◌, ℕ, Bool, true, false, nat_lt, if◌then◌else◌, List, length, Option, Some, None, Result, Ok, Err, sym, subst}
+use Rattle.std.proofs.Common.{ap, ◌≡◌, ℕ, Bool, true, false, nat_lt, if◌then◌else◌, List, length, Option, Some, None, Result, Ok, Err, sym, subst}
 use Rattle.scale_wire.specs.declared.fault.WireFault.{WireFault}
 use Rattle.scale_wire.specs.WholeReading.{read_as}
 use Rattle.block_wire.specs.declared.bundle.Bundle.{Bundle}

@@ -1,5 +1,5 @@
 -- The replay of a whole stream ends with its end line, so a run that is not cut off is done.
-use Rattle.std.proofs.Common.{◌≡◌, ◌⊎◌, inl, inr, ℕ, Bool, true, false, List, ◌++◌, Option, Some, None, refl, sym, ◌∙◌, ap, subst}
+use Rattle.std.proofs.Common.{◌≡◌, ◌⊎◌, inl, inr, ℕ, false, List, ◌++◌, Option, Some, refl, ◌∙◌, ap, subst}
 use Rattle.npos_base.specs.Outside.{Told, Rose}
 use Rattle.npos_runtime.specs.declared.chain.Chain.{Chain}
 use Rattle.npos_runtime.specs.Outcome.{Election}

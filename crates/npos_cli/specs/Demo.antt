@@ -1,6 +1,6 @@
 -- What is reported of a generated election: its size, the score and the verdict of the greedy fill, and those of
 -- sequential Phragmén, packed and expanded again.
-use Rattle.std.specs.Prelude.{ℕ, List, [], ◌∷◌, ◌++◌, flat_map, length, codes, Result, Ok, Err}
+use Rattle.std.specs.Prelude.{◌≡◌, ⊤, ℕ, List, [], ◌∷◌, ◌++◌, flat_map, length, codes, Result, Ok, Err}
 use Rattle.npos_base.specs.declared.figures.Score.{Score}
 use Rattle.election_snapshot.specs.Snapshot.{Snapshot, total_stake}
 use Rattle.weight_book.specs.Weights.{Weights}
@@ -8,6 +8,8 @@ use Rattle.weight_book.specs.Scoring.{score_of}
 use Rattle.quota_fill.specs.Filled.{filled}
 use Rattle.seq_phragmen.specs.Mined.{mined}
 use Rattle.compact_solution.specs.Solution.{Entry, solution_form}
+use Rattle.compact_solution.specs.declared.packing.PackFault.{PackFault}
+use Rattle.compact_solution.specs.declared.packing.PackFault.TheVariants as faults
 use Rattle.election_check.specs.declared.verdict.Verdict.{Verdict}
 use Rattle.election_check.specs.Plain.{verdict_plain}
 use Rattle.election_check.specs.Packed.{expanded, verdict_packed}
@@ -37,6 +39,12 @@ fill_line snapshot weights = judged_line (codes "fill score") (score_of weights)
 abbrev pub bytes_line : Snapshot → Weights → List ℕ → List ℕ
 bytes_line snapshot weights bytes =
     judged_line (codes "seq score") (score_of weights) (verdict_packed snapshot (score_of weights) bytes)
+
+-- what packing came to is this, unless memory was refused
+abbrev pub IsPackedAs : Result (List (List Entry)) ℕ → Result (List (List Entry)) PackFault → Type 0
+IsPackedAs due (Ok solution) = due ≡ Ok solution
+IsPackedAs due (Err (faults.LostWinner member)) = due ≡ Err member
+IsPackedAs due (Err faults.NoMemory) = ⊤
 
 -- of packed weights the solution, or the lowest member that is lost
 abbrev pub seq_line : Snapshot → Result (List (List Entry)) ℕ → List ℕ

@@ -1,5 +1,5 @@
 -- What a replay promises to those who stake on it.
-use Rattle.std.specs.Prelude.{◌≡◌, ℕ, List, All, Option}
+use Rattle.std.specs.Prelude.{ℕ, List, All, Option}
 use Rattle.npos_base.specs.Outside.{Told}
 use Rattle.npos_runtime.specs.declared.chain.Chain.{Chain}
 use Rattle.npos_runtime.specs.Outcome.{Election}

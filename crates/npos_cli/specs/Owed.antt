@@ -6,7 +6,7 @@ use Rattle.npos_cli.specs.declared.status.Status.TheVariants as statuses
 use Rattle.npos_cli.specs.Replay.{Machine, Outcome, IsReplay}
 use Rattle.npos_cli.specs.declared.job.Job.{Job}
 use Rattle.npos_cli.specs.Words.{job_of}
-use Rattle.npos_cli.specs.Report.{JobOwes, Owes}
+use Rattle.npos_cli.specs.Report.{JobOwes}
 
 -- The text was appended whole, and all that was ever written is flushed.
 -- Nothing is said of a sink that does not tell its bytes.

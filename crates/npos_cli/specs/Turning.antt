@@ -1,6 +1,5 @@
 -- What the reader of a stream does at one place, and until the end.
 use Rattle.std.specs.Prelude.{◌≡◌, ◌⊎◌, ◌<◌, ⊤, ℕ, ◌≤◌, Bool, true, false, List, [], ◌++◌, length, Option, None, Result, Ok, Err}
-use Rattle.scale_wire.specs.declared.fault.Why.{Why}
 use Rattle.scale_wire.specs.declared.fault.Why.TheVariants.{Short, Trailing}
 use Rattle.npos_base.specs.Outside.{Told, Appends}
 use Rattle.scale_wire.specs.Reading.{Place}

@@ -1,11 +1,11 @@
 //! What `demo` makes of a generated election.
-ghost use Rattle.std.specs.Prelude.{◌≡◌, ◌≢◌, ◌++◌, ◌≤◌, ℕ, None, Ok, Err, List as list, IfOk, IfErr, IsErr, OnOk};
+ghost use Rattle.std.specs.Prelude.{◌≡◌, ◌++◌, ◌≤◌, ℕ, None, Result as result_of, List as list, IfOk, OnOk};
 ghost use Rattle.compact_solution.specs.Solution.{Entry as entry};
 ghost use Rattle.weight_book.specs.Weights.{IsFeasible};
 ghost use Rattle.election_check.specs.Packed.{expand_fault};
 ghost use Rattle.election_check.specs.Laws.{packed_of};
 ghost use Rattle.seq_phragmen.specs.Mined.{mined};
-ghost use Rattle.npos_cli.specs.Demo.{fill_line, seq_line, election_text, demo_report};
+ghost use Rattle.npos_cli.specs.Demo.{IsPackedAs, fill_line, seq_line, election_text, demo_report};
 
 use crate::checking::checker_of;
 use crate::mining::{Judged, judge, packed_weights};
@@ -22,11 +22,8 @@ use weight_book::Weights;
 
 /// The weights of sequential Phragmén, packed.
 fn packed_by_load(alloc: Global, snapshot: &Snapshot) -> Result<Solution, PackFault>
-    ensures solution { IfOk result (λ solution. packed_of snapshot.now (mined snapshot.now) ≡ Ok solution) }
+    ensures packed { IsPackedAs (packed_of snapshot.now (mined snapshot.now)) result }
     ensures sound { IfOk result (λ solution. expand_fault snapshot.now solution ≡ None) }
-    ensures lost { IfErr result (λ fault. fault ≢ PackFault.NoMemory → (member : ℕ)
-        × (fault ≡ PackFault.LostWinner member)
-        × (packed_of snapshot.now (mined snapshot.now) ≡ Err member)) }
 {
     let weights = mine_seq(alloc, snapshot)?;
     packed_weights(alloc, snapshot, &weights)
@@ -52,11 +49,8 @@ fn tell_packed(
     packed: Result<Solution, PackFault>,
 ) -> Result<(), NoMemory>
     requires { IfOk packed (λ solution. expand_fault checker.old solution ≡ None) }
-    ensures solution { (solution : list (list entry)) → packed ≡ Ok solution
-        → OnOk result (text.new.items ≡ text.old.items ++ seq_line checker.old (Ok solution)) }
-    ensures lost { (member : ℕ) → packed ≡ Err (PackFault.LostWinner member)
-        → OnOk result (text.new.items ≡ text.old.items ++ seq_line checker.old (Err member)) }
-    ensures memory { packed ≡ Err PackFault.NoMemory → IsErr result }
+    ensures { (due : result_of (list (list entry)) ℕ) → IsPackedAs due packed
+        → OnOk result (text.new.items ≡ text.old.items ++ seq_line checker.old due) }
 {
     match packed {
         Ok(solution) => {

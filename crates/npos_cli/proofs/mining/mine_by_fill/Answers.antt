@@ -1,4 +1,4 @@
-use Rattle.std.proofs.Common.{ap, subst, sym, ◌∙◌}
+use Rattle.std.proofs.Common.{subst, sym, ◌∙◌}
 use Rattle.election_snapshot.specs.Snapshot.{Snapshot}
 use Rattle.weight_book.specs.Weights.{Weights, IsFeasible}
 use Rattle.quota_fill.proofs.PassingLemmas.{fill_passes}

@@ -1,5 +1,4 @@
 use Rattle.std.proofs.Common.{◌≡◌, ◌≢◌, subst, IfOk, IfErr, ℕ, List, Result, Ok, Err}
-use Rattle.compact_solution.specs.declared.packing.PackFault.{PackFault}
 use Rattle.compact_solution.specs.declared.packing.PackFault.TheVariants as faults
 use Rattle.compact_solution.specs.Solution.{Entry}
 use Rattle.npos_cli.proofs.MineLaws.{packable_as, packed_as, packed_soundly}

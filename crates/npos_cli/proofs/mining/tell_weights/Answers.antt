@@ -1,4 +1,4 @@
-use Rattle.std.proofs.Common.{rules, arith, ◌≡◌, ◌<◌, List, ◌++◌, length, ap, ◌∙◌}
+use Rattle.std.proofs.Common.{arith, ◌<◌, ◌++◌, length, ap, ◌∙◌}
 use Rattle.std.proofs.lemmas.List.Sorted.{All-permutation}
 use Rattle.npos_base.specs.declared.figures.Score.{Score}
 use Rattle.weight_book.proofs.StakeLemmas.{amounts_within}

@@ -1,6 +1,6 @@
 use Rattle.std.proofs.Common.{map, string_bytes, true, false}
 use Rattle.npos_base.specs.Outside.{Rose}
-use Rattle.npos_cli.proofs.PromiseLaws.{usage_due, comes_owed, usage_front_of, done_of, bad_of, comes_of, front_of}
+use Rattle.npos_cli.proofs.PromiseLaws.{usage_due, usage_comes, comes_owed, usage_front_of, done_of, bad_of, comes_of, front_of}
 use Rattle.npos_cli.proofs.promises.run_by_status.Goals as goal
 
 pub returns-clause-usage_front : goal.returns-clause-usage_front
@@ -40,3 +40,8 @@ returns-clause-owed_comes g c = λ text due owed. comes_owed (map string_bytes c
 pub returns-clause-usage : goal.returns-clause-usage
 returns-clause-usage g c = usage_due (map string_bytes c.args.words.now) (g.S.Source.left c.args.source.now) (g.K.Sink.told c.args.sink.now)
     (g.K.Sink.told c.run.new.sink) c.run.result c.run.ensures.answers
+
+pub returns-clause-usage_comes : goal.returns-clause-usage_comes
+returns-clause-usage_comes g c = usage_comes (map string_bytes c.args.words.now) (g.S.Source.left c.args.source.now) (g.K.Sink.told c.args.sink.now) (g.K.Sink.told c.run.new.sink)
+    c.run.result (Rose (g.S.Source.faults c.args.source.now) (g.S.Source.faults c.run.new.source)) (Rose (g.K.Sink.faults c.args.sink.now) (g.K.Sink.faults c.run.new.sink))
+    c.run.ensures.answers c.run.ensures.read_fault c.run.ensures.write_fault

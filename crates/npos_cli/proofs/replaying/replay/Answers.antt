@@ -1,4 +1,4 @@
-use Rattle.std.proofs.Common.{rules, subst, List, ℕ, Ok, Err}
+use Rattle.std.proofs.Common.{subst, List, ℕ, Ok, Err}
 use Rattle.std.proofs.lemmas.Result.{err_from_is_err_and}
 use Rattle.npos_cli.specs.Owed.{Puts}
 use Rattle.npos_cli.proofs.CourseLaws.{finished_cut, finished_unflushed}

@@ -1,4 +1,4 @@
-use Rattle.std.proofs.Common.{rules, ◌≡◌, ◌+◌, ◌≤◌, ◌<◌, false, length, refl, ap, ◌∙◌, Ok, arith, length-append}
+use Rattle.std.proofs.Common.{rules, ◌≡◌, ◌+◌, length, refl, ap, ◌∙◌, Ok, arith, length-append}
 use Rattle.std.proofs.lemmas.Result.{err_from_is_err_and}
 use Rattle.scale_wire.specs.Reading.{Place}
 use Rattle.npos_cli.specs.declared.replaying.Stop.TheVariants.{More, Last}

@@ -1,4 +1,4 @@
-use Rattle.std.proofs.Common.{rules, ◌≡◌, ◌++◌, ◌+◌, ℕ, List, [], ◌∷◌, Bool, true, false, Some, None, sym, ap, ◌∙◌}
+use Rattle.std.proofs.Common.{rules, ◌≡◌, ◌++◌, ◌+◌, true, false, Some, None, ◌∙◌}
 use Rattle.scale_wire.specs.Reading.{IsRead, IsFault}
 use Rattle.npos_runtime.specs.declared.runtime.BlockFault.TheVariants.{WrongNumber}
 use Rattle.npos_runtime.specs.Life.{HasFault}

@@ -1,4 +1,4 @@
-use Rattle.std.proofs.Common.{Some, List, ℕ, subst, rules, ◌≡◌}
+use Rattle.std.proofs.Common.{Some, rules}
 use Rattle.npos_cli.specs.declared.job.Job.TheVariants as jobs
 use Rattle.npos_cli.specs.Owed.{Delivers, DeliversFront}
 use Rattle.npos_cli.proofs.StatusLaws.{found_answers}

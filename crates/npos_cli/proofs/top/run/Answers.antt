@@ -1,4 +1,3 @@
-use Rattle.std.proofs.Common.{rules}
 use Rattle.npos_cli.proofs.StreamLaws.{stream_done}
 use Rattle.npos_cli.proofs.top.run.Goals as goal
 
