@@ -31,7 +31,10 @@ impl Wire for Call {
     }
 
     fn read(alloc: Global, cursor: &mut Cursor<'_>) -> Result<Call, ReadFault> {
-        let (who, kind) = <(AccountId, CallKind)>::read(alloc, cursor)?;
+        let mut here = cursor.fork();
+        let who = AccountId::read(alloc, &mut here)?;
+        let kind = CallKind::read(alloc, &mut here)?;
+        *cursor = here;
         Ok(Call { who, kind })
     }
 }
@@ -158,76 +161,129 @@ fn write_kind(kind: &CallKind, pen: &mut Pen) -> Result<(), NoMemory>
     }
 }
 
-// The fields of the kind with this number.
+// The fields of the kind with this number. Each kind has a function of its own, since a function
+// clears the room of all its values where it begins.
 fn read_fields(alloc: Global, tag: u8, cursor: &mut Cursor<'_>) -> Result<CallKind, ReadFault>
     requires { tag < 15 }
     ensures { Reads (behind_tag kinds kind_choice tag) cursor.old result cursor.new }
 {
     match tag {
-        0 => {
-            let (to, value) = <(AccountId, u64)>::read(alloc, cursor)?;
-            Ok(CallKind::Transfer { to, value })
-        }
-        1 => {
-            let value = u64::read(alloc, cursor)?;
-            Ok(CallKind::Bond { value })
-        }
-        2 => {
-            let value = u64::read(alloc, cursor)?;
-            Ok(CallKind::BondExtra { value })
-        }
-        3 => {
-            let value = u64::read(alloc, cursor)?;
-            Ok(CallKind::Unbond { value })
-        }
-        4 => {
-            let value = u64::read(alloc, cursor)?;
-            Ok(CallKind::Rebond { value })
-        }
+        0 => read_transfer(alloc, cursor),
+        1 => read_bond(alloc, cursor),
+        2 => read_bond_extra(alloc, cursor),
+        3 => read_unbond(alloc, cursor),
+        4 => read_rebond(alloc, cursor),
         5 => Ok(CallKind::Withdraw),
-        6 => {
-            let targets = <UpTo<AccountId, MOST_NAMED>>::read(alloc, cursor)?.into_list();
-            Ok(CallKind::Nominate { targets })
-        }
-        7 => {
-            let commission = u32::read(alloc, cursor)?;
-            Ok(CallKind::Validate { commission })
-        }
+        6 => read_nominate(alloc, cursor),
+        7 => read_validate(alloc, cursor),
         8 => Ok(CallKind::Chill),
-        9 => {
-            let whom = AccountId::read(alloc, cursor)?;
-            Ok(CallKind::Rebag { whom })
-        }
-        10 => {
-            let lighter = AccountId::read(alloc, cursor)?;
-            Ok(CallKind::PutInFront { lighter })
-        }
-        11 => {
-            let (round, claim, bytes) = <(u32, Score, Solution)>::read(alloc, cursor)?;
-            let bytes = bytes.into_list();
-            Ok(CallKind::Submit {
-                round,
-                claim,
-                bytes,
-            })
-        }
-        12 => {
-            let items = <UpTo<(AccountId, u32), MOST_POINTS>>::read(alloc, cursor)?.into_list();
-            Ok(CallKind::Points { items })
-        }
-        13 => {
-            let (era, validator) = <(u32, AccountId)>::read(alloc, cursor)?;
-            Ok(CallKind::Payout { era, validator })
-        }
-        _ => {
-            let (era, validator, fraction) = <(u32, AccountId, u32)>::read(alloc, cursor)?;
-            Ok(CallKind::Offence {
-                era,
-                validator,
-                fraction,
-            })
-        }
+        9 => read_rebag(alloc, cursor),
+        10 => read_put_in_front(alloc, cursor),
+        11 => read_submit(alloc, cursor),
+        12 => read_points(alloc, cursor),
+        13 => read_payout(alloc, cursor),
+        _ => read_offence(alloc, cursor),
     }
+}
+
+fn read_transfer(alloc: Global, cursor: &mut Cursor<'_>) -> Result<CallKind, ReadFault>
+    ensures { Reads (behind_tag kinds kind_choice 0) cursor.old result cursor.new }
+{
+    let (to, value) = <(AccountId, u64)>::read(alloc, cursor)?;
+    Ok(CallKind::Transfer { to, value })
+}
+
+fn read_bond(alloc: Global, cursor: &mut Cursor<'_>) -> Result<CallKind, ReadFault>
+    ensures { Reads (behind_tag kinds kind_choice 1) cursor.old result cursor.new }
+{
+    let value = u64::read(alloc, cursor)?;
+    Ok(CallKind::Bond { value })
+}
+
+fn read_bond_extra(alloc: Global, cursor: &mut Cursor<'_>) -> Result<CallKind, ReadFault>
+    ensures { Reads (behind_tag kinds kind_choice 2) cursor.old result cursor.new }
+{
+    let value = u64::read(alloc, cursor)?;
+    Ok(CallKind::BondExtra { value })
+}
+
+fn read_unbond(alloc: Global, cursor: &mut Cursor<'_>) -> Result<CallKind, ReadFault>
+    ensures { Reads (behind_tag kinds kind_choice 3) cursor.old result cursor.new }
+{
+    let value = u64::read(alloc, cursor)?;
+    Ok(CallKind::Unbond { value })
+}
+
+fn read_rebond(alloc: Global, cursor: &mut Cursor<'_>) -> Result<CallKind, ReadFault>
+    ensures { Reads (behind_tag kinds kind_choice 4) cursor.old result cursor.new }
+{
+    let value = u64::read(alloc, cursor)?;
+    Ok(CallKind::Rebond { value })
+}
+
+fn read_nominate(alloc: Global, cursor: &mut Cursor<'_>) -> Result<CallKind, ReadFault>
+    ensures { Reads (behind_tag kinds kind_choice 6) cursor.old result cursor.new }
+{
+    let targets = <UpTo<AccountId, MOST_NAMED>>::read(alloc, cursor)?.into_list();
+    Ok(CallKind::Nominate { targets })
+}
+
+fn read_validate(alloc: Global, cursor: &mut Cursor<'_>) -> Result<CallKind, ReadFault>
+    ensures { Reads (behind_tag kinds kind_choice 7) cursor.old result cursor.new }
+{
+    let commission = u32::read(alloc, cursor)?;
+    Ok(CallKind::Validate { commission })
+}
+
+fn read_rebag(alloc: Global, cursor: &mut Cursor<'_>) -> Result<CallKind, ReadFault>
+    ensures { Reads (behind_tag kinds kind_choice 9) cursor.old result cursor.new }
+{
+    let whom = AccountId::read(alloc, cursor)?;
+    Ok(CallKind::Rebag { whom })
+}
+
+fn read_put_in_front(alloc: Global, cursor: &mut Cursor<'_>) -> Result<CallKind, ReadFault>
+    ensures { Reads (behind_tag kinds kind_choice 10) cursor.old result cursor.new }
+{
+    let lighter = AccountId::read(alloc, cursor)?;
+    Ok(CallKind::PutInFront { lighter })
+}
+
+fn read_submit(alloc: Global, cursor: &mut Cursor<'_>) -> Result<CallKind, ReadFault>
+    ensures { Reads (behind_tag kinds kind_choice 11) cursor.old result cursor.new }
+{
+    let (round, claim, bytes) = <(u32, Score, Solution)>::read(alloc, cursor)?;
+    let bytes = bytes.into_list();
+    Ok(CallKind::Submit {
+        round,
+        claim,
+        bytes,
+    })
+}
+
+fn read_points(alloc: Global, cursor: &mut Cursor<'_>) -> Result<CallKind, ReadFault>
+    ensures { Reads (behind_tag kinds kind_choice 12) cursor.old result cursor.new }
+{
+    let items = <UpTo<(AccountId, u32), MOST_POINTS>>::read(alloc, cursor)?.into_list();
+    Ok(CallKind::Points { items })
+}
+
+fn read_payout(alloc: Global, cursor: &mut Cursor<'_>) -> Result<CallKind, ReadFault>
+    ensures { Reads (behind_tag kinds kind_choice 13) cursor.old result cursor.new }
+{
+    let (era, validator) = <(u32, AccountId)>::read(alloc, cursor)?;
+    Ok(CallKind::Payout { era, validator })
+}
+
+fn read_offence(alloc: Global, cursor: &mut Cursor<'_>) -> Result<CallKind, ReadFault>
+    ensures { Reads (behind_tag kinds kind_choice 14) cursor.old result cursor.new }
+{
+    let (era, validator, fraction) = <(u32, AccountId, u32)>::read(alloc, cursor)?;
+    Ok(CallKind::Offence {
+        era,
+        validator,
+        fraction,
+    })
 }
 
 type Solution = BytesUpTo<MOST_SOLUTION_BYTES>;

@@ -1,4 +1,5 @@
 pub mod Account
+pub mod Adapted
 pub mod Kept
 pub mod Memory
 pub mod Outside

@@ -27,7 +27,7 @@ pub use no_memory::NoMemory;
 pub use outside::{Failed, PutFault, Sink, Source, put_all};
 pub use plain::{PlainSink, PlainSource};
 pub use room::Room;
-pub use standard::{StdinSource, StdoutSink};
+pub use standard::{ReadSource, StdinSource, StdoutSink, WriteSink};
 
 #[cfg(test)]
 mod tests;

@@ -1,7 +1,8 @@
 //! One walk through the crate's calls with ample memory, which no contract promises.
 use crate::{
     AccountId, Failed, List, MemorySink, MemorySource, NoMemory, PlainSink, PlainSource, PutFault,
-    Room, Score, Sink, Source, StdinSource, StdoutSink, laws, part_of, put_all,
+    ReadSource, Room, Score, Sink, Source, StdinSource, StdoutSink, WriteSink, laws, part_of,
+    put_all,
 };
 use std::alloc::{AllocError, Global};
 use std::test::Fail;
@@ -116,6 +117,17 @@ fn the_others_never_fail(rt: HostRuntime) -> Result<(), Fail> {
     let mut sink = PlainSink::new(rt.alloc(), 3)?;
     assert_eq!(rt; put_all(&mut sink, &buffer[..5]), Ok(()));
     assert_eq!(rt; sink.kept(), b"lot".as_slice());
+    Ok(())
+}
+
+#[test]
+fn readers_and_writers_are_sources_and_sinks(rt: HostRuntime) -> Result<(), Fail> {
+    let mut buffer = [0; 8];
+    let mut source = ReadSource::new(b"lotus".as_slice());
+    assert_eq!(rt; source.read(&mut buffer), Ok(5));
+    let mut sink = WriteSink::telling(Vec::new(rt.alloc()));
+    assert_eq!(rt; put_all(&mut sink, &buffer[..5]), Ok(()));
+    assert_eq!(rt; sink.flush(), Ok(()));
     assert_eq!(rt; StdinSource::new(rt.stdin()).read(&mut []), Ok(0));
     assert_eq!(rt; StdoutSink::new(rt.stdout()).flush(), Ok(()));
     Ok(())

@@ -10,7 +10,7 @@ use Rattle.scale_wire.specs.declared.fault.ReadFault.{ReadFault}
 use Rattle.scale_wire.specs.declared.fault.ReadFault.TheVariants as faults
 use Rattle.scale_wire.specs.Form.{IsBytes, Form, IsWire}
 use Rattle.scale_wire.specs.Reading.{BadWhole, ReadsWhole}
-use Rattle.scale_wire.specs.Laws.{IsWhole, IsRefusedWhole, IsDecidedWhole}
+use Rattle.scale_wire.specs.Laws.{IsWhole, IsRefusedWhole}
 use Rattle.scale_wire.specs.DecidedLaws.{decided_whole}
 
 bytes_or_not : (bytes : List ℕ) → Dec (IsBytes bytes)
