@@ -1,5 +1,5 @@
 -- Accounts keep their places, and rows that stand at the places are rows by account.
-use Rattle.std.proofs.Common.{◌≡◌, ◌≢◌, ◌∙◌, ℕ, zero, suc, ◌+◌, ◌<◌, Bool, true, false, cond, List, [], ◌∷◌, ◌++◌, length, get_or, slice_get, slice_set, Option, Some, None, option_map, unwrap_or, is_some, OnOk, refl, ap, ap₂, sym, subst, arith, true≢false}
+use Rattle.std.proofs.Common.{◌≡◌, ◌≢◌, ◌∙◌, ℕ, ◌+◌, ◌<◌, Bool, true, false, cond, List, [], ◌∷◌, ◌++◌, length, get_or, slice_set, Option, Some, None, option_map, unwrap_or, is_some, OnOk, refl, ap, ap₂, sym, subst, arith, true≢false}
 use Rattle.std.specs.declared.result.Result.{Result}
 use Rattle.std.specs.declared.result.Result.TheVariants.{Ok, Err}
 use Rattle.std.specs.BTreeMap.{insert_entry, is_at}
@@ -13,34 +13,21 @@ use Rattle.std.proofs.lemmas.Option.{same_Some}
 use Rattle.std.proofs.Math.Seq.{get_or-append_seam}
 use Rattle.std.proofs.lemmas.Map.{lookup-none}
 use Rattle.std.proofs.lemmas.Map.Entries.{none_below_head}
-use Rattle.std.proofs.lemmas.Map.Keys.{sorted_tail, sorted_head}
+use Rattle.std.proofs.lemmas.Map.Keys.{sorted_tail}
 use Rattle.std.proofs.lemmas.Cmp.{tied_itself}
 use Rattle.npos_base.specs.declared.account.AccountId.{AccountId}
 use Rattle.npos_base.specs.Account.{account_cmp}
-use Rattle.npos_base.proofs.AccountOrder.{account_total, account_exact, account_apart}
+use Rattle.npos_base.proofs.AccountOrder.{account_total, account_exact}
 use Rattle.stake_ledger.specs.declared.row.Row.{Row}
 use Rattle.stake_ledger.specs.Rows.{empty_row}
 use Rattle.stake_ledger.specs.Ledger.{row_in, row_of_entries, with_row}
-use Rattle.stake_ledger.specs.Places.{place_in, Stand, rows_placed, ArePlaced}
-use Rattle.npos_base.proofs.EntryLemmas.{sorted_put, lookup_put, lookup_other}
-
--- a test that answers yes knows the account
-tied : (who other : AccountId) → is_eq (account_cmp who other) ≡ true → who ≡ other
-tied who other e = by_order (account_cmp who other) refl e where
-  by_order : (r : Ordering) → account_cmp who other ≡ r → is_eq r ≡ true → who ≡ other
-  by_order Less is e = absurd (true≢false (sym e))
-  by_order Equal is e = account_exact who other is
-  by_order Greater is e = absurd (true≢false (sym e))
+use Rattle.account_places.specs.Places.{place_in}
+use Rattle.account_places.proofs.StandLemmas.{tied, one_longer, put_cases, not_again}
+use Rattle.stake_ledger.specs.Places.{rows_placed, ArePlaced}
+use Rattle.npos_base.proofs.EntryLemmas.{sorted_put}
 
 not_none : {A : Type 0} (x : A) → Some x ≢ None
 not_none x e = true≢false (ap is_some e)
-
--- behind an account by rising account, it does not stand again
-not_again : (first : AccountId × ℕ) (later : List (AccountId × ℕ)) → IsStrictlySortedBy account_cmp (keys_of (first ∷ later)) → place_in later first.0 ≡ None
-not_again first later ordered = lookup-none (is_at (account_cmp first.0)) later (none_past first.0 later (sorted_head account_cmp first.0 (keys_of later) ordered)) where
-  none_past : (who : AccountId) (es : List (AccountId × ℕ)) → Rattle.std.specs.List.AllByRecursion (λ y. account_cmp who y ≡ Less) (keys_of es) → Rattle.std.proofs.lemmas.Map.NonePasses (is_at (account_cmp who)) es
-  none_past who [] all = tt
-  none_past who (e ∷ es) all = (ap is_eq all.0, none_past who es all.1)
 
 -- who has a place behind the first has it among all
 place_behind : (first : AccountId × ℕ) (later : List (AccountId × ℕ)) (who : AccountId) (place : ℕ) → IsStrictlySortedBy account_cmp (keys_of (first ∷ later))
@@ -203,32 +190,6 @@ pub row_opened : (rows : List Row) (places : List (AccountId × ℕ)) (who : Acc
 row_opened rows places who row placed =
     ap (λ n. rows_placed (rows ++ row ∷ []) (insert_entry account_cmp places who n)) placed.count ∙ open_there rows places who row placed.ordered placed.within
 
-one_longer : (places : List (AccountId × ℕ)) (who : AccountId) (place : ℕ) → place_in places who ≡ None → length (insert_entry account_cmp places who place) ≡ length places + 1
-one_longer [] who place nowhere = refl
-one_longer (first ∷ later) who place nowhere = at (account_cmp who first.0) nowhere (one_longer later who place) where
-  at : (r : Ordering) → cond (is_eq r) (Some first.1) (place_in later who) ≡ None
-      → (place_in later who ≡ None → length (insert_entry account_cmp later who place) ≡ length later + 1)
-      → length (match_ordering r ((who, place) ∷ first ∷ later) ((first.0, place) ∷ later) (first ∷ insert_entry account_cmp later who place)) ≡ suc (length later) + 1
-  at Less e more = omega arith
-  at Equal e more = absurd (not_none first.1 e)
-  at Greater e more = omega (arith, more e)
-
--- of two accounts, one that has a place and one that had none are different
-different : (places : List (AccountId × ℕ)) (who other : AccountId) (place : ℕ) → place_in places who ≡ None → place_in places other ≡ Some place → other ≢ who
-different places who other place nowhere there same = not_none place (sym there ∙ ap (place_in places) same ∙ nowhere)
-
--- a place after another account got one
-put_cases : (places : List (AccountId × ℕ)) (who other : AccountId) (new place : ℕ) → place_in (insert_entry account_cmp places who new) other ≡ Some place
-    → (P : Type 0) → (other ≡ who → place ≡ new → P) → (other ≢ who → place_in places other ≡ Some place → P) → P
-put_cases places who other new place there P same differ = at (is_eq (account_cmp other who)) refl where
-  at : (b : Bool) → is_eq (account_cmp other who) ≡ b → P
-  at true e =
-      let is : other ≡ who = tied other who e in
-      same is (same_Some place new (sym there ∙ ap (place_in (insert_entry account_cmp places who new)) is ∙ lookup_put account_total who new places))
-  at false e =
-      differ (λ is. true≢false (sym (ap is_eq (ap (account_cmp other) (sym is) ∙ tied_itself account_total other)) ∙ e))
-      (sym (lookup_other account_total who new other places e) ∙ there)
-
 pub placed_opened : (rows : List Row) (places : List (AccountId × ℕ)) (who : AccountId) (row : Row) → ArePlaced rows places → place_in places who ≡ None
     → ArePlaced (rows ++ row ∷ []) (insert_entry account_cmp places who (length places))
 placed_opened rows places who row placed nowhere = record {
@@ -246,32 +207,12 @@ placed_opened rows places who row placed nowhere = record {
   past : (other : AccountId) (place : ℕ) → place_in places other ≡ Some place → place ≡ length places → ⊥
   past other place there is = omega (arith, placed.within other place there, is, placed.count)
 
--- accounts after one more came
-slice_left : {A : Type 0} (xs : List A) (y : A) (i : ℕ) (x : A) → slice_get xs i ≡ Some x → slice_get (xs ++ y ∷ []) i ≡ Some x
-slice_left [] y i x e = absurd (not_none x (sym e))
-slice_left (z ∷ xs) y zero x e = e
-slice_left (z ∷ xs) y (suc i) x e = slice_left xs y i x e
-
-slice_last : {A : Type 0} (xs : List A) (y : A) → slice_get (xs ++ y ∷ []) (length xs) ≡ Some y
-slice_last [] y = refl
-slice_last (x ∷ xs) y = slice_last xs y
-
-slice_cases : {A : Type 0} (xs : List A) (y : A) (i : ℕ) (x : A) → slice_get (xs ++ y ∷ []) i ≡ Some x → (P : Type 0) → (slice_get xs i ≡ Some x → P) → (x ≡ y → i ≡ length xs → P) → P
-slice_cases [] y zero x e P before last = last (same_Some x y (sym e)) refl
-slice_cases [] y (suc i) x e P before last = absurd (not_none x (sym e))
-slice_cases (z ∷ xs) y zero x e P before last = before e
-slice_cases (z ∷ xs) y (suc i) x e P before last = slice_cases xs y i x e P before (λ same is. last same (ap suc is))
-
-pub stand_more : (accounts : List AccountId) (places : List (AccountId × ℕ)) (who : AccountId) → Stand accounts places → place_in places who ≡ None
-    → Stand (accounts ++ who ∷ []) (insert_entry account_cmp places who (length accounts))
-stand_more accounts places who stand nowhere = record {
-  count = one_longer places who (length accounts) nowhere ∙ ap (λ n. n + 1) stand.count ∙ sym (length-append accounts (who ∷ []));
-  standing = λ other place there. put_cases places who other (length accounts) place there (slice_get (accounts ++ who ∷ []) place ≡ Some other)
-      (λ same is. ap (slice_get (accounts ++ who ∷ [])) is ∙ slice_last accounts who ∙ ap Some (sym same))
-      (λ differ before. slice_left accounts who place other (stand.standing other place before));
-  placed = λ other place there. slice_cases accounts who place other there (place_in (insert_entry account_cmp places who (length accounts)) other ≡ Some place)
-      (λ before.
-      let had : place_in places other ≡ Some place = stand.placed other place before in
-      lookup_other account_total who (length accounts) other places (account_apart other who (different places who other place nowhere had)) ∙ had)
-      (λ same is. ap (place_in (insert_entry account_cmp places who (length accounts))) same ∙ lookup_put account_total who (length accounts) places ∙ ap Some (sym is));
+-- no rows stand at no places
+pub placed_none : ArePlaced [] []
+unfolding IsStrictlySortedBy
+placed_none = record {
+  count = refl;
+  ordered = tt;
+  within = λ who place there. absurd (not_none place (sym there));
+  apart = λ who other place there here. absurd (not_none place (sym there));
 }

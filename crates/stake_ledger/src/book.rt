@@ -260,6 +260,18 @@ impl Book {
         };
     }
 
+    /// Whether the value may still be minted.
+    fn check_room(&self, value: u64) -> Result<(), LedgerRefusal>
+        ensures within { OnOk result (value ≤ room_of self.now) }
+        ensures ok { OnOk result (mint_refusal self.now value ≡ None) }
+        ensures refused { IfErr result (λ refusal. mint_refusal self.now value ≡ Some refusal) }
+    {
+        if value > self.room() {
+            return Err(LedgerRefusal::IssuanceCap);
+        }
+        Ok(())
+    }
+
     /// Makes the value, which is free for an account that is known. It takes no memory, and refuses
     /// with `IssuanceCap` where the value is above the room.
     pub fn mint_free(&mut self, who: AccountId, value: u64) -> Result<(), LedgerRefusal>
@@ -270,10 +282,25 @@ impl Book {
         ensures refused { IfErr result (λ refusal. mint_refusal self.old value ≡ Some refusal) }
         ensures others { OthersStay who self.old self.new }
     {
-        if value > self.room() {
-            return Err(LedgerRefusal::IssuanceCap);
-        }
+        self.check_room(value)?;
         self.rows.give(who, value);
+        self.totals.free += value;
+        self.totals.minted += value;
+        self.totals.issuance += value;
+        Ok(())
+    }
+
+    /// Makes the value, which is free for the account; its row is opened where it has none. It
+    /// refuses with `IssuanceCap` where the value is above the room.
+    pub fn mint(&mut self, who: AccountId, value: u64) -> Result<(), LedgerRefusal>
+        ensures ok { OnOk result ((mint_refusal self.old value ≡ None)
+            × (self.new ≡ minted_free who value self.old)) }
+        ensures err { OnErr result (self.new ≡ self.old) }
+        ensures refused { IfErr result (IsDue refusals.NoMemory (mint_refusal self.old value)) }
+        ensures others { OthersStay who self.old self.new }
+    {
+        self.check_room(value)?;
+        self.rows.gain(who, value)?;
         self.totals.free += value;
         self.totals.minted += value;
         self.totals.issuance += value;
@@ -287,12 +314,10 @@ impl Book {
         ensures after { self.new ≡ slashed who amount self.old }
         ensures others { OthersStay who self.old self.new }
     {
-        if !self.bonded(who) {
-            return 0;
-        }
         match self.call(who, RowCall::Slash { amount }) {
             Ok(burned) => burned,
-            Err(_) => unreachable!(),
+            // Nothing is bonded.
+            Err(_) => 0,
         }
     }
 

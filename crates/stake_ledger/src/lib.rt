@@ -6,9 +6,7 @@
 mod book;
 mod call;
 mod chunks;
-mod hints;
 mod parts;
-mod places;
 mod refusal;
 mod row;
 mod rows;

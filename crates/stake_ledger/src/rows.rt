@@ -13,9 +13,9 @@ ghost use Rattle.stake_ledger.specs.RowCalls.{MayAnswer, row_refusal, row_after,
 
 use crate::call::RowCall;
 use crate::parts::Done;
-use crate::places::Places;
 use crate::refusal::LedgerRefusal;
 use crate::row::Row;
+use account_places::Places;
 use npos_base::{AccountId, NoMemory};
 use std::alloc::Global;
 use std::marker::Model;
@@ -33,13 +33,14 @@ impl Model for Rows {
     ghost use Rattle.std.specs.Prelude.{List};
     ghost use Rattle.npos_base.specs.declared.account.AccountId.{AccountId};
     ghost use Rattle.stake_ledger.specs.declared.row.Row.{Row};
+    ghost use Rattle.account_places.specs.Places.{by_account};
     ghost use Rattle.stake_ledger.specs.Places.{ArePlaced, rows_placed};
 
     ghost Value = { List (AccountId × Row) };
 
-    ghost view = { λ r. rows_placed r.rows.items r.places };
+    ghost view = { λ r. rows_placed r.rows.items (by_account r.places) };
 
-    ghost invariant = { λ r. ArePlaced r.rows.items r.places };
+    ghost invariant = { λ r. ArePlaced r.rows.items (by_account r.places) };
 }
 
 impl Rows {

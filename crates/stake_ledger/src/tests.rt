@@ -224,3 +224,18 @@ fn stake_is_minted(rt: HostRuntime) -> Result<(), Fail> {
     );
     Ok(())
 }
+
+/// What is free for an account that was not known after 7 was minted to it, and whether more than
+/// may be issued is refused.
+fn opening_mints(alloc: Global) -> Result<(u64, bool), LedgerRefusal> {
+    let mut book = Book::new(alloc);
+    book.mint(SECOND, 7)?;
+    let refused = matches!(book.mint(FIRST, u64::MAX), Err(LedgerRefusal::IssuanceCap));
+    Ok((book.free(SECOND), refused && !book.knows(FIRST)))
+}
+
+#[test]
+fn minting_opens_a_row(rt: HostRuntime) -> Result<(), Fail> {
+    assert_eq!(rt; opening_mints(rt.alloc())?, (7, true));
+    Ok(())
+}

@@ -4,11 +4,12 @@ use Rattle.std.specs.List.{IsDistinct, AllByRecursion}
 use Rattle.npos_base.specs.declared.account.AccountId.{AccountId}
 use Rattle.npos_base.specs.Account.{same_account}
 use Rattle.npos_base.proofs.AccountOrder.{same_itself}
+use Rattle.account_places.specs.Places.{place_in, by_account}
 use Rattle.voter_lists.specs.Bags.{walk, is_in}
 use Rattle.voter_lists.specs.BagRows.{falling, holds, walk_from, AreNoted}
 use Rattle.voter_lists.specs.Rings.{items, IsIn, IsApart}
 use Rattle.voter_lists.specs.declared.nodes.Nodes.{Nodes}
-use Rattle.voter_lists.specs.Nodes.{account_at, place_in, bags_in, home_of, AreLinked}
+use Rattle.voter_lists.specs.Nodes.{account_at, bags_in, home_of, AreLinked}
 use Rattle.voter_lists.proofs.HomeLemmas.{by_same, number_test, number_tie}
 use Rattle.voter_lists.proofs.NodeLemmas.{only_key, bag_read, bags_length}
 use Rattle.voter_lists.proofs.WalkLemmas.{falling_apart, walk_falls}
@@ -69,11 +70,11 @@ module _ (account : ℕ → AccountId) where
 
 pub walk_once : (thresholds : List ℕ) (nodes : Nodes) → AreLinked thresholds nodes → IsDistinct same_account (walk (walk_from 0 (bags_in nodes)))
 walk_once thresholds nodes linked =
-    let account = account_at nodes.accounts.items in
+    let account = account_at nodes.places in
     subst (IsDistinct same_account) (sym (walk_falls 0 (bags_in nodes)))
     (distinct_falling (home_of nodes) 0 (bags_in nodes) linked.homes.noted
     (λ i lt.
     let below : i < nodes.bags = omega (arith, lt, bags_length nodes.rings account nodes.bags) in
     subst (IsDistinct same_account) (sym (bag_read nodes.rings account nodes.bags i below))
     (distinct_keys account (items nodes.rings i) (linked.standing.fit.apart i)
-    (λ k j a b same. only_key nodes.rings nodes.accounts.items (place_in nodes.places.entries) nodes.bags linked.standing j i (linked.standing.fit.owned i j b) below k a same))))
+    (λ k j a b same. only_key nodes.rings nodes.places (place_in (by_account nodes.places)) nodes.bags linked.standing j i (linked.standing.fit.owned i j b) k a same))))

@@ -11,5 +11,6 @@ pub mod LinkedLemmas
 pub mod ScoreLemmas
 pub mod DistinctLemmas
 pub mod PlaceLemmas
+pub mod StandingLemmas
 pub mod OneWalkLemmas
 pub mod RepeatLemmas

@@ -3,12 +3,13 @@ use Rattle.std.proofs.Common.{◌≡◌, ◌∙◌, ℕ, ◌+◌, ◌<◌, List,
 use Rattle.std.specs.Option.{option_map}
 use Rattle.std.proofs.lemmas.Option.{none-some}
 use Rattle.npos_base.specs.declared.account.AccountId.{AccountId}
+use Rattle.account_places.specs.Places.{place_in, by_account}
 use Rattle.voter_lists.specs.Bag.{without, with_before}
 use Rattle.voter_lists.specs.Bags.{walk, account_after}
 use Rattle.voter_lists.specs.BagRows.{walk_from, falling, AreHomes}
 use Rattle.voter_lists.specs.Rings.{items, list_of, after}
 use Rattle.voter_lists.specs.declared.nodes.Nodes.{Nodes}
-use Rattle.voter_lists.specs.Nodes.{account_at, place_in, list_at, bags_in, home_of, moved_bags, ahead, IsStanding, IsTop, Becomes, Stays, AreLinked}
+use Rattle.voter_lists.specs.Nodes.{account_at, list_at, bags_in, home_of, moved_bags, ahead, IsStanding, IsTop, Becomes, Stays, AreLinked}
 use Rattle.voter_lists.proofs.HomeLemmas.{by_same}
 use Rattle.voter_lists.proofs.LinkLemmas.{from_first, from_step}
 use Rattle.voter_lists.proofs.ListingLemmas.{homes_alike, joined_homes, left_homes, before_homes, moved_homes}
@@ -32,14 +33,14 @@ found_home home (Some at) number P Q found absent = sym (ap is_some found.1)
 
 -- the bags below a number, from the one under it
 module _ (nodes : Nodes) (number : ℕ) (lt : number < nodes.bags) where
-  pub top_first : falling (take (number + 1) (bags_in nodes)) ≡ map (account_at nodes.accounts.items) (items nodes.rings number) ++ falling (take number (bags_in nodes))
+  pub top_first : falling (take (number + 1) (bags_in nodes)) ≡ map (account_at nodes.places) (items nodes.rings number) ++ falling (take number (bags_in nodes))
   top_first =
-      falling_take (bags_in nodes) number (subst (λ n. number < n) (sym (bags_length nodes.rings (account_at nodes.accounts.items) nodes.bags)) lt)
-      ∙ ap (λ bag. bag ++ falling (take number (bags_in nodes))) (bag_read nodes.rings (account_at nodes.accounts.items) nodes.bags number lt)
+      falling_take (bags_in nodes) number (subst (λ n. number < n) (sym (bags_length nodes.rings (account_at nodes.places) nodes.bags)) lt)
+      ∙ ap (λ bag. bag ++ falling (take number (bags_in nodes))) (bag_read nodes.rings (account_at nodes.places) nodes.bags number lt)
 
   -- a bag without a head has no account
   pub top_none : slice_get (items nodes.rings number) 0 ≡ None → falling (take (number + 1) (bags_in nodes)) ≡ falling (take number (bags_in nodes))
-  top_none none = top_first ∙ ap (λ keys. map (account_at nodes.accounts.items) keys ++ falling (take number (bags_in nodes))) (no_first (items nodes.rings number) none) where
+  top_none none = top_first ∙ ap (λ keys. map (account_at nodes.places) keys ++ falling (take number (bags_in nodes))) (no_first (items nodes.rings number) none) where
     no_first : (keys : List ℕ) → slice_get keys 0 ≡ None → keys ≡ []
     no_first [] e = refl
     no_first (key ∷ keys) e = absurd (none-some key (sym e))
@@ -47,44 +48,35 @@ module _ (nodes : Nodes) (number : ℕ) (lt : number < nodes.bags) where
 -- where a walk that is in no bag goes on
 pub ahead_top : (nodes : Nodes) (below number place : ℕ) → IsTop nodes below number place → ahead nodes below None ≡ ahead nodes number (Some place)
 ahead_top nodes below number place top =
-    top.rest ∙ ap (λ keys. map (account_at nodes.accounts.items) keys ++ falling (take number (bags_in nodes))) (sym (from_first place (items nodes.rings number) top.head))
+    top.rest ∙ ap (λ keys. map (account_at nodes.places) keys ++ falling (take number (bags_in nodes))) (sym (from_first place (items nodes.rings number) top.head))
 
 -- a walk passes one account
 pub ahead_step : (nodes : Nodes) (number place : ℕ) → IsStanding nodes → list_of nodes.rings place ≡ Some number
-    → ahead nodes number (Some place) ≡ account_at nodes.accounts.items place ∷ ahead nodes number (after place (items nodes.rings number))
+    → ahead nodes number (Some place) ≡ account_at nodes.places place ∷ ahead nodes number (after place (items nodes.rings number))
 ahead_step nodes number place standing linked =
-    ap (λ keys. map (account_at nodes.accounts.items) keys ++ falling (take number (bags_in nodes)))
+    ap (λ keys. map (account_at nodes.places) keys ++ falling (take number (bags_in nodes)))
     (from_step place (items nodes.rings number) (standing.fit.apart number) (standing.fit.listed number place linked))
 
 module _ (thresholds : List ℕ) (nodes : Nodes) (linked : AreLinked thresholds nodes) where
   pub bag_count : length (bags_in nodes) ≡ nodes.bags
-  bag_count = bags_length nodes.rings (account_at nodes.accounts.items) nodes.bags
+  bag_count = bags_length nodes.rings (account_at nodes.places) nodes.bags
 
-  -- an account in no bag has no place
-  pub no_place : (who : AccountId) → home_of nodes who ≡ None → place_in nodes.places.entries who ≡ None
-  no_place who absent = at (place_in nodes.places.entries who) refl where
-    at : (o : Option ℕ) → place_in nodes.places.entries who ≡ o → o ≡ None
-    at None e = refl
-    at (Some place) e =
-        let l = linked.standing.linked who place e in
-        absurd (none-some l.0 (sym absent ∙ ap (list_at nodes.rings) e ∙ l.1))
-
-  pub in_its_bag : (who : AccountId) (place number : ℕ) → place_in nodes.places.entries who ≡ Some place → home_of nodes who ≡ Some number → list_of nodes.rings place ≡ Some number
+  pub in_its_bag : (who : AccountId) (place number : ℕ) → place_in (by_account nodes.places) who ≡ Some place → home_of nodes who ≡ Some number → list_of nodes.rings place ≡ Some number
   in_its_bag who place number there home = sym (ap (list_at nodes.rings) there) ∙ home
 
   -- the account after another, in its bag or in a lower one
-  pub after_is : (who : AccountId) (place number : ℕ) → place_in nodes.places.entries who ≡ Some place → home_of nodes who ≡ Some number → number < nodes.bags
+  pub after_is : (who : AccountId) (place number : ℕ) → place_in (by_account nodes.places) who ≡ Some place → home_of nodes who ≡ Some number → number < nodes.bags
       → account_after (walk (walk_from 0 (bags_in nodes))) who
-      ≡ or_first (option_map (account_at nodes.accounts.items) (after place (items nodes.rings number))) (falling (take number (bags_in nodes)))
+      ≡ or_first (option_map (account_at nodes.places) (after place (items nodes.rings number))) (falling (take number (bags_in nodes)))
   after_is who place number there home lt =
-      let account = account_at nodes.accounts.items in
+      let account = account_at nodes.places in
       let list = in_its_bag who place number there home in
       let owner : account place ≡ who = linked.standing.placed who place there in
       after_walk (home_of nodes) who number (bags_in nodes) [] home linked.homes.noted (subst (λ n. number < n) (sym bag_count) lt)
       ∙ ap (λ next. or_first next (walk (walk_from 0 (take number (bags_in nodes)))))
       (ap (λ bag. account_after bag who) (bag_read nodes.rings account nodes.bags number lt)
       ∙ ap (account_after (map account (items nodes.rings number))) (sym owner)
-      ∙ accounts_after account (items nodes.rings number) place (only_key nodes.rings nodes.accounts.items (place_in nodes.places.entries) nodes.bags linked.standing place number list lt))
+      ∙ accounts_after account (items nodes.rings number) place (only_key nodes.rings nodes.places (place_in (by_account nodes.places)) nodes.bags linked.standing place number list))
       ∙ ap (or_first (option_map account (after place (items nodes.rings number)))) (walk_falls 0 (take number (bags_in nodes)))
 
   pub walk_is : walk (walk_from 0 (bags_in nodes)) ≡ falling (take nodes.bags (bags_in nodes))

@@ -4,21 +4,16 @@ use Rattle.std.proofs.lemmas.List.{append-nil}
 use Rattle.std.proofs.Math.ListN.{length-replicate}
 use Rattle.std.specs.List.{slice_set}
 use Rattle.std.proofs.Math.ListN.{length-set}
-use Rattle.std.specs.BTreeMap.{is_at}
 use Rattle.npos_base.specs.declared.account.AccountId.{AccountId}
-use Rattle.npos_base.specs.Account.{account_cmp, same_account}
-use Rattle.npos_base.proofs.AccountOrder.{same_ordered, same_itself}
+use Rattle.npos_base.specs.Account.{same_account}
+use Rattle.npos_base.proofs.AccountOrder.{same_itself}
 use Rattle.voter_lists.specs.Bags.{Order, in_bag, in_walk_order, IsRisingFrom, from_bag, joined, left, placed_before, number_of, is_listed, is_in}
 use Rattle.voter_lists.specs.Bag.{without, with_before}
 use Rattle.voter_lists.specs.BagRows.{numbered, walk_from, holds, AreNoted, AreHomes}
-use Rattle.voter_lists.specs.Nodes.{place_in, moved_bags, NotedAnew}
+use Rattle.voter_lists.specs.Nodes.{moved_bags, NotedAnew}
 use Rattle.npos_base.specs.declared.limits.TheConstants.{MOST_THRESHOLDS}
 use Rattle.voter_lists.proofs.HomeLemmas.{by_same, joined_other, joined_here, left_other, left_here, before_other, before_here, only_left, only_walk, noted_at, noted_join, noted_leave, noted_before, number_noted, noted_alike, noted_empty, number_same, number_test}
 use Rattle.voter_lists.proofs.WalkLemmas.{Lists, walk_lists, walk_of_lists, lists_at, lists_set}
-
-pub noted_anew : (homes now : List (AccountId × ℕ)) (who : AccountId) (noted : Option ℕ) → place_in now who ≡ noted
-    → ((q : AccountId) → is_at (account_cmp who) q ≡ false → place_in now q ≡ place_in homes q) → NotedAnew (place_in homes) (place_in now) who noted
-noted_anew homes now who noted here others = record { here = here; others = λ q differ. others q (same_ordered q who differ) }
 
 module _ (thresholds : List ℕ) (bags : List (List AccountId)) (home : AccountId → Option ℕ) (h : AreHomes thresholds bags home) where
   -- what the list says is what is noted

@@ -1,18 +1,19 @@
 -- What the bags and the homes are after a node leaves one list for another.
-use Rattle.std.proofs.Common.{◌≡◌, ◌≢◌, ℕ, ◌<◌, true, false, List, [], ◌∷◌, ◌++◌, length, map, get_or, slice_get, Option, Some, None, refl, true≢false, sym, ap, ap₂, ◌∙◌, subst, inl, inr, arith, zero-add, replicate, length-set, get_or-set_same, get_or-set_other}
+use Rattle.std.proofs.Common.{◌≡◌, ◌≢◌, ℕ, ◌<◌, ◌≤◌, true, false, List, [], ◌∷◌, ◌++◌, length, map, get_or, slice_get, Option, Some, None, refl, true≢false, sym, ap, ap₂, ◌∙◌, subst, inl, inr, arith, zero-add, replicate, length-set, get_or-set_same, get_or-set_other}
 use Rattle.std.specs.List.{slice_set}
 use Rattle.std.specs.Option.{option_map}
 use Rattle.std.proofs.lemmas.Bool.{cases_eq, cond-true, cond-false, not_from_true, not_from_false}
 use Rattle.std.proofs.lemmas.List.{ext_get_or, get_or_append_left, length_push, map_push, length-replicate, get_or-replicate}
 use Rattle.std.proofs.lemmas.List.FromFn.{length-map-range_with_len, get_or-map-range_with_len}
 use Rattle.std.proofs.lemmas.Option.{none-some, same_Some}
+use Rattle.std.proofs.Math.Seq.{get_or-append_seam}
 use Rattle.npos_base.specs.declared.account.AccountId.{AccountId}
 use Rattle.npos_base.specs.Account.{same_account}
 use Rattle.npos_base.proofs.AccountOrder.{same_itself}
 use Rattle.voter_lists.specs.Bag.{without, with_before}
 use Rattle.voter_lists.specs.Bags.{account_after}
 use Rattle.voter_lists.specs.Rings as keyed
-use Rattle.voter_lists.specs.Rings.{Lists, items, list_of, list_count, key_limit, IsIn, IsFit, Relinks, SameLists, Moves}
+use Rattle.voter_lists.specs.Rings.{Lists, items, list_of, list_count, key_limit, IsIn, IsApart, IsFit, Relinks, SameLists}
 use Rattle.voter_lists.specs.Nodes.{account_at, list_at, bags_of, moved_bags, Stand, NotedAnew}
 use Rattle.voter_lists.proofs.HomeLemmas.{by_same}
 use Rattle.voter_lists.proofs.LinkLemmas.{without_head, without_past, before_here, before_past, after_here, after_past, IsIn-without}
@@ -134,100 +135,72 @@ home_same rings new None same = refl
 home_same rings new (Some p) same = same p refl
 
 -- what a change of the nodes makes of bags and homes
-pub record Moved (rings new : Lists) (accounts now : List AccountId) (place_of place_now : AccountId → Option ℕ) (count : ℕ) (bags : List (List AccountId)) (who : AccountId) (noted : Option ℕ) : Type 0 where
-  pub standing : Stand new now place_now count
-  pub lists : bags_of new (account_at now) count ≡ bags
-  pub homes : NotedAnew (λ q. list_at rings (place_of q)) (λ q. list_at new (place_now q)) who noted
+pub record Moved (rings new : Lists) (accounts : List AccountId) (place_of : AccountId → Option ℕ) (count : ℕ) (bags : List (List AccountId)) (who : AccountId) (noted : Option ℕ) : Type 0 where
+  pub standing : Stand new accounts place_of count
+  pub lists : bags_of new (account_at accounts) count ≡ bags
+  pub homes : NotedAnew (λ q. list_at rings (place_of q)) (λ q. list_at new (place_of q)) who noted
 
 module _ (rings : Lists) (accounts : List AccountId) (place_of : AccountId → Option ℕ) (count : ℕ) (stand : Stand rings accounts place_of count) where
   -- an account of a bag has one key there
-  pub only_key : (place n : ℕ) → list_of rings place ≡ Some n → n < count → (key : ℕ) → IsIn key (items rings n) → account_at accounts key ≡ account_at accounts place → key ≡ place
-  only_key place n linked lt key found same =
-      same_Some key place (sym (stand.back key n (stand.fit.owned n key found) lt) ∙ ap place_of same ∙ stand.back place n linked lt)
+  pub only_key : (place n : ℕ) → list_of rings place ≡ Some n → (key : ℕ) → IsIn key (items rings n) → account_at accounts key ≡ account_at accounts place → key ≡ place
+  only_key place n linked key found same =
+      same_Some key place (sym (stand.back key (stand.within key n (stand.fit.owned n key found))) ∙ ap place_of same ∙ stand.back place (stand.within place n linked))
 
-  pub in_some_bag : (who : AccountId) (place n : ℕ) → place_of who ≡ Some place → list_of rings place ≡ Some n → n < count
-  in_some_bag who place n there linked =
-      let l = stand.linked who place there in
-      subst (λ m. m < count) (same_Some l.0 n (sym l.1 ∙ linked)) l.2
+  -- the bag of a place is one of so many
+  pub in_some_bag : (place n : ℕ) → list_of rings place ≡ Some n → n < count
+  in_some_bag place n linked = omega (arith, stand.fit.known n place linked, stand.lists)
 
-  -- no account of a bag has a place that is in no bag
-  not_free : (place n k : ℕ) → list_of rings place ≡ Some n → list_of rings k ≡ Some count → n < count → place ≢ k
-  not_free place n k linked free lt same =
-      let e : n ≡ count = same_Some n count (sym linked ∙ ap (λ p. list_of rings p) same ∙ free) in omega (arith, e, lt)
+  module _ (new : Lists) (place : ℕ) (fit : IsFit new) (same_count : list_count new ≡ list_count rings) (limit : key_limit new ≡ key_limit rings) (others : (p : ℕ) → p ≢ place → list_of new p ≡ list_of rings p)
+      (who : AccountId) (there : place_of who ≡ Some place) where
+    owner : account_at accounts place ≡ who
+    owner = stand.placed who place there
 
-  module _ (new : Lists) (place : ℕ) where
+    elsewhere : (q : AccountId) (p : ℕ) → same_account q who ≡ false → place_of q ≡ Some p → p ≢ place
+    elsewhere q p differ e same = accounts_differ q who differ (sym (stand.placed q p e) ∙ ap (account_at accounts) same ∙ owner)
+
+    still_standing : Stand new accounts place_of count
+    still_standing = record {
+      fit = fit;
+      lists = same_count ∙ stand.lists;
+      room = omega (arith, stand.room, limit);
+      placed = stand.placed;
+      known = stand.known;
+      back = stand.back;
+      within = λ p n linked. elim (cases_eq p place) [
+        | inl same ↦ subst (λ k. k < length accounts) (sym same) (stand.known who place there)
+        | inr apart ↦ stand.within p n (sym (others p apart) ∙ linked)
+      ];
+    }
+
+    noted : (list : Option ℕ) → list_of new place ≡ list → NotedAnew (λ q. list_at rings (place_of q)) (λ q. list_at new (place_of q)) who list
+    noted list moved = record {
+      here = ap (λ o. list_at new o) there ∙ moved;
+      others = λ q differ. home_same rings new (place_of q) (λ p e. others p (elsewhere q p differ e));
+    }
+
     -- one leaves
-    pub node_left : (who : AccountId) (number : ℕ) (place_now : AccountId → Option ℕ) → place_of who ≡ Some place → list_of rings place ≡ Some number → number < count
-        → Relinks rings new place number count → NotedAnew place_of place_now who None
-        → Moved rings new accounts accounts place_of place_now count (slice_set (bags_of rings (account_at accounts) count) number (without (get_or (bags_of rings (account_at accounts) count) number []) who)) who None
-    node_left who number place_now there linked lt relinks anew =
-        let owner : account_at accounts place ≡ who = stand.placed who place there in
-        let not_count : number ≢ count = λ e. omega (arith, e, lt) in
-        let elsewhere : (q : AccountId) (p : ℕ) → same_account q who ≡ false → place_of q ≡ Some p → p ≢ place =
-        λ q p differ e same. accounts_differ q who differ (sym (stand.placed q p e) ∙ ap (account_at accounts) same ∙ owner) in
+    pub node_left : (number : ℕ) → list_of rings place ≡ Some number → list_of new place ≡ None → items new number ≡ keyed.without place (items rings number) → ((n : ℕ) → n ≢ number → items new n ≡ items rings n)
+        → Moved rings new accounts place_of count (slice_set (bags_of rings (account_at accounts) count) number (without (get_or (bags_of rings (account_at accounts) count) number []) who)) who None
+    node_left number linked moved left rest =
+        let lt : number < count = in_some_bag place number linked in
         record {
-          standing = record {
-            fit = relinks.fit;
-            lists = relinks.count ∙ stand.lists;
-            room = omega (arith, stand.room, relinks.limit);
-            placed = λ q p e. by_same q who
-                (λ same. absurd (none-some p (sym anew.here ∙ ap place_now (sym same) ∙ e)))
-                (λ differ. stand.placed q p (sym (anew.others q differ) ∙ e));
-            linked = λ q p e. by_same q who
-                (λ same. absurd (none-some p (sym anew.here ∙ ap place_now (sym same) ∙ e)))
-                (λ differ. let was = sym (anew.others q differ) ∙ e in let l = stand.linked q p was in
-                (l.0, relinks.others p (elsewhere q p differ was) ∙ l.1, l.2));
-            back = λ p n linked_now below.
-                let apart : p ≢ place = λ same. let m : count ≡ n = same_Some count n (sym relinks.moved ∙ ap (λ k. list_of new k) (sym same) ∙ linked_now) in omega (arith, m, below) in
-                let was = sym (relinks.others p apart) ∙ linked_now in
-                let note = stand.back p n was below in
-                by_same (account_at accounts p) who
-                (λ same. absurd (apart (same_Some p place (sym note ∙ ap place_of same ∙ there))))
-                (λ differ. anew.others (account_at accounts p) differ ∙ note);
-            within = λ p n linked_now. elim (cases_eq p place) [
-              | inl same ↦ subst (λ k. k < length accounts) (sym same) (stand.within place number linked)
-              | inr apart ↦ stand.within p n (sym (relinks.others p apart) ∙ linked_now)
-            ];
-          };
+          standing = still_standing;
           lists = bags_set rings new (account_at accounts) (account_at accounts) count number _ lt
-              (ap (map (account_at accounts)) (relinks.left not_count) ∙ accounts_without (account_at accounts) (items rings number) place (only_key place number linked lt)
+              (ap (map (account_at accounts)) left ∙ accounts_without (account_at accounts) (items rings number) place (only_key place number linked)
               ∙ ap₂ (λ bag q. without bag q) (sym (bag_read rings (account_at accounts) count number lt)) owner)
-              (λ n below differ. ap (map (account_at accounts)) (relinks.rest n differ (λ e. omega (arith, e, below))));
-          homes = record {
-            here = ap (λ o. list_at new o) anew.here;
-            others = λ q differ. ap (λ o. list_at new o) (anew.others q differ) ∙ home_same rings new (place_of q) (λ p e. relinks.others p (elsewhere q p differ e));
-          };
+              (λ n below differ. ap (map (account_at accounts)) (rest n differ));
+          homes = noted None moved;
         }
 
     -- one leaves for the tail of another bag
-    pub node_moved : (who : AccountId) (home number : ℕ) → place_of who ≡ Some place → list_of rings place ≡ Some home → home < count → number < count → home ≢ number
-        → Relinks rings new place home number
-        → Moved rings new accounts accounts place_of place_of count (moved_bags (bags_of rings (account_at accounts) count) who home number) who (Some number)
-    node_moved who home number there linked lt number_lt apart relinks =
-        let owner : account_at accounts place ≡ who = stand.placed who place there in
-        let elsewhere : (q : AccountId) (p : ℕ) → same_account q who ≡ false → place_of q ≡ Some p → p ≢ place =
-        λ q p differ e same. accounts_differ q who differ (sym (stand.placed q p e) ∙ ap (account_at accounts) same ∙ owner) in
+    pub node_moved : (home number : ℕ) → list_of rings place ≡ Some home → number < count → home ≢ number → Relinks rings new place home number
+        → Moved rings new accounts place_of count (moved_bags (bags_of rings (account_at accounts) count) who home number) who (Some number)
+    node_moved home number linked number_lt apart relinks =
         let account = account_at accounts in
         let old = bags_of rings account count in
+        let lt : home < count = in_some_bag place home linked in
         record {
-          standing = record {
-            fit = relinks.fit;
-            lists = relinks.count ∙ stand.lists;
-            room = omega (arith, stand.room, relinks.limit);
-            placed = stand.placed;
-            linked = λ q p e. elim (cases_eq p place) [
-              | inl same ↦ (number, ap (λ k. list_of new k) same ∙ relinks.moved, number_lt)
-              | inr other ↦ let l = stand.linked q p e in (l.0, relinks.others p other ∙ l.1, l.2)
-            ];
-            back = λ p n linked_now below. elim (cases_eq p place) [
-              | inl same ↦ subst (λ k. place_of (account k) ≡ Some k) (sym same) (stand.back place home linked lt)
-              | inr other ↦ stand.back p n (sym (relinks.others p other) ∙ linked_now) below
-            ];
-            within = λ p n linked_now. elim (cases_eq p place) [
-              | inl same ↦ subst (λ k. k < length accounts) (sym same) (stand.within place home linked)
-              | inr other ↦ stand.within p n (sym (relinks.others p other) ∙ linked_now)
-            ];
-          };
+          standing = still_standing;
           lists =
               ext_get_or [] (bags_of new account count) (moved_bags old who home number) (bags_length new account count ∙ sym (moved_length old who home number ∙ bags_length rings account count))
               (λ i i_lt.
@@ -242,7 +215,7 @@ module _ (rings : Lists) (accounts : List AccountId) (place_of : AccountId → O
                 | inr other ↦
                     elim (cases_eq i home) [
                       | inl there_it ↦
-                          ap (λ n. map account (items new n)) there_it ∙ ap (map account) (relinks.left apart) ∙ accounts_without account (items rings home) place (only_key place home linked lt)
+                          ap (λ n. map account (items new n)) there_it ∙ ap (map account) (relinks.left apart) ∙ accounts_without account (items rings home) place (only_key place home linked)
                           ∙ ap₂ (λ bag q. without bag q) (sym (bag_read rings account count home lt)) owner
                           ∙ sym (get_or-set_same old home _ [] (omega (arith, lt, bags_length rings account count)))
                           ∙ ap (λ n. get_or (slice_set old home (without (get_or old home []) who)) n []) (sym there_it)
@@ -252,125 +225,89 @@ module _ (rings : Lists) (accounts : List AccountId) (place_of : AccountId → O
                           ∙ sym (get_or-set_other old home i _ [] neither) ∙ sym (get_or-set_other _ number i _ [] other)
                     ]
               ]);
-          homes = record {
-            here = ap (λ o. list_at new o) there ∙ relinks.moved;
-            others = λ q differ. home_same rings new (place_of q) (λ p e. relinks.others p (elsewhere q p differ e));
-          };
+          homes = noted (Some number) relinks.moved;
         }
 
-    -- one that has no place takes one that was free, at the tail of a bag
-    pub node_joined : (who : AccountId) (number : ℕ) (place_now : AccountId → Option ℕ) → place_of who ≡ None → list_of rings place ≡ Some count → number < count
-        → Relinks rings new place count number → NotedAnew place_of place_now who (Some place)
-        → Moved rings new accounts (slice_set accounts place who) place_of place_now count (slice_set (bags_of rings (account_at accounts) count) number (get_or (bags_of rings (account_at accounts) count) number [] ++ who ∷ [])) who (Some number)
-    node_joined who number place_now absent free lt relinks anew =
-        let now = slice_set accounts place who in
-        let not_count : count ≢ number = λ e. omega (arith, e, lt) in
-        let here : account_at now place ≡ who = get_or-set_same accounts place who _ (stand.within place count free) in
-        let kept : (p : ℕ) → p ≢ place → account_at now p ≡ account_at accounts p = λ p other. get_or-set_other accounts place p who _ other in
-        let in_bag : (p n : ℕ) → list_of rings p ≡ Some n → n < count → p ≢ place = λ p n linked below. not_free p n place linked free below in
-        let elsewhere : (q : AccountId) (p : ℕ) → place_of q ≡ Some p → p ≢ place = λ q p e. let l = stand.linked q p e in in_bag p l.0 l.1 l.2 in
-        let same_keys : (n : ℕ) → n < count → map (account_at now) (items rings n) ≡ map (account_at accounts) (items rings n) =
-        λ n below. accounts_same (account_at accounts) (account_at now) (items rings n) (λ k found. kept k (in_bag k n (stand.fit.owned n k found) below)) in
-        record {
-          standing = record {
-            fit = relinks.fit;
-            lists = relinks.count ∙ stand.lists;
-            room = omega (arith, stand.room, relinks.limit, length-set accounts place who);
-            placed = λ q p e. by_same q who
-                (λ same. let at : place ≡ p = same_Some place p (sym anew.here ∙ ap place_now (sym same) ∙ e) in
-                subst (λ k. account_at now k ≡ q) at (here ∙ sym same))
-                (λ differ. let was = sym (anew.others q differ) ∙ e in kept p (elsewhere q p was) ∙ stand.placed q p was);
-            linked = λ q p e. by_same q who
-                (λ same. let at : place ≡ p = same_Some place p (sym anew.here ∙ ap place_now (sym same) ∙ e) in
-                (number, subst (λ k. list_of new k ≡ Some number) at relinks.moved, lt))
-                (λ differ. let was = sym (anew.others q differ) ∙ e in let l = stand.linked q p was in (l.0, relinks.others p (elsewhere q p was) ∙ l.1, l.2));
-            back = λ p n linked_now below. elim (cases_eq p place) [
-              | inl same ↦ subst (λ k. place_now (account_at now k) ≡ Some k) (sym same) (ap place_now here ∙ anew.here)
-              | inr other ↦
-                  let note = stand.back p n (sym (relinks.others p other) ∙ linked_now) below in
-                  ap place_now (kept p other)
-                  ∙ anew.others (account_at accounts p) (test_apart (account_at accounts p) who (λ same. none-some p (sym absent ∙ ap place_of (sym same) ∙ note)))
-                  ∙ note
-            ];
-            within = λ p n linked_now. elim (cases_eq p place) [
-              | inl same ↦ subst (λ k. k < length now) (sym same) (omega (arith, stand.within place count free, length-set accounts place who))
-              | inr other ↦ omega (arith, stand.within p n (sym (relinks.others p other) ∙ linked_now), length-set accounts place who)
-            ];
-          };
-          lists = bags_set rings new (account_at accounts) (account_at now) count number _ lt
-              (ap (map (account_at now)) (relinks.joined not_count) ∙ map_push (account_at now) (items rings number) place
-              ∙ ap₂ (λ bag q. bag ++ q ∷ []) (same_keys number lt ∙ sym (bag_read rings (account_at accounts) count number lt)) here)
-              (λ n below differ. ap (map (account_at now)) (relinks.rest n (λ e. omega (arith, e, below)) differ) ∙ same_keys n below);
-          homes = record {
-            here = ap (λ o. list_at new o) anew.here ∙ relinks.moved;
-            others = λ q differ. ap (λ o. list_at new o) (anew.others q differ) ∙ home_same rings new (place_of q) (λ p e. relinks.others p (elsewhere q p e));
-          };
-        }
+    -- one that is in no bag joins the tail of one
+    pub node_joined : (number : ℕ) → number < count → list_of new place ≡ Some number → items new number ≡ items rings number ++ place ∷ [] → ((n : ℕ) → n ≢ number → items new n ≡ items rings n)
+        → Moved rings new accounts place_of count (slice_set (bags_of rings (account_at accounts) count) number (get_or (bags_of rings (account_at accounts) count) number [] ++ who ∷ [])) who (Some number)
+    node_joined number lt moved last rest = record {
+      standing = still_standing;
+      lists = bags_set rings new (account_at accounts) (account_at accounts) count number _ lt
+          (ap (map (account_at accounts)) last ∙ map_push (account_at accounts) (items rings number) place
+          ∙ ap₂ (λ bag q. bag ++ q ∷ []) (sym (bag_read rings (account_at accounts) count number lt)) owner)
+          (λ n below differ. ap (map (account_at accounts)) (rest n differ));
+      homes = noted (Some number) moved;
+    }
 
     -- one goes before another of its bag
-    pub node_before : (who lighter : AccountId) (number other : ℕ) → place_of who ≡ Some place → place_of lighter ≡ Some other → list_of rings place ≡ Some number → list_of rings other ≡ Some number → number < count
-        → IsFit new → list_count new ≡ list_count rings → key_limit new ≡ key_limit rings → ((p : ℕ) → list_of new p ≡ list_of rings p)
-        → items new number ≡ keyed.before place other (keyed.without place (items rings number)) → ((n : ℕ) → n ≢ number → items new n ≡ items rings n)
-        → Moved rings new accounts accounts place_of place_of count (slice_set (bags_of rings (account_at accounts) count) number (with_before (without (get_or (bags_of rings (account_at accounts) count) number []) who) who lighter)) who (Some number)
-    node_before who lighter number other there other_there linked other_linked lt fit lists limit same_lists placed rest =
-        let owner : account_at accounts place ≡ who = stand.placed who place there in
+    pub node_before : (lighter : AccountId) (number other : ℕ) → place_of lighter ≡ Some other → list_of rings place ≡ Some number → list_of rings other ≡ Some number
+        → list_of new place ≡ Some number → items new number ≡ keyed.before place other (keyed.without place (items rings number)) → ((n : ℕ) → n ≢ number → items new n ≡ items rings n)
+        → Moved rings new accounts place_of count (slice_set (bags_of rings (account_at accounts) count) number (with_before (without (get_or (bags_of rings (account_at accounts) count) number []) who) who lighter)) who (Some number)
+    node_before lighter number other other_there linked other_linked moved before rest =
         let other_owner : account_at accounts other ≡ lighter = stand.placed lighter other other_there in
+        let lt : number < count = in_some_bag place number linked in
         record {
-          standing = record {
-            fit = fit;
-            lists = lists ∙ stand.lists;
-            room = omega (arith, stand.room, limit);
-            placed = stand.placed;
-            linked = λ q p e. let l = stand.linked q p e in (l.0, same_lists p ∙ l.1, l.2);
-            back = λ p n linked_now below. stand.back p n (sym (same_lists p) ∙ linked_now) below;
-            within = λ p n linked_now. stand.within p n (sym (same_lists p) ∙ linked_now);
-          };
+          standing = still_standing;
           lists = bags_set rings new (account_at accounts) (account_at accounts) count number _ lt
-              (ap (map (account_at accounts)) placed
-              ∙ accounts_before (account_at accounts) (keyed.without place (items rings number)) place other (λ k found. only_key other number other_linked lt k (IsIn-without place k (items rings number) found).0)
-              ∙ ap (λ bag. with_before bag (account_at accounts place) (account_at accounts other)) (accounts_without (account_at accounts) (items rings number) place (only_key place number linked lt))
+              (ap (map (account_at accounts)) before
+              ∙ accounts_before (account_at accounts) (keyed.without place (items rings number)) place other (λ k found. only_key other number other_linked k (IsIn-without place k (items rings number) found).0)
+              ∙ ap (λ bag. with_before bag (account_at accounts place) (account_at accounts other)) (accounts_without (account_at accounts) (items rings number) place (only_key place number linked))
               ∙ ap₂ (λ bag q. with_before (without bag q) q (account_at accounts other)) (sym (bag_read rings (account_at accounts) count number lt)) owner
               ∙ ap (with_before (without (get_or (bags_of rings (account_at accounts) count) number []) who) who) other_owner)
               (λ n below differ. ap (map (account_at accounts)) (rest n differ));
-          homes = record {
-            here = ap (λ o. list_at new o) there ∙ same_lists place ∙ linked;
-            others = λ q differ. home_same rings new (place_of q) (λ p e. same_lists p);
-          };
+          homes = noted (Some number) moved;
         }
 
--- room for one more node, which is free
-module _ (rings grown new : Lists) (accounts : List AccountId) (who : AccountId) (place_of : AccountId → Option ℕ) (count : ℕ) (stand : Stand rings accounts place_of count)
-    (same : SameLists rings grown) (room : length accounts < key_limit grown) (fit : IsFit new) (moves : Moves grown new (length accounts) (Some count)) (others : (n : ℕ) → n ≢ count → items new n ≡ items grown n) where
-  inside : (p n : ℕ) → list_of rings p ≡ Some n → p ≢ length accounts
-  inside p n linked e = omega (arith, e, stand.within p n linked)
+-- lists that are the same fit alike
+fit_same : (old new : Lists) → SameLists old new → key_limit old ≤ key_limit new → IsFit old → IsFit new
+fit_same old new same grows fit = record {
+  apart = λ list. subst IsApart (sym (same.lists list)) (fit.apart list);
+  owned = λ list key found. same.keys key ∙ fit.owned list key (subst (IsIn key) (same.lists list) found);
+  listed = λ list key e. subst (IsIn key) (sym (same.lists list)) (fit.listed list key (sym (same.keys key) ∙ e));
+  known = λ list key e. omega (arith, fit.known list key (sym (same.keys key) ∙ e), same.count);
+  within = λ list key e. omega (arith, fit.within list key (sym (same.keys key) ∙ e), grows);
+}
 
-  still : (p : ℕ) → p ≢ length accounts → list_of new p ≡ list_of rings p
-  still p other = moves.others p other ∙ same.keys p
-
+-- one more account has a place, and is in no bag
+module _ (rings new : Lists) (accounts : List AccountId) (who : AccountId) (place_of place_now : AccountId → Option ℕ) (count : ℕ) (stand : Stand rings accounts place_of count)
+    (same : SameLists rings new) (grows : key_limit rings ≤ key_limit new) (room : length accounts < key_limit new) (absent : place_of who ≡ None) (anew : NotedAnew place_of place_now who (Some (length accounts))) where
   kept : (p : ℕ) → p < length accounts → account_at (accounts ++ who ∷ []) p ≡ account_at accounts p
   kept p lt = get_or_append_left accounts (who ∷ []) _ p lt
 
-  pub stand_grown : Stand new (accounts ++ who ∷ []) place_of count
+  at_end : (p : ℕ) → p ≡ length accounts → account_at (accounts ++ who ∷ []) p ≡ who
+  at_end p e = ap (account_at (accounts ++ who ∷ [])) e ∙ get_or-append_seam accounts who [] _
+
+  pub stand_grown : Stand new (accounts ++ who ∷ []) place_now count
   stand_grown = record {
-    fit = fit;
-    lists = moves.count ∙ same.count ∙ stand.lists;
-    room = omega (arith, room, moves.limit, length_push accounts who);
-    placed = λ q p e. let l = stand.linked q p e in kept p (stand.within p l.0 l.1) ∙ stand.placed q p e;
-    linked = λ q p e. let l = stand.linked q p e in (l.0, still p (inside p l.0 l.1) ∙ l.1, l.2);
-    back = λ p n linked_now below.
-        let other : p ≢ length accounts = λ e. let m : count ≡ n = same_Some count n (sym moves.moved ∙ ap (λ k. list_of new k) (sym e) ∙ linked_now) in omega (arith, m, below) in
-        let was = sym (still p other) ∙ linked_now in
-        ap place_of (kept p (stand.within p n was)) ∙ stand.back p n was below;
-    within = λ p n linked_now. elim (cases_eq p (length accounts)) [
-      | inl e ↦ omega (arith, e, length_push accounts who)
-      | inr other ↦ omega (arith, stand.within p n (sym (still p other) ∙ linked_now), length_push accounts who)
+    fit = fit_same rings new same grows stand.fit;
+    lists = same.count ∙ stand.lists;
+    room = omega (arith, room, length_push accounts who);
+    placed = λ q p e. by_same q who
+        (λ one. at_end p (same_Some p (length accounts) (sym e ∙ ap place_now one ∙ anew.here)) ∙ sym one)
+        (λ differ. let was = sym (anew.others q differ) ∙ e in kept p (stand.known q p was) ∙ stand.placed q p was);
+    known = λ q p e. by_same q who
+        (λ one. omega (arith, same_Some p (length accounts) (sym e ∙ ap place_now one ∙ anew.here), length_push accounts who))
+        (λ differ. omega (arith, stand.known q p (sym (anew.others q differ) ∙ e), length_push accounts who));
+    back = λ p lt. elim (cases_eq p (length accounts)) [
+      | inl e ↦ ap place_now (at_end p e) ∙ anew.here ∙ ap (λ n. Some n) (sym e)
+      | inr other ↦
+          let below : p < length accounts = omega (arith, lt, other, length_push accounts who) in
+          let was = stand.back p below in
+          ap place_now (kept p below) ∙ anew.others (account_at accounts p) (test_apart (account_at accounts p) who (λ e. none-some p (sym absent ∙ ap place_of (sym e) ∙ was))) ∙ was
     ];
+    within = λ p n linked. omega (arith, stand.within p n (sym (same.keys p) ∙ linked), length_push accounts who);
   }
 
   pub bags_grown : bags_of new (account_at (accounts ++ who ∷ [])) count ≡ bags_of rings (account_at accounts) count
   bags_grown = bags_same rings new (account_at accounts) (account_at (accounts ++ who ∷ [])) count
-      (λ n below. ap (map (account_at (accounts ++ who ∷ []))) (others n (λ e. omega (arith, e, below)) ∙ same.lists n)
+      (λ n below. ap (map (account_at (accounts ++ who ∷ []))) (same.lists n)
       ∙ accounts_same (account_at accounts) (account_at (accounts ++ who ∷ [])) (items rings n) (λ k found. kept k (stand.within k n (stand.fit.owned n k found))))
 
-  pub homes_grown : (q : AccountId) → list_at new (place_of q) ≡ list_at rings (place_of q)
-  homes_grown q = home_same rings new (place_of q) (λ p e. let l = stand.linked q p e in still p (inside p l.0 l.1))
+  pub homes_grown : (q : AccountId) → list_at new (place_now q) ≡ list_at rings (place_of q)
+  homes_grown q = by_same q who
+      (λ one. ap (λ a. list_at new (place_now a)) one ∙ ap (list_at new) anew.here ∙ same.keys (length accounts) ∙ in_none (list_of rings (length accounts)) refl ∙ sym (ap (list_at rings) (ap place_of one ∙ absent)))
+      (λ differ. ap (list_at new) (anew.others q differ) ∙ home_same rings new (place_of q) (λ p e. same.keys p)) where
+        in_none : (o : Option ℕ) → list_of rings (length accounts) ≡ o → o ≡ None
+        in_none None e = refl
+        in_none (Some n) e = absurd (omega (arith, stand.within (length accounts) n e))

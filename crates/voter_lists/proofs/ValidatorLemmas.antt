@@ -1,5 +1,5 @@
 -- The validators by rising account, after one standing is set or taken away.
-use Rattle.std.proofs.Common.{◌≡◌, ℕ, suc, ◌+◌, ◌<◌, ◌≤◌, Bool, true, false, cond, List, [], ◌∷◌, length, refl, ap, sym, ◌∙◌, subst, arith, Option, Some, None, IfNone, is_some, true≢false, if◌then◌else◌}
+use Rattle.std.proofs.Common.{◌≡◌, ℕ, suc, ◌+◌, ◌<◌, ◌≤◌, Bool, true, false, cond, List, [], ◌∷◌, length, refl, ap, sym, ◌∙◌, subst, arith, Some, None, true≢false, if◌then◌else◌}
 use Rattle.std.specs.BTreeMap.{insert_entry, is_at}
 use Rattle.std.specs.BTreeSet.{insert_key}
 use Rattle.std.specs.Set.{remove_key}
@@ -12,10 +12,12 @@ use Rattle.std.specs.declared.cmp.Ordering.TheVariants.{Less, Equal, Greater}
 use Rattle.npos_base.specs.declared.account.AccountId.{AccountId}
 use Rattle.npos_base.specs.Account.{account_cmp}
 use Rattle.npos_base.proofs.AccountOrder.{account_total, account_exact, account_apart}
+use Rattle.npos_base.proofs.EntryLemmas.{lookup_other}
+use Rattle.voter_lists.proofs.StandingLemmas.{standing_left}
 use Rattle.voter_lists.specs.declared.standing.Standing.{Standing}
 use Rattle.voter_lists.specs.declared.standing.Standing.TheVariants.{Nominator, Validator}
 use Rattle.voter_lists.specs.Ranked.{AreRanked}
-use Rattle.voter_lists.specs.Roles.{KeepsOthers, RoleList, validators_of, is_validator_standing, is_validator_in, is_validator}
+use Rattle.voter_lists.specs.Roles.{KeepsOthers, RoleList, with_standing, without_role, validators_of, is_validator_standing, is_validator_in, is_validator}
 
 module _ (who : AccountId) where
   all_below : (e : AccountId) (ks : List AccountId) → account_cmp who e ≡ Less → AllByRecursion (λ y. account_cmp e y ≡ Less) ks → AllByRecursion (λ y. account_cmp who y ≡ Less) ks
@@ -205,11 +207,13 @@ ranked_validating who commission rows new accounts now h room is rise now_is = r
   at false valid = rw now_is (omega (arith, length_inserted who accounts, room valid))
 
 -- each other account keeps its standing
-pub others_keep : (old new : RoleList) (who : AccountId) → ((q : AccountId) → is_at (account_cmp who) q ≡ false → lookup (is_at (account_cmp q)) new ≡ lookup (is_at (account_cmp q)) old)
-    → KeepsOthers old new who
-others_keep old new who stays = λ other differ. stays other (account_apart who other (λ e. differ (sym e)))
+pub others_put : (roles : RoleList) (who : AccountId) (standing : Standing) → KeepsOthers roles (with_standing roles who standing) who
+others_put roles who standing other differ = lookup_other account_total who standing other roles (account_apart other who differ)
 
--- what is said of None holds where nothing is there
-pub of_none : {T : Type 0} (found : Option T) (P : Type 0) → is_some found ≡ false → IfNone found P → P
-of_none None P none said = said
-of_none (Some value) P none said = absurd (true≢false none)
+pub others_left : (roles : RoleList) (who : AccountId) → IsStrictlySortedBy account_cmp (keys_of roles) → KeepsOthers roles (without_role roles who) who
+others_left roles who ordered other differ = standing_left roles who other ordered ∙ rw (account_apart who other (λ e. differ (sym e))) refl
+
+-- nobody has a role
+pub ranked_none : AreRanked [] []
+unfolding IsStrictlySortedBy
+ranked_none = record { rising = tt; ranked = refl; few = omega arith }

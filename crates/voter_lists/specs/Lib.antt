@@ -3,6 +3,7 @@ pub mod BagRows
 pub mod Bags
 pub mod Ranked
 pub mod Roles
+pub mod Standings
 pub mod Links
 pub mod Rings
 pub mod Nodes

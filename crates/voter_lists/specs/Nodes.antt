@@ -1,10 +1,9 @@
 -- The bags as linked nodes: each listed account has a place, and the places of a bag are one of the rings' lists.
 use Rattle.std.specs.Prelude.{◌≡◌, ℕ, ◌+◌, ◌<◌, ◌≤◌, false, List, ◌++◌, length, map, take, slice_get, slice_set, slice_index_or, [], ◌∷◌, Option, Some, None, IfSome}
 use Rattle.std.specs.List.{range_with_len}
-use Rattle.std.specs.Map.{lookup}
-use Rattle.std.specs.BTreeMap.{is_at}
 use Rattle.npos_base.specs.declared.account.AccountId.{AccountId}
-use Rattle.npos_base.specs.Account.{account_cmp, same_account}
+use Rattle.npos_base.specs.Account.{same_account}
+use Rattle.account_places.specs.Places.{place_in, by_account}
 use Rattle.voter_lists.specs.Rings.{Lists, items, list_of, keys_from, list_count, key_limit, IsFit}
 use Rattle.voter_lists.specs.Bag.{without}
 use Rattle.voter_lists.specs.BagRows.{falling, AreHomes}
@@ -13,10 +12,6 @@ use Rattle.voter_lists.specs.declared.nodes.Nodes.{Nodes}
 -- the account at a place
 abbrev pub account_at : List AccountId → ℕ → AccountId
 account_at accounts place = slice_index_or accounts place (record { hi = 0; lo = 0 })
-
--- the place of an account
-abbrev pub place_in : List (AccountId × ℕ) → AccountId → Option ℕ
-place_in places who = lookup (is_at (account_cmp who)) places
 
 -- the list of a place, where there is one
 abbrev pub list_at : Lists → Option ℕ → Option ℕ
@@ -27,25 +22,25 @@ list_at rings (Some place) = list_of rings place
 abbrev pub bags_of : Lists → (ℕ → AccountId) → ℕ → List (List AccountId)
 bags_of rings account count = map (λ n. map account (items rings n)) (range_with_len 0 count)
 
--- each account has a place of its own in a bag, and the places in no bag are in the list behind them
+-- each account that was ever listed has a place of its own, with room for its links
 pub record Stand (rings : Lists) (accounts : List AccountId) (place_of : AccountId → Option ℕ) (count : ℕ) : Type 0 where
   pub fit : IsFit rings
-  pub lists : list_count rings ≡ count + 1
+  pub lists : list_count rings ≡ count
   pub room : length accounts ≤ key_limit rings
   pub placed : (who : AccountId) (place : ℕ) → place_of who ≡ Some place → account_at accounts place ≡ who
-  pub linked : (who : AccountId) (place : ℕ) → place_of who ≡ Some place → (n : ℕ) × (list_of rings place ≡ Some n) × (n < count)
-  pub back : (place n : ℕ) → list_of rings place ≡ Some n → n < count → place_of (account_at accounts place) ≡ Some place
+  pub known : (who : AccountId) (place : ℕ) → place_of who ≡ Some place → place < length accounts
+  pub back : (place : ℕ) → place < length accounts → place_of (account_at accounts place) ≡ Some place
   pub within : (place n : ℕ) → list_of rings place ≡ Some n → place < length accounts
 
 abbrev pub bags_in : Nodes → List (List AccountId)
-bags_in nodes = bags_of nodes.rings (account_at nodes.accounts.items) nodes.bags
+bags_in nodes = bags_of nodes.rings (account_at nodes.places) nodes.bags
 
 -- the bag in which an account stands
 abbrev pub home_of : Nodes → AccountId → Option ℕ
-home_of nodes who = list_at nodes.rings (place_in nodes.places.entries who)
+home_of nodes who = list_at nodes.rings (place_in (by_account nodes.places) who)
 
 abbrev pub IsStanding : Nodes → Type 0
-IsStanding nodes = Stand nodes.rings nodes.accounts.items (place_in nodes.places.entries) nodes.bags
+IsStanding nodes = Stand nodes.rings nodes.places (place_in (by_account nodes.places)) nodes.bags
 
 -- an account leaves one bag for the tail of another
 abbrev pub moved_bags : List (List AccountId) → AccountId → ℕ → ℕ → List (List AccountId)
@@ -76,7 +71,7 @@ pub record IsTop (nodes : Nodes) (below number place : ℕ) : Type 0 where
   pub lower : number < below
   pub listed : list_of nodes.rings place ≡ Some number
   pub head : slice_get (items nodes.rings number) 0 ≡ Some place
-  pub rest : falling (take below (bags_in nodes)) ≡ map (account_at nodes.accounts.items) (items nodes.rings number) ++ falling (take number (bags_in nodes))
+  pub rest : falling (take below (bags_in nodes)) ≡ map (account_at nodes.places) (items nodes.rings number) ++ falling (take number (bags_in nodes))
 
 -- the bags under their thresholds, each account in the bag that its node is linked in
 pub record AreLinked (thresholds : List ℕ) (nodes : Nodes) : Type 0 where
@@ -87,7 +82,7 @@ pub record AreLinked (thresholds : List ℕ) (nodes : Nodes) : Type 0 where
 -- what a walk has still to come to: the accounts of a bag from a place on, and those of the bags below it
 abbrev pub ahead : Nodes → ℕ → Option ℕ → List AccountId
 ahead nodes number here =
-    map (account_at nodes.accounts.items) (keys_from here (items nodes.rings number)) ++ falling (take number (bags_in nodes))
+    map (account_at nodes.places) (keys_from here (items nodes.rings number)) ++ falling (take number (bags_in nodes))
 
 pub record IsWalk (nodes : Nodes) (number : ℕ) (here : Option ℕ) : Type 0 where
   pub standing : IsStanding nodes

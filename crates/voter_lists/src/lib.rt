@@ -10,6 +10,7 @@ mod refusal;
 mod rings;
 mod roles;
 mod standing;
+mod standings;
 mod walk;
 
 pub use bags::Bags;

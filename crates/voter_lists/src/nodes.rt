@@ -1,103 +1,91 @@
 //! The accounts of all bags as linked nodes, so that no call searches a bag.
 ghost use Rattle.std.specs.Prelude.{◌≡◌, ◌≢◌, ℕ, ◌+◌, ◌<◌, ◌≤◌, [], ◌∷◌, ◌++◌, length, Some, None, IfOk, IfSome, IfNone, OnOk, OnErr, map, take, slice_get, slice_set, slice_index_or};
 ghost use Rattle.npos_base.specs.declared.account.AccountId.{AccountId};
+ghost use Rattle.account_places.specs.Places.{place_in, by_account};
 ghost use Rattle.voter_lists.specs.Bag.{without, with_before};
 ghost use Rattle.voter_lists.specs.Bags.{account_after};
 ghost use Rattle.voter_lists.specs.BagRows.{falling};
 ghost use Rattle.voter_lists.specs.Rings.{list_of, list_count, items, after, IsFit, Relinks};
-ghost use Rattle.voter_lists.specs.Nodes.{account_at, place_in, bags_in, home_of, IsStanding, Becomes, Stays, IsTop, IsWalk, moved_bags, ahead};
+ghost use Rattle.voter_lists.specs.Nodes.{account_at, bags_in, home_of, IsStanding, Becomes, Stays, IsTop, IsWalk, moved_bags, ahead};
 
 use crate::rings::Rings;
+use account_places::Places;
 use npos_base::{AccountId, NoMemory};
 use std::alloc::Global;
-use std::collections::BTreeMap;
 
-/// A node for each listed account: its place among the accounts, and that place in the list of its
-/// bag. Places that were freed are in the list behind those of the bags, and are used again.
+/// A node for each account that was ever listed: its place among the accounts, and that place in the
+/// list of its bag, where it is listed. An account keeps its place for good, so that it leaves and
+/// comes back without a change of the places.
 #[derive(Drop)]
 pub(crate) struct Nodes {
     rings: Rings,
-    accounts: Vec<AccountId>,
-    places: BTreeMap<AccountId, usize>,
+    places: Places,
     bags: usize,
 }
 
 impl Nodes {
     /// So many empty bags.
     pub(crate) fn new(alloc: Global, bags: usize) -> Result<Nodes, NoMemory>
-        requires { bags < 1000 }
         ensures bags { IfOk result (λ nodes. (number : ℕ) → items nodes.rings number ≡ []) }
         ensures count { IfOk result (λ nodes. nodes.bags ≡ bags) }
-        ensures homes { IfOk result (λ nodes. nodes.places.entries ≡ []) }
+        ensures homes { IfOk result (λ nodes. nodes.places ≡ []) }
         ensures standing { IfOk result (λ nodes. IsStanding nodes) }
     {
-        let rings = Rings::new(alloc, bags + 1)?;
+        let rings = Rings::new(alloc, bags)?;
         Ok(Nodes {
             rings,
-            accounts: Vec::new(alloc),
-            places: BTreeMap::new(alloc),
+            places: Places::new(alloc),
             bags,
         })
-    }
-
-    /// The place of an account.
-    pub(crate) fn place_of(&self, who: AccountId) -> Option<usize>
-        ensures { result ≡ place_in self.now.places.entries who }
-    {
-        self.places.get(&who).copied()
     }
 
     /// The place of a listed account, and its bag.
     pub(crate) fn find(&self, who: AccountId) -> Option<(usize, usize)>
         requires { IsStanding self.now }
-        ensures found { IfSome result (λ at. (place_in self.now.places.entries who ≡ Some at.0)
+        ensures found { IfSome result (λ at. (place_in (by_account self.now.places) who ≡ Some at.0)
             × (home_of self.now who ≡ Some at.1) × (at.1 < self.now.bags)) }
         ensures absent { IfNone result (home_of self.now who ≡ None) }
     {
-        let place = self.place_of(who)?;
+        let place = self.places.find(who)?;
         match self.rings.list_of(place) {
             Some(number) => Some((place, number)),
-            None => unreachable!(),
+            None => None,
         }
     }
 
-    /// A place in no bag, with room for its links.
-    fn free_place(&mut self, who: AccountId) -> Result<usize, NoMemory>
+    /// The place of an account, which has one from now on, with room for its links.
+    fn place_for(&mut self, who: AccountId) -> Result<usize, NoMemory>
         requires { IsStanding self.old }
-        ensures free { OnOk result
-            (IfOk result (λ place. list_of self.new.rings place ≡ Some self.new.bags)) }
+        ensures place { OnOk result (IfOk result (λ place.
+            place_in (by_account self.new.places) who ≡ Some place)) }
         ensures stays { Stays self.old self.new }
-        ensures places { self.new.places.entries ≡ self.old.places.entries }
     {
-        if let Some(place) = self.rings.front(self.bags) {
+        if let Some(place) = self.places.find(who) {
             return Ok(place);
         }
-        let place = self.accounts.len();
+        let place = self.places.count();
         self.rings.reserve_key(place)?;
-        self.accounts.push(who)?;
-        self.rings.push_back(self.bags, place);
+        self.places.put(who)?;
         Ok(place)
     }
 
-    /// An account that has no place joins the tail of a bag.
+    /// An account that is not listed joins the tail of a bag.
     pub(crate) fn join(&mut self, who: AccountId, number: usize) -> Result<(), NoMemory>
         requires standing { IsStanding self.old }
         requires within { number < self.old.bags }
-        requires absent { place_in self.old.places.entries who ≡ None }
+        requires absent { home_of self.old who ≡ None }
         ensures ok { OnOk result (Becomes self.old self.new
             (slice_set (bags_in self.old) number (slice_index_or (bags_in self.old) number [] ++ who
             ∷ []))
             who (Some number)) }
         ensures err { OnErr result (Stays self.old self.new) }
     {
-        let place = self.free_place(who)?;
-        self.places.insert(who, place)?;
-        self.accounts[place] = who;
-        self.relink(place, self.bags, number);
+        let place = self.place_for(who)?;
+        self.rings.push_back(number, place);
         Ok(())
     }
 
-    /// A listed account leaves its bag, and its place is free.
+    /// A listed account leaves its bag.
     pub(crate) fn leave(&mut self, who: AccountId)
         requires standing { IsStanding self.old }
         requires listed { home_of self.old who ≢ None }
@@ -106,13 +94,10 @@ impl Nodes {
             (without (slice_index_or (bags_in self.old) number []) who))
             who None }
     {
-        let Some(place) = self.places.remove(&who) else {
+        let Some((place, number)) = self.find(who) else {
             unreachable!()
         };
-        let Some(number) = self.rings.list_of(place) else {
-            unreachable!()
-        };
-        self.relink(place, number, self.bags);
+        self.rings.unlink(number, place);
     }
 
     /// A listed account leaves its bag for the tail of another one.
@@ -122,7 +107,7 @@ impl Nodes {
         requires within { home < self.old.bags }
         requires number { number < self.old.bags }
         requires apart { home ≢ number }
-        ensures { (who : AccountId) → place_in self.old.places.entries who ≡ Some place
+        ensures { (who : AccountId) → place_in (by_account self.old.places) who ≡ Some place
             → Becomes self.old self.new (moved_bags (bags_in self.old) who home number) who
             (Some number) }
     {
@@ -136,8 +121,8 @@ impl Nodes {
         requires beside { list_of self.old.rings other ≡ Some number }
         requires within { number < self.old.bags }
         requires apart { other ≢ place }
-        ensures { (who lighter : AccountId) → place_in self.old.places.entries who ≡ Some place
-            → place_in self.old.places.entries lighter ≡ Some other
+        ensures { (who lighter : AccountId) → place_in (by_account self.old.places) who ≡ Some place
+            → place_in (by_account self.old.places) lighter ≡ Some other
             → Becomes self.old self.new
             (slice_set (bags_in self.old) number
             (with_before (without (slice_index_or (bags_in self.old) number []) who) who lighter))
@@ -213,9 +198,9 @@ impl Nodes {
     pub(crate) fn account(&self, place: usize, number: usize) -> AccountId
         requires standing { IsStanding self.now }
         requires listed { list_of self.now.rings place ≡ Some number }
-        ensures { result ≡ account_at self.now.accounts.items place }
+        ensures { result ≡ account_at self.now.places place }
     {
-        self.accounts[place]
+        self.places.account(place)
     }
 
     /// The place after this one in its bag.

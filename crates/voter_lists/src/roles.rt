@@ -11,16 +11,16 @@ ghost use Rattle.voter_lists.specs.Roles.{role_of, nominated_by, validators_of, 
 use crate::ListRefusal;
 use crate::ranks::{enter, leave};
 use crate::standing::{Role, Standing};
+use crate::standings::Standings;
 use npos_base::{AccountId, List, MOST_NOMINATIONS, MOST_VALIDATORS, WHOLE_FRACTION};
 use std::alloc::Global;
-use std::collections::BTreeMap;
 use std::marker::Model;
 
 /// Who is a validator and who a nominator. Contracts see the list of accounts with their standings,
 /// by rising account.
 #[derive(Drop)]
 pub struct Roles {
-    standings: BTreeMap<AccountId, Standing>,
+    standings: Standings,
     validators: Vec<AccountId>,
 }
 
@@ -31,9 +31,9 @@ impl Model for Roles {
 
     ghost use Rattle.voter_lists.specs.Ranked.{AreRanked};
 
-    ghost view = { λ r. r.standings.entries };
+    ghost view = { λ r. r.standings };
 
-    ghost invariant = { λ r. AreRanked r.standings.entries r.validators.items };
+    ghost invariant = { λ r. AreRanked r.standings r.validators.items };
 }
 
 impl Roles {
@@ -42,7 +42,7 @@ impl Roles {
         ensures { result ≡ [] }
     {
         Roles {
-            standings: BTreeMap::new(alloc),
+            standings: Standings::new(alloc),
             validators: Vec::new(alloc),
         }
     }
@@ -54,7 +54,7 @@ impl Roles {
         ensures others { KeepsOthers self.old self.new who }
     {
         self.check_targets(who, targets.as_slice())?;
-        self.standings.insert(who, Standing::Nominator(targets))?;
+        self.standings.put(who, Standing::Nominator(targets))?;
         leave(&mut self.validators, who);
         Ok(())
     }
@@ -73,8 +73,7 @@ impl Roles {
             return Err(ListRefusal::TooManyValidators);
         }
         self.validators.reserve(1)?;
-        self.standings
-            .insert(who, Standing::Validator { commission })?;
+        self.standings.put(who, Standing::Validator { commission })?;
         enter(&mut self.validators, who);
         Ok(())
     }
@@ -86,7 +85,7 @@ impl Roles {
         ensures answer { result ≡ answer_of (chill_refusal self.old who) }
         ensures others { KeepsOthers self.old self.new who }
     {
-        if self.standings.remove(&who).is_none() {
+        if !self.standings.remove(who) {
             return Err(ListRefusal::NotListed);
         }
         leave(&mut self.validators, who);
@@ -97,7 +96,7 @@ impl Roles {
     pub fn role(&self, who: AccountId) -> Role
         ensures { result ≡ role_of self.now who }
     {
-        match self.standings.get(&who) {
+        match self.standings.get(who) {
             None => Role::Nobody,
             Some(Standing::Nominator(_)) => Role::Nominator,
             Some(Standing::Validator { commission }) => Role::Validator {
@@ -110,7 +109,7 @@ impl Roles {
     pub fn targets_of(&self, who: AccountId) -> &[AccountId]
         ensures { result.now ≡ nominated_by self.now who }
     {
-        match self.standings.get(&who) {
+        match self.standings.get(who) {
             Some(Standing::Nominator(targets)) => targets.as_slice(),
             _ => &[],
         }
@@ -145,11 +144,14 @@ impl Roles {
         }
     }
 
-    /// The validators are few and stand side by side, so that they are searched and not the roles.
+    /// Whether the account is a validator. Its standing is found sooner than its rank.
     fn is_validator(&self, who: AccountId) -> bool
         ensures { result ≡ is_validator self.now who }
     {
-        self.rank(who).is_some()
+        match self.standings.get(who) {
+            Some(Standing::Validator { .. }) => true,
+            _ => false,
+        }
     }
 
     /// Whether the account may nominate these targets.

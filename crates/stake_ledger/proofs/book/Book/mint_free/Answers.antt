@@ -6,13 +6,13 @@ use Rattle.stake_ledger.proofs.LedgerLemmas.{others_by}
 use Rattle.stake_ledger.proofs.book.Book.mint_free.Goals as goal
 
 pub give-requires-clause-fits : goal.give-requires-clause-fits
-give-requires-clause-fits c = omega (arith, worth_within c.args.who _ _ c.self.invariant)
+give-requires-clause-fits c = omega (arith, c.in_ok-check_room.ensures.within, ap room_of c.self.view_is, worth_within c.args.who _ _ c.self.invariant)
 
 pub overflow_add-self : goal.overflow_add-self
-overflow_add-self c = omega (arith, totals_within _ _ c.self.invariant)
+overflow_add-self c = omega (arith, c.in_ok-check_room.ensures.within, ap room_of c.self.view_is, totals_within _ _ c.self.invariant)
 
 pub invariant_of-self : goal.invariant_of-self
-invariant_of-self c = rw c.give.ensures (kept_minted c.args.who c.args.value _ _ c.self.invariant (omega (arith, ap room_of c.self.view_is)))
+invariant_of-self c = rw c.give.ensures (kept_minted c.args.who c.args.value _ _ c.self.invariant (omega (arith, c.in_ok-check_room.ensures.within, ap room_of c.self.view_is)))
 
 pub returns-clause-others : goal.returns-clause-others
 returns-clause-others c = rw (← c.self.view_is) (others_by c.args.who (gained c.args.value) _ _ c.give.ensures)

@@ -1,15 +1,15 @@
--- The account takes a place at the tail of the bag.
+-- The account joins the tail of the bag.
 use Rattle.std.proofs.Common.{◌∙◌, ap, length, arith}
 use Rattle.voter_lists.specs.Bags.{is_listed, in_walk_order, joined, bag_of}
 use Rattle.voter_lists.specs.BagRows.{walk_from}
 use Rattle.voter_lists.specs.Nodes.{bags_in, home_of}
 use Rattle.voter_lists.proofs.ListingLemmas.{not_listed, joined_walk}
-use Rattle.voter_lists.proofs.LinkedLemmas.{no_place, linked_joined, then_ok}
+use Rattle.voter_lists.proofs.LinkedLemmas.{linked_joined, then_ok}
 use Rattle.voter_lists.proofs.bags.Bags.insert.Goals as goal
 
 pub join-requires-clause-absent : goal.join-requires-clause-absent
 join-requires-clause-absent c =
-    no_place c.self.inside.thresholds c.self.inside.nodes c.self.invariant c.args.who (not_listed c.self.inside.thresholds (bags_in c.self.inside.nodes) (home_of c.self.inside.nodes) c.self.invariant.homes c.args.who (ap (λ listing. is_listed listing.order c.args.who) c.self.view_is ∙ c.requires))
+    not_listed c.self.inside.thresholds (bags_in c.self.inside.nodes) (home_of c.self.inside.nodes) c.self.invariant.homes c.args.who (ap (λ listing. is_listed listing.order c.args.who) c.self.view_is ∙ c.requires)
 
 pub invariant_of-self : goal.invariant_of-self
 invariant_of-self c =

@@ -14,7 +14,7 @@ unreachable-requires c = noted_somewhere c.self.inside.thresholds (bags_in c.sel
 
 pub returns-in-Some-next_in : goal.returns-in-Some-next_in
 returns-in-Some-next_in c =
-    let account = account_at c.self.inside.nodes.accounts.items in
+    let account = account_at c.self.inside.nodes.places in
     rw (← c.self.view_is)
     (sym (after_is c.self.inside.thresholds c.self.inside.nodes c.self.invariant c.args.who c.in-Some.place c.in-Some.home c.in-Some.ensures.found.0 c.in-Some.ensures.found.1 c.in-Some.ensures.found.2
     ∙ ap (λ o. or_first (option_map account o) (falling (take c.in-Some.home (bags_in c.self.inside.nodes)))) (sym c.next_in.ensures.value ∙ c.in-Some-next_in.is)
@@ -22,7 +22,7 @@ returns-in-Some-next_in c =
 
 pub returns-in-None : goal.returns-in-None
 returns-in-None c =
-    let account = account_at c.self.inside.nodes.accounts.items in
+    let account = account_at c.self.inside.nodes.places in
     rw (← c.self.view_is)
     (c.first_below.ensures
     ∙ sym (after_is c.self.inside.thresholds c.self.inside.nodes c.self.invariant c.args.who c.in-Some.place c.in-Some.home c.in-Some.ensures.found.0 c.in-Some.ensures.found.1 c.in-Some.ensures.found.2

@@ -1,10 +1,13 @@
 -- The account leaves the validators kept beside the standings.
 use Rattle.std.proofs.Common.{sym, ◌∙◌, ap}
 use Rattle.std.proofs.lemmas.Result.{err_from_is_err_and}
+use Rattle.npos_base.proofs.AccountOrder.{account_total}
+use Rattle.npos_base.proofs.EntryLemmas.{sorted_put}
 use Rattle.npos_base.specs.Refusal.{answer_of}
 use Rattle.voter_lists.specs.Roles.{nominate_refusal}
 use Rattle.npos_base.proofs.Refusals.{meets_answer}
-use Rattle.voter_lists.proofs.ValidatorLemmas.{ranked_rise, ranked_nominating, others_keep}
+use Rattle.voter_lists.proofs.ValidatorLemmas.{ranked_rise, ranked_nominating, others_put}
+use Rattle.voter_lists.specs.declared.standing.Standing.TheVariants.{Nominator}
 use Rattle.voter_lists.proofs.roles.Roles.nominate.Goals as goal
 
 pub returns-in_err-check_targets-clause-meets : goal.returns-in_err-check_targets-clause-meets
@@ -14,11 +17,12 @@ returns-in_err-check_targets-clause-meets c =
     (ap (λ targets. answer_of (nominate_refusal c.args.self.now c.args.who targets)) (sym c.as_slice.ensures) ∙ sym c.in_err-check_targets.ensures))
 
 pub leave-requires : goal.leave-requires
-leave-requires c = record { rising = ranked_rise c.self.inside.standings.entries c.self.inside.validators.items c.self.invariant }
+leave-requires c = record { rising = ranked_rise c.self.inside.standings c.self.inside.validators.items c.self.invariant }
 
 pub invariant_of-self-2 : goal.invariant_of-self-2
 invariant_of-self-2 c =
-    ranked_nominating c.args.who c.args.targets c.self.inside.standings.entries _ c.self.inside.validators.items _ c.self.invariant c.in_ok-insert.ensures.entries c.insert.ensures.ordered c.leave.ensures
+    ranked_nominating c.args.who c.args.targets c.self.inside.standings _ c.self.inside.validators.items _ c.self.invariant c.in_ok-put.ensures.ok
+    (rw c.in_ok-put.ensures.ok (sorted_put account_total c.args.who (Nominator c.args.targets) c.self.inside.standings c.self.invariant.rising)) c.leave.ensures
 
 pub returns-clause-others : goal.returns-clause-others
-returns-clause-others c = rw (← c.self.view_is) (others_keep c.self.inside.standings.entries _ c.args.who c.in_ok-insert.ensures.updates.2)
+returns-clause-others c = rw (← c.self.view_is, c.in_ok-put.ensures.ok) (others_put c.self.inside.standings c.args.who (Nominator c.args.targets))

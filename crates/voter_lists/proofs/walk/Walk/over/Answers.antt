@@ -7,4 +7,4 @@ use Rattle.voter_lists.proofs.walk.Walk.over.Goals as goal
 
 pub returns : goal.returns
 returns c =
-    ap falling (take_all c.count.result (bags_in c.args.nodes.now) (omega (arith, c.count.ensures, bags_length c.args.nodes.now.rings (account_at c.args.nodes.now.accounts.items) c.args.nodes.now.bags)))
+    ap falling (take_all c.count.result (bags_in c.args.nodes.now) (omega (arith, c.count.ensures, bags_length c.args.nodes.now.rings (account_at c.args.nodes.now.places) c.args.nodes.now.bags)))

@@ -1,0 +1,53 @@
+-- How accounts are found: most by one of the slots that each of them has, and the others in order.
+use Rattle.std.specs.Prelude.{◌≡◌, ◌≢◌, ◌⊎◌, ℕ, ◌+◌, ◌*◌, ◌/◌, ◌%◌, ◌^◌, ◌<◌, ◌≤◌, List, Some, slice_get, slice_index_or, bit_and}
+use Rattle.npos_base.specs.declared.account.AccountId.{AccountId}
+use Rattle.account_places.specs.Places.{place_in}
+
+-- the first slot of an account, by all of its bytes
+abbrev pub mixed : AccountId → ℕ
+mixed who =
+    ((((who.hi / 2 ^ 64 + bit_and who.hi 0xffff_ffff_ffff_ffff) % 2 ^ 64 + who.lo / 2 ^ 64) % 2 ^ 64
+    + bit_and who.lo 0xffff_ffff_ffff_ffff) % 2 ^ 64 * 0x9e37_79b9_7f4a_7c15) % 2 ^ 64
+
+abbrev pub slot_in : ℕ → AccountId → ℕ
+slot_in count who = mixed who / 2 ^ 32 * count % 2 ^ 64 / 2 ^ 32
+
+-- the mark of a slot; beyond the slots it is that of the first place
+abbrev pub mark_at : List ℕ → ℕ → ℕ
+mark_at slots slot = slice_index_or slots slot 1
+
+-- no slot from the first up to another is free
+abbrev pub AreTaken : List ℕ → ℕ → ℕ → Type 0
+AreTaken slots first end = (slot : ℕ) → first ≤ slot → slot < end → mark_at slots slot ≢ 0
+
+-- the first free one of four slots
+pub record IsFree (slots : List ℕ) (first slot : ℕ) : Type 0 where
+  pub after : first ≤ slot
+  pub before : slot < first + 4
+  pub free : mark_at slots slot ≡ 0
+  pub taken : AreTaken slots first slot
+
+-- one of four slots, with none before it that is free, has the mark of the place
+pub record IsMarked (slots : List ℕ) (first place slot : ℕ) : Type 0 where
+  pub after : first ≤ slot
+  pub before : slot < first + 4
+  pub mark : mark_at slots slot ≡ place + 1
+  pub taken : AreTaken slots first slot
+
+-- a slot of the account has the mark of its place, or all are taken and the account is in the crowd
+abbrev pub IsFound : List ℕ → ℕ → List (AccountId × ℕ) → AccountId → ℕ → Type 0
+IsFound slots first crowd who place =
+    ((slot : ℕ) × IsMarked slots first place slot)
+    ⊎ (AreTaken slots first (first + 4) × (place_in crowd who ≡ Some place))
+
+-- each account at a place below the limit is found, and who is in the crowd stands where it says
+pub record Finds (slots : List ℕ) (count : ℕ) (crowd : List (AccountId × ℕ)) (accounts : List AccountId) (limit : ℕ) : Type 0 where
+  pub found : (who : AccountId) (place : ℕ) → place < limit → slice_get accounts place ≡ Some who
+      → IsFound slots (slot_in count who) crowd who place
+  pub standing : (who : AccountId) (place : ℕ) → place_in crowd who ≡ Some place
+      → slice_get accounts place ≡ Some who
+
+-- no account stands twice
+abbrev pub IsApart : List AccountId → Type 0
+IsApart accounts = (who : AccountId) (one other : ℕ) → slice_get accounts one ≡ Some who
+    → slice_get accounts other ≡ Some who → one ≡ other

@@ -1,0 +1,178 @@
+//! How accounts are found among many: by slots, as in a hash table, and in order where they crowd
+//! the slots.
+ghost use Rattle.std.specs.Prelude.{◌≡◌, ◌≢◌, ◌+◌, ◌^◌, ◌<◌, ℕ, List, length, true, Some, IfOk, IfSome, IfNone, OnOk, OnErr, slice_get};
+ghost use Rattle.npos_base.specs.declared.account.AccountId.{AccountId};
+ghost use Rattle.account_places.specs.Index.{mixed, slot_in, mark_at, IsFree, AreTaken, Finds, IsApart};
+
+use npos_base::{AccountId, NoMemory};
+use std::alloc::Global;
+use std::collections::BTreeMap;
+
+/// The fewest slots at which a search may begin, where there are any.
+const LEAST_SLOTS: usize = 256;
+
+/// More places than this are not marked.
+const MOST_PLACES: usize = 0xffff_ffff;
+
+/// An account marks its place in one of so many slots, of which its bytes choose the first.
+const TRIES: usize = 4;
+
+/// An account marks its place in the first of its slots that is free. An account that finds all of
+/// them taken is in the crowd, which is searched by its order: so no choice of accounts makes a
+/// search long.
+#[derive(Drop)]
+pub(crate) struct Index {
+    // the place after that of the account that came first to the slot, or 0
+    slots: Vec<u32>,
+    // at so many slots a search may begin
+    count: usize,
+    crowd: BTreeMap<AccountId, usize>,
+}
+
+/// The halves of the account, and the halves of these, mixed into one number.
+fn mixed(who: AccountId) -> u64
+    ensures { result ≡ mixed who }
+{
+    let high = (who.hi >> 64) as u64;
+    let low = (who.lo >> 64) as u64;
+    let sum = high
+        .wrapping_add((who.hi & 0xffff_ffff_ffff_ffff) as u64)
+        .wrapping_add(low)
+        .wrapping_add((who.lo & 0xffff_ffff_ffff_ffff) as u64);
+    sum.wrapping_mul(0x9e37_79b9_7f4a_7c15)
+}
+
+/// The first slot of an account, where a search may begin at so many.
+fn slot_of(who: AccountId, count: usize) -> usize
+    ensures first { result ≡ slot_in count who }
+    ensures small { result < 2 ^ 32 }
+{
+    ((mixed(who) >> 32).wrapping_mul(count as u64) >> 32) as usize
+}
+
+/// Whether the account stands at this place.
+fn stands_at(accounts: &[AccountId], place: usize, who: AccountId) -> bool
+    ensures yes { result ≡ true → slice_get accounts.now place ≡ Some who }
+    ensures no { slice_get accounts.now place ≡ Some who → result ≡ true }
+{
+    match accounts.get(place) {
+        Some(account) => *account == who,
+        None => false,
+    }
+}
+
+impl Index {
+    /// No slots: all accounts are searched.
+    pub(crate) fn new(alloc: Global) -> Index
+        ensures { (accounts : List AccountId)
+            → Finds result.slots.items result.count result.crowd.entries accounts 0 }
+    {
+        Index {
+            slots: Vec::new(alloc),
+            count: 0,
+            crowd: BTreeMap::new(alloc),
+        }
+    }
+
+    /// Free slots, at so many of which a search may begin.
+    fn with_slots(alloc: Global, count: usize) -> Result<Index, NoMemory>
+        ensures { IfOk result (λ index. (accounts : List AccountId)
+            → Finds index.slots.items index.count index.crowd.entries accounts 0) }
+    {
+        Ok(Index {
+            slots: vec![in alloc; 0; count.saturating_add(TRIES - 1)]?,
+            count,
+            crowd: BTreeMap::new(alloc),
+        })
+    }
+
+    /// An index of these accounts, in so many slots.
+    pub(crate) fn of(alloc: Global, accounts: &[AccountId], count: usize) -> Result<Index, NoMemory>
+        requires { IsApart accounts.now }
+        ensures { IfOk result (λ index. Finds index.slots.items index.count index.crowd.entries
+            accounts.now (length accounts.now)) }
+    {
+        let mut index = Index::with_slots(alloc, count)?;
+        for place in 0..accounts.len() {
+            index.note(accounts[place], place)?;
+        }
+        Ok(index)
+    }
+
+    /// The mark of a slot. Beyond the slots it is that of the first place, which is looked at as any
+    /// other mark.
+    fn mark(&self, slot: usize) -> usize
+        ensures { result ≡ mark_at self.now.slots.items slot }
+    {
+        match self.slots.get(slot) {
+            Some(mark) => *mark as usize,
+            None => 1,
+        }
+    }
+
+    /// The first of the account's slots that has no mark.
+    fn free_slot(&self, who: AccountId) -> Option<usize>
+        ensures some { IfSome result (λ slot. IsFree self.now.slots.items
+            (slot_in self.now.count who) slot) }
+        ensures none { IfNone result (AreTaken self.now.slots.items (slot_in self.now.count who)
+            (slot_in self.now.count who + 4)) }
+    {
+        let first = slot_of(who, self.count);
+        for slot in first..first + TRIES {
+            if self.mark(slot) == 0 {
+                return Some(slot);
+            }
+        }
+        None
+    }
+
+    /// Notes the account that comes to the next place.
+    pub(crate) fn note(&mut self, who: AccountId, place: usize) -> Result<(), NoMemory>
+        ensures ok { OnOk result ((accounts : List AccountId) → IsApart accounts
+            → slice_get accounts place ≡ Some who
+            → Finds self.old.slots.items self.old.count self.old.crowd.entries accounts place
+            → Finds self.new.slots.items self.new.count self.new.crowd.entries accounts (place + 1)) }
+        ensures err { OnErr result ((self.new.slots.items ≡ self.old.slots.items)
+            × (self.new.count ≡ self.old.count)
+            × (self.new.crowd.entries ≡ self.old.crowd.entries)) }
+    {
+        if place >= MOST_PLACES {
+            return Err(NoMemory);
+        }
+        if let Some(slot) = self.free_slot(who) {
+            self.slots[slot] = place as u32 + 1;
+            return Ok(());
+        }
+        self.crowd.insert(who, place)?;
+        Ok(())
+    }
+
+    /// The place of the account among these, all of which were noted.
+    pub(crate) fn find(&self, accounts: &[AccountId], who: AccountId) -> Option<usize>
+        requires { Finds self.now.slots.items self.now.count self.now.crowd.entries
+            accounts.now (length accounts.now) }
+        ensures found { IfSome result (λ place. slice_get accounts.now place ≡ Some who) }
+        ensures absent { IfNone result ((place : ℕ) → slice_get accounts.now place ≢ Some who) }
+    {
+        let first = slot_of(who, self.count);
+        for slot in first..first + TRIES {
+            let mark = self.mark(slot);
+            if mark == 0 {
+                return None;
+            }
+            if stands_at(accounts, mark - 1, who) {
+                return Some(mark - 1);
+            }
+        }
+        self.crowd.get(&who).copied()
+    }
+
+    /// How many slots there should be for one account more than so many, where there are too few.
+    pub(crate) fn more_slots(&self, accounts: usize) -> Option<usize> {
+        if accounts < self.count / 2 {
+            None
+        } else {
+            Some(self.count.saturating_mul(2).max(LEAST_SLOTS))
+        }
+    }
+}

@@ -1,0 +1,10 @@
+//! Where accounts stand: each account that comes has the next place, and is found by it whatever
+//! the accounts are.
+#![tactic(auto)]
+
+mod index;
+mod places;
+#[cfg(test)]
+mod tests;
+
+pub use places::Places;

@@ -1,0 +1,108 @@
+//! Where accounts stand: each account that comes has the next place.
+ghost use Rattle.std.specs.Prelude.{◌≡◌, ◌<◌, [], ◌∷◌, ◌++◌, None, Some, OnErr, OnOk, length, slice_get};
+ghost use Rattle.std.specs.BTreeMap.{insert_entry};
+ghost use Rattle.npos_base.specs.Account.{account_cmp};
+ghost use Rattle.account_places.specs.Places.{place_in, by_account, Stand};
+ghost use Rattle.account_places.specs.Index.{Finds, IsApart};
+
+use crate::index::Index;
+use npos_base::{AccountId, NoMemory};
+use std::alloc::Global;
+use std::marker::Model;
+
+/// The places of accounts, each of which keeps its own for good. Contracts see the accounts in the
+/// order in which they came.
+#[derive(Drop)]
+pub struct Places {
+    alloc: Global,
+    accounts: Vec<AccountId>,
+    index: Index,
+}
+
+impl Model for Places {
+    ghost use Rattle.std.specs.Prelude.{List};
+    ghost use Rattle.npos_base.specs.declared.account.AccountId.{AccountId};
+    ghost use Rattle.account_places.specs.Kept.{IsKept};
+
+    ghost Value = { List AccountId };
+
+    ghost view = { λ p. p.accounts.items };
+
+    ghost invariant = { λ p. IsKept p.accounts.items p.index.slots.items p.index.count
+        p.index.crowd.entries };
+}
+
+impl Places {
+    /// No places. It takes no memory.
+    pub fn new(alloc: Global) -> Places
+        ensures { result ≡ [] }
+    {
+        Places {
+            alloc,
+            accounts: Vec::new(alloc),
+            index: Index::new(alloc),
+        }
+    }
+
+    /// The place of the account. It is found in the logarithm of their number at most, whatever the
+    /// accounts are.
+    pub fn find(&self, who: AccountId) -> Option<usize>
+        ensures place { result ≡ place_in (by_account self.now) who }
+        ensures stand { Stand self.now (by_account self.now) }
+    {
+        self.index.find(self.accounts.as_slice(), who)
+    }
+
+    /// How many accounts have a place.
+    pub fn count(&self) -> usize
+        ensures { result ≡ length self.now }
+    {
+        self.accounts.len()
+    }
+
+    /// The account at a place.
+    pub fn account(&self, place: usize) -> AccountId
+        requires { place < length self.now }
+        ensures at { slice_get self.now place ≡ Some result }
+        ensures back { place_in (by_account self.now) result ≡ Some place }
+    {
+        self.accounts[place]
+    }
+
+    /// Gives the next place to an account that has none.
+    pub fn put(&mut self, who: AccountId) -> Result<(), NoMemory>
+        requires { place_in (by_account self.old) who ≡ None }
+        ensures ok { OnOk result (self.new ≡ self.old ++ who ∷ []) }
+        ensures places { OnOk result (by_account self.new
+            ≡ insert_entry account_cmp (by_account self.old) who (length (by_account self.old))) }
+        ensures place { OnOk result (place_in (by_account self.new) who ≡ Some (length self.old)) }
+        ensures err { OnErr result (self.new ≡ self.old) }
+    {
+        self.accounts.reserve(1)?;
+        widen(self.alloc, &mut self.index, self.accounts.as_slice());
+        self.index.note(who, self.accounts.len())?;
+        match self.accounts.push(who) {
+            Ok(()) => {}
+            Err(_) => unreachable!(),
+        }
+        Ok(())
+    }
+}
+
+/// Notes all accounts anew in more slots, where the slots are few. They stay as they are where there
+/// is no memory for more: then more accounts are searched.
+fn widen(alloc: Global, index: &mut Index, accounts: &[AccountId])
+    requires apart { IsApart accounts.now }
+    requires whole { Finds index.old.slots.items index.old.count index.old.crowd.entries
+        accounts.now (length accounts.now) }
+    ensures { Finds index.new.slots.items index.new.count index.new.crowd.entries
+        accounts.now (length accounts.now) }
+{
+    let Some(count) = index.more_slots(accounts.len()) else {
+        return;
+    };
+    let Ok(wider) = Index::of(alloc, accounts, count) else {
+        return;
+    };
+    *index = wider;
+}
