@@ -6,10 +6,9 @@ use Rattle.scale_wire.specs.declared.fault.WireFault.{WireFault}
 use Rattle.scale_wire.specs.declared.fault.ReadFault.{ReadFault}
 use Rattle.scale_wire.specs.declared.fault.ReadFault.TheVariants.{Wire, NoMemory}
 use Rattle.scale_wire.specs.Form.{Form}
-use Rattle.scale_wire.specs.Composite.{pair, triple, items, row, row_bytes, IsRow, BadRow}
+use Rattle.scale_wire.specs.Composite.{pair, triple, row, row_bytes, IsRow, BadRow}
 use Rattle.scale_wire.specs.Reading.{Place, IsRead, IsFault, Reads}
 use Rattle.scale_wire.proofs.ReadLemmas.{behind_fault}
-use Rattle.scale_wire.proofs.ListLemmas.{items_err}
 
 -- the second of a pair was refused; `here` is a copy of the cursor as it was
 pub pair_fault : {A B : Type 0} (a : Form A) (b : Form B) (old here mid new : Place) (first : A) (fault : WireFault) → here ≡ old
@@ -19,9 +18,9 @@ pair_fault a b old here mid new first fault same read refused =
 
 module _ {A B C : Type 0} (a : Form A) (b : Form B) (c : Form C) where
   -- the second of three was refused
-  pub second_fault : (old here mid new : Place) (first : A) (fault : WireFault) → here ≡ old
-      → IsRead a here first mid → IsFault b mid fault new → IsFault (triple a b c) old fault old
-  second_fault old here mid new first fault same read refused =
+  pub second_err : (old here mid new : Place) (first : A) (fault : ReadFault) → here ≡ old
+      → IsRead a here first mid → Reads b mid (Err fault) new → Reads (triple a b c) old (Err fault) old
+  second_err old here mid new first (Wire fault) same read refused =
       subst (λ (o : Place). IsFault (triple a b c) o fault o) same
       (behind_fault a (λ _. (pair b c).bad) here mid new first fault read record {
         place = refused.place;
@@ -29,6 +28,7 @@ module _ {A B C : Type 0} (a : Form A) (b : Form B) (c : Form C) where
         at_is = refused.at_is;
         unchanged = refused.unchanged;
       })
+  second_err old here mid new first NoMemory same read refused = refl
 
   -- the third of three was refused
   pub third_fault : (old here mid next new : Place) (first : A) (second : B) (fault : WireFault) → here ≡ old
@@ -37,12 +37,6 @@ module _ {A B C : Type 0} (a : Form A) (b : Form B) (c : Form C) where
       subst (λ (o : Place). IsFault (triple a b c) o fault o) same
       (behind_fault a (λ _. (pair b c).bad) here mid mid first fault read
       (behind_fault b (λ _. c.bad) mid next new second fault more refused))
-
--- one of several was refused; `here` is a copy of the cursor as it was
-pub items_refused : {A : Type 0} (item : Form A) (count done : ℕ) (old here mid new : Place) (xs : List A) (fault : WireFault) → here ≡ old
-    → done < count → IsRead (items item done) here xs mid → IsFault item mid fault new → IsFault (items item count) old fault old
-items_refused item count done old here mid new xs fault same below read refused =
-    items_err item count done old here mid new xs (Wire fault) same below read refused
 
 -- ## Rows
 

@@ -29,13 +29,14 @@ impl Model for Choice {
 }
 
 impl Choice {
-    fn new(alloc: Global) -> Choice
-        ensures { result ≡ no_choice }
+    /// Nothing, with room for so many edges.
+    fn with_room(alloc: Global, edges: usize) -> Result<Choice, NoMemory>
+        ensures { IfOk result (λ choice. choice ≡ no_choice) }
     {
-        Choice {
-            with_part: Vec::new(alloc),
+        Ok(Choice {
+            with_part: Vec::with_capacity(alloc, edges)?,
             greatest: None,
-        }
+        })
     }
 
     /// One more edge of a voter with this stake.
@@ -108,14 +109,26 @@ fn greater(best: Option<Edge>, edge: Edge) -> Option<Edge>
     }
 }
 
-/// Nothing to keep for so many voters.
-#[tactic(auto, using(crate::proofs::PackLemmas::choices_more))]
-fn no_choices(alloc: Global, count: usize) -> Result<Vec<Choice>, NoMemory>
-    ensures { IfOk result (λ choices. choices.items ≡ no_choices count) }
+/// How many edges each of so many voters has.
+fn count_edges(alloc: Global, voters: usize, edges: &[Edge]) -> Result<Vec<usize>, NoMemory>
+    requires { All (λ edge. edge.voter < voters) edges.now }
+    ensures { IfOk result (λ counts. length counts.items ≡ voters) }
 {
-    let mut choices = Vec::with_capacity(alloc, count)?;
-    for _ in 0..count {
-        choices.push(Choice::new(alloc))?;
+    let mut counts = vec![in alloc; 0; voters]?;
+    for edge in edges {
+        counts[edge.voter as usize] += 1;
+    }
+    Ok(counts)
+}
+
+/// Nothing to keep, by voter, with room for as many edges as each has.
+#[tactic(auto, using(crate::proofs::PackLemmas::choices_more))]
+fn no_choices(alloc: Global, counts: &[usize]) -> Result<Vec<Choice>, NoMemory>
+    ensures { IfOk result (λ choices. choices.items ≡ no_choices (length counts.now)) }
+{
+    let mut choices = Vec::with_capacity(alloc, counts.len())?;
+    for count in counts {
+        choices.push(Choice::with_room(alloc, *count)?)?;
     }
     Ok(choices)
 }
@@ -127,7 +140,8 @@ fn choose(alloc: Global, stakes: &[u64], edges: &[Edge]) -> Result<Vec<Choice>, 
     requires fit { AllFit stakes.now edges.now }
     ensures { IfOk result (λ choices. choices.items ≡ choices_of stakes.now edges.now) }
 {
-    let mut choices = no_choices(alloc, stakes.len())?;
+    let counts = count_edges(alloc, stakes.len(), edges)?;
+    let mut choices = no_choices(alloc, counts.as_slice())?;
     for edge in edges {
         let voter = edge.voter as usize;
         choices[voter].take(stakes[voter], *edge)?;

@@ -1,13 +1,12 @@
 //! Entries: a voter, its targets and their shares.
-ghost use Rattle.std.specs.Prelude.{◌≡◌, ◌+◌, ◌<◌, ◌≤◌, [], ◌∷◌, ◌++◌, length, slice_index};
+ghost use Rattle.std.specs.Prelude.{◌≡◌, ◌+◌, ◌<◌, ◌≤◌, length, slice_index};
 ghost use Rattle.compact_solution.specs.Solution.{group_count, targets_of, parts_of};
 
+use npos_base::List;
 use std::marker::Model;
 
 /// How many groups a solution has, and how many targets an entry of the last one names.
 pub const GROUPS: usize = 16;
-
-const MOST_SHARES: usize = GROUPS - 1;
 
 /// A target with its share of the voter's stake, in parts of 65,535.
 #[derive(Clone, Copy, Debug, PartialEq, Eq)]
@@ -16,80 +15,37 @@ pub struct Share {
     pub parts: u16,
 }
 
-// The shares of one entry, kept in place. Contracts see their list.
-#[derive(Drop)]
-pub(crate) struct Shares {
-    kept: [Share; MOST_SHARES],
-    count: u8,
-}
-
-impl Model for Shares {
-    ghost use Rattle.std.specs.Prelude.{◌≡◌, ◌<◌, List, length, take};
-    ghost use Rattle.compact_solution.specs.declared.entry.TheConstants.{GROUPS, MOST_SHARES};
-    ghost use Rattle.compact_solution.specs.declared.entry.Share.{Share};
-
-    ghost Value = { List Share };
-
-    ghost view = { λ s. take s.count s.kept };
-
-    ghost invariant = { λ s. (s.count < GROUPS) × (length s.kept ≡ MOST_SHARES) };
-}
-
-impl Shares {
-    pub(crate) fn new() -> Shares
-        ensures { result ≡ [] }
-    {
-        let nothing = Share {
-            target: 0,
-            parts: 0,
-        };
-        Shares {
-            kept: [nothing; MOST_SHARES],
-            count: 0,
-        }
-    }
-
-    pub(crate) fn push(&mut self, share: Share)
-        requires { length self.old < MOST_SHARES }
-        ensures { self.new ≡ self.old ++ share ∷ [] }
-    {
-        self.kept[usize::from(self.count)] = share;
-        self.count += 1;
-    }
-
-    pub(crate) fn as_slice(&self) -> &[Share]
-        ensures shares { result.now ≡ self.now }
-        ensures most { length result.now < GROUPS }
-    {
-        &self.kept[..usize::from(self.count)]
-    }
-}
-
 /// What one voter gives: some targets with their shares, and a last target that gets the rest of
-/// its stake. Contracts see the voter, the list of shares and the last target.
+/// its stake. Contracts see the voter, the list of shares and the last target. An entry of one
+/// target takes no memory of its own.
 #[derive(Drop)]
 pub struct Entry {
     voter: u32,
-    shares: Shares,
     last: u16,
+    shares: List<Share>,
 }
 
 impl Model for Entry {
+    ghost use Rattle.std.specs.Prelude.{◌<◌, length};
+    ghost use Rattle.compact_solution.specs.declared.entry.TheConstants.{GROUPS};
     ghost use Rattle.compact_solution.specs.Solution.{Entry};
 
     ghost Value = { Entry };
 
     ghost view = { λ e. record { voter = e.voter; shares = e.shares; last = e.last } };
+
+    ghost invariant = { λ e. length e.shares < GROUPS };
 }
 
 impl Entry {
-    pub(crate) fn new(voter: u32, shares: Shares, last: u16) -> Entry
+    pub(crate) fn new(voter: u32, shares: List<Share>, last: u16) -> Entry
+        requires { length shares < GROUPS }
         ensures { result ≡ record { voter = voter; shares = shares; last = last } }
     {
         Entry {
             voter,
-            shares,
             last,
+            shares,
         }
     }
 

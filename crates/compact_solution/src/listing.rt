@@ -5,7 +5,7 @@ ghost use Rattle.compact_solution.specs.Packing.{leads_to, lost_among, entry_of,
 ghost use Rattle.compact_solution.specs.Choosing.{Fits, AreMarks, AllKeptFit, empty_groups};
 
 use crate::choosing::parts_in;
-use crate::entry::{Entry, GROUPS, Share, Shares, group_count};
+use crate::entry::{Entry, GROUPS, Share, group_count};
 use npos_base::{Edge, List, NoMemory};
 use std::alloc::Global;
 
@@ -97,12 +97,17 @@ pub(crate) fn list_entries(
         ≡ groups_of stakes.now kept.now (length stakes.now)) }
 {
     let mut groups = no_groups(alloc)?;
-    list_all(&mut groups, stakes, kept)?;
+    list_all(alloc, &mut groups, stakes, kept)?;
     Ok(groups)
 }
 
 /// Appends the entries of all voters to their groups.
-fn list_all(groups: &mut [List<Entry>], stakes: &[u64], kept: &[List<Edge>]) -> Result<(), NoMemory>
+fn list_all(
+    alloc: Global,
+    groups: &mut [List<Entry>],
+    stakes: &[u64],
+    kept: &[List<Edge>],
+) -> Result<(), NoMemory>
     requires empty { groups.old ≡ empty_groups }
     requires count { length kept.now ≡ length stakes.now }
     requires voters { length stakes.now ≤ 65536 }
@@ -111,13 +116,20 @@ fn list_all(groups: &mut [List<Entry>], stakes: &[u64], kept: &[List<Edge>]) -> 
     ensures { OnOk result (groups.new ≡ groups_of stakes.now kept.now (length stakes.now)) }
 {
     for voter in 0..stakes.len() {
-        list_entry(groups, voter as u32, stakes[voter], kept[voter].as_slice())?;
+        list_entry(
+            alloc,
+            groups,
+            voter as u32,
+            stakes[voter],
+            kept[voter].as_slice(),
+        )?;
     }
     Ok(())
 }
 
 /// Appends the entry of a voter that keeps these edges to its group. One that keeps none has none.
 fn list_entry(
+    alloc: Global,
     groups: &mut [List<Entry>],
     voter: u32,
     stake: u64,
@@ -132,7 +144,7 @@ fn list_entry(
         (slice_index_or groups.old (length kept.now - 1) [] ++ entry_of voter stake kept.now ∷ [])) }
 {
     if !kept.is_empty() {
-        let entry = entry_of(voter, stake, kept);
+        let entry = entry_of(alloc, voter, stake, kept)?;
         put(&mut groups[kept.len() - 1], entry)?;
     }
     Ok(())
@@ -158,29 +170,28 @@ fn no_groups(alloc: Global) -> Result<Vec<List<Entry>>, NoMemory>
 }
 
 /// The entry of a voter that keeps these edges, of which there is one at least.
-fn entry_of(voter: u32, stake: u64, kept: &[Edge]) -> Entry
+fn entry_of(alloc: Global, voter: u32, stake: u64, kept: &[Edge]) -> Result<Entry, NoMemory>
     requires some { 0 < length kept.now }
     requires few { length kept.now ≤ GROUPS }
     requires fit { All (Fits stake) kept.now }
-    ensures { result ≡ entry_of voter stake kept.now }
+    ensures { IfOk result (λ entry. entry ≡ entry_of voter stake kept.now) }
 {
     let last = kept.len() - 1;
-    let shares = list_shares(stake, &kept[..last]);
-    Entry::new(voter, shares, kept[last].target)
+    let shares = list_shares(alloc, stake, &kept[..last])?;
+    Ok(Entry::new(voter, shares, kept[last].target))
 }
 
 /// The shares of edges.
-fn list_shares(stake: u64, edges: &[Edge]) -> Shares
-    requires few { length edges.now < GROUPS }
-    requires fit { All (Fits stake) edges.now }
-    ensures { result ≡ map (share_of stake) edges.now }
+fn list_shares(alloc: Global, stake: u64, edges: &[Edge]) -> Result<List<Share>, NoMemory>
+    requires { All (Fits stake) edges.now }
+    ensures { IfOk result (λ shares. shares ≡ map (share_of stake) edges.now) }
 {
-    let mut shares = Shares::new();
+    let mut shares = Vec::with_capacity(alloc, edges.len())?;
     for edge in edges {
         shares.push(Share {
             target: edge.target,
             parts: parts_in(stake, *edge),
-        });
+        })?;
     }
-    shares
+    Ok(List::from_vec(shares))
 }

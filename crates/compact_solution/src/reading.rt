@@ -4,7 +4,7 @@ ghost use Rattle.scale_wire.specs.Composite.{items as items_of};
 ghost use Rattle.scale_wire.specs.Reading.{Takes, Reads};
 ghost use Rattle.compact_solution.specs.Solution.{share_form, entry_form, group_form};
 
-use crate::entry::{Entry, GROUPS, Share, Shares};
+use crate::entry::{Entry, GROUPS, Share};
 use npos_base::List;
 use scale_wire::Cursor;
 use scale_wire::fault::{ReadFault, WireFault};
@@ -43,37 +43,41 @@ fn read_entries(
     let room = here.rest().len() / (2 * shares + 2);
     let mut entries = Vec::with_capacity(alloc, room.min(count as usize))?;
     for _ in 0..count {
-        entries.push(take_entry(&mut here, shares)?)?;
+        entries.push(read_entry(alloc, &mut here, shares)?)?;
     }
     *cursor = here;
     Ok(List::from_vec(entries))
 }
 
 // An entry with this many shares.
-fn take_entry(cursor: &mut Cursor<'_>, shares: usize) -> Result<Entry, WireFault>
+fn read_entry(alloc: Global, cursor: &mut Cursor<'_>, shares: usize) -> Result<Entry, ReadFault>
     requires { shares < GROUPS }
-    ensures { Takes (entry_form shares) cursor.old result cursor.new }
+    ensures { Reads (entry_form shares) cursor.old result cursor.new }
 {
     let mut here = cursor.fork();
     let voter = here.take_compact_u32()?;
-    let listed = take_shares(&mut here, shares)?;
+    let listed = read_shares(alloc, &mut here, shares)?;
     let last = here.take_compact_u16()?;
     *cursor = here;
     Ok(Entry::new(voter, listed, last))
 }
 
 // This many shares.
-fn take_shares(cursor: &mut Cursor<'_>, count: usize) -> Result<Shares, WireFault>
+fn read_shares(
+    alloc: Global,
+    cursor: &mut Cursor<'_>,
+    count: usize,
+) -> Result<List<Share>, ReadFault>
     requires { count < GROUPS }
-    ensures { Takes (items_of share_form count) cursor.old result cursor.new }
+    ensures { Reads (items_of share_form count) cursor.old result cursor.new }
 {
     let mut here = cursor.fork();
-    let mut shares = Shares::new();
+    let mut shares = Vec::with_capacity(alloc, count)?;
     for _ in 0..count {
-        shares.push(take_share(&mut here)?);
+        shares.push(take_share(&mut here)?)?;
     }
     *cursor = here;
-    Ok(shares)
+    Ok(List::from_vec(shares))
 }
 
 // A target and its share.

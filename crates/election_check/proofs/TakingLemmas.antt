@@ -18,13 +18,11 @@ use Rattle.weight_book.specs.Weights.{Weights}
 use Rattle.weight_book.specs.Room.{WeightBook, HasRoom, KeepsRoom, vote_count}
 use Rattle.compact_solution.specs.Solution.{Entry, targets_of, entries_of}
 use Rattle.election_check.specs.declared.verdict.Verdict.{Verdict}
-use Rattle.election_check.specs.declared.verdict.Verdict.TheVariants.{NoTarget}
 use Rattle.election_check.specs.First.{answer_of, first_of}
-use Rattle.election_check.specs.Packed.{whole_stake, edges_of, listed_in, weights_of, unknown_target, entry_fault, voters_in, entries_fault}
+use Rattle.election_check.specs.Packed.{whole_stake, edges_of, listed_in, weights_of, entry_fault, voters_in, entries_fault}
 use Rattle.election_check.specs.Taking.{AreTaken}
 use Rattle.election_check.proofs.FirstLemmas.{first_none}
 use Rattle.election_check.proofs.ListFacts.{find_none_all}
-use Rattle.election_check.proofs.PassingLemmas.{mapped_none}
 use Rattle.election_check.proofs.SoundLemmas.{entry_sound, edges_within, length_of_edges}
 
 -- a stake that is split at a multiple of all parts
@@ -46,11 +44,10 @@ an_error None fault e = absurd (cc)
 an_error (Some other) fault e = ap (λ v. Some v) (cc)
 
 -- an entry none of whose targets is past the last one
-pub targets_known : (snapshot : Snapshot) (entry : Entry) → answer_of (unknown_target snapshot entry) ≡ Ok tt → All (λ target. target < length snapshot.targets) (targets_of entry)
-targets_known snapshot entry e k d below =
-    let none = find_none_all (λ target. nat_le (length snapshot.targets) target) (targets_of entry)
-    (mapped_none NoTarget (find (λ target. nat_le (length snapshot.targets) target) (targets_of entry)) (no_error (unknown_target snapshot entry) e)) in
-    leb-false (length snapshot.targets) (get_or (targets_of entry) k d) (none k d below)
+pub targets_known : (snapshot : Snapshot) (entry : Entry) → find (λ target. nat_le (length snapshot.targets) target) (targets_of entry) ≡ None → All (λ target. target < length snapshot.targets) (targets_of entry)
+targets_known snapshot entry none k d below =
+    leb-false (length snapshot.targets) (get_or (targets_of entry) k d)
+    (find_none_all (λ target. nat_le (length snapshot.targets) target) (targets_of entry) none k d below)
 
 -- ## Members
 

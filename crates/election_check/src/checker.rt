@@ -96,6 +96,16 @@ impl Checker {
         }
     }
 
+    /// Elects the members, where the verdict on these weights is known to be Yes: whoever calls it
+    /// has shown that, so nothing is judged again. It takes no memory.
+    pub fn elect(self, weights: Weights) -> Elected
+        requires { verdict_plain self weights.plain ≡ Yes }
+        ensures snapshot { result.snapshot ≡ self }
+        ensures weights { IsReordered weights result.weights }
+    {
+        Elected::new(self.into_snapshot(), weights)
+    }
+
     /// The snapshot, without the tables.
     fn into_snapshot(self) -> Snapshot
         ensures { result ≡ self }

@@ -1,12 +1,12 @@
 //! The steps of a check of a packed solution: its entries, their edges, the listed targets.
-ghost use Rattle.std.specs.Prelude.{◌≡◌, ◌≢◌, ◌<◌, ◌≤◌, ◌+◌, ◌*◌, ◌/◌, ◌++◌, [], ℕ, true, false, nat_lt, if◌then◌else◌, length, filter, sum, take, slice_index_or, slice_set, OnOk, All};
+ghost use Rattle.std.specs.Prelude.{◌≡◌, ◌≢◌, ◌<◌, ◌≤◌, ◌+◌, ◌*◌, ◌/◌, ◌++◌, [], ℕ, true, false, nat_lt, if◌then◌else◌, length, filter, find, not, nat_le, sum, take, slice_index_or, slice_set, IfNone, OnOk, All};
 ghost use Rattle.std.specs.List.{range_with_len};
-ghost use Rattle.election_snapshot.specs.Snapshot.{has, votes_of};
+ghost use Rattle.election_snapshot.specs.Snapshot.{has, nominates};
 ghost use Rattle.weight_book.specs.Weights.{no_weights, IsFeasible};
 ghost use Rattle.weight_book.specs.Room.{HasRoom, KeepsRoom};
 ghost use Rattle.compact_solution.specs.Solution.{targets_of, parts_of, entries_of};
-ghost use Rattle.election_check.specs.First.{answer_of, when};
-ghost use Rattle.election_check.specs.Packed.{expanded, expand_fault, entries_fault, entry_fault, unknown_target, repeated_target, unnominated_target, has_bad_share, edges_of, whole_stake, score_fault};
+ghost use Rattle.election_check.specs.First.{answer_of};
+ghost use Rattle.election_check.specs.Packed.{expanded, expand_fault, entries_fault, entry_fault, first_repeat, has_bad_share, edges_of, whole_stake, score_fault};
 ghost use Rattle.election_check.specs.Taking.{AreTaken};
 
 use crate::Verdict;
@@ -119,77 +119,104 @@ fn check_entry(
     if voter as usize >= snapshot.voter_count() {
         return Err(Verdict::NoVoter(voter));
     }
-    check_targets(snapshot, entry)?;
+    if let Some(target) = first_unknown(snapshot, entry) {
+        return Err(Verdict::NoTarget(target));
+    }
     if has_entry[voter as usize] {
         return Err(Verdict::VoterTwice(voter));
     }
-    stamp_targets(entry, voter + 1, stamps)?;
-    check_nominations(snapshot, entry)?;
-    check_shares(entry)?;
+    if let Some(target) = stamp_targets(entry, voter + 1, stamps) {
+        return Err(Verdict::TargetTwice(target));
+    }
+    if let Some(target) = first_unnominated(snapshot, entry) {
+        return Err(Verdict::NotNominated { voter, target });
+    }
+    if has_bad_share(entry) {
+        return Err(Verdict::BadShare(voter));
+    }
     has_entry[voter as usize] = true;
     Ok(())
 }
 
-/// Tells the first target past the last one of the snapshot.
-fn check_targets(snapshot: &Snapshot, entry: &Entry) -> Result<(), Verdict>
-    ensures { result ≡ answer_of (unknown_target snapshot.now entry.now) }
+/// The first target past the last one of the snapshot.
+fn first_unknown(snapshot: &Snapshot, entry: &Entry) -> Option<u16>
+    ensures { result
+        ≡ find (λ target. nat_le (length snapshot.now.targets) target) (targets_of entry.now) }
 {
-    for i in 0..entry.len() {
-        let target = entry.target(i);
-        if usize::from(target) >= snapshot.target_count() {
-            return Err(Verdict::NoTarget(target));
+    let count = snapshot.target_count();
+    for share in entry.shares() {
+        if usize::from(share.target) >= count {
+            return Some(share.target);
         }
     }
-    Ok(())
+    let last = entry.last();
+    if usize::from(last) >= count {
+        Some(last)
+    } else {
+        None
+    }
 }
 
-/// Stamps the targets, or tells the first that stands twice.
-fn stamp_targets(entry: &Entry, stamp: u32, stamps: &mut [u32]) -> Result<(), Verdict>
+/// Stamps the targets up to the first that stands twice, which it tells.
+fn stamp_targets(entry: &Entry, stamp: u32, stamps: &mut [u32]) -> Option<u16>
     requires in_range { All (λ target. target < length stamps.old) (targets_of entry.now) }
     requires unused { (target : ℕ) → slice_index_or stamps.old target 0 ≢ stamp }
-    ensures fault { result ≡ answer_of (repeated_target entry.now) }
-    ensures stamped { OnOk result ((target : ℕ) → slice_index_or stamps.new target 0
+    ensures repeat { result ≡ first_repeat [] (targets_of entry.now) }
+    ensures stamped { IfNone result ((target : ℕ) → slice_index_or stamps.new target 0
         ≡ (if has (targets_of entry.now) target then stamp
         else slice_index_or stamps.old target 0)) }
 {
-    for i in 0..entry.len() {
-        let target = entry.target(i);
-        let place = usize::from(target);
+    for share in entry.shares() {
+        let place = usize::from(share.target);
         if stamps[place] == stamp {
-            return Err(Verdict::TargetTwice(target));
+            return Some(share.target);
         }
         stamps[place] = stamp;
     }
-    Ok(())
+    let last = usize::from(entry.last());
+    if stamps[last] == stamp {
+        return Some(entry.last());
+    }
+    stamps[last] = stamp;
+    None
 }
 
-/// Tells the first target that the voter does not nominate.
-fn check_nominations(snapshot: &Snapshot, entry: &Entry) -> Result<(), Verdict>
+/// The first target that the voter does not nominate.
+fn first_unnominated(snapshot: &Snapshot, entry: &Entry) -> Option<u16>
     requires { entry.now.voter < length snapshot.now.voters }
-    ensures { result ≡ answer_of (unnominated_target snapshot.now entry.now) }
+    ensures { result
+        ≡ find (λ target. not (nominates snapshot.now entry.now.voter target))
+        (targets_of entry.now) }
 {
-    let voter = entry.voter();
-    let votes = snapshot.votes(voter);
-    for i in 0..entry.len() {
-        let target = entry.target(i);
-        if !is_vote(votes, target) {
-            return Err(Verdict::NotNominated { voter, target });
+    let votes = snapshot.votes(entry.voter());
+    for share in entry.shares() {
+        if !is_vote(votes, share.target) {
+            return Some(share.target);
         }
     }
-    Ok(())
+    let last = entry.last();
+    if is_vote(votes, last) {
+        None
+    } else {
+        Some(last)
+    }
 }
 
-/// Whether the target is among the votes.
+/// Whether the target is among the votes. It goes through all of them, of which there are few:
+/// several are compared at once where the walk does not depend on what is found.
 fn is_vote(votes: &[u16], target: u16) -> bool
     ensures { result ≡ has votes.now target }
 {
-    votes.contains(&target)
+    let mut is_found = false;
+    for vote in votes {
+        is_found |= *vote == target;
+    }
+    is_found
 }
 
-/// Tells whether a share is nothing, or the shares leave nothing for the last target.
-fn check_shares(entry: &Entry) -> Result<(), Verdict>
-    ensures { result
-        ≡ answer_of (when (has_bad_share entry.now) (Verdict.BadShare entry.now.voter)) }
+/// Whether a share is nothing, or the shares leave nothing for the last target.
+fn has_bad_share(entry: &Entry) -> bool
+    ensures { result ≡ has_bad_share entry.now }
 {
     let mut sum = 0;
     let mut is_bad = false;
@@ -197,11 +224,7 @@ fn check_shares(entry: &Entry) -> Result<(), Verdict>
         sum += u64::from(share.parts);
         is_bad = is_bad || share.parts == 0;
     }
-    if is_bad || sum >= WHOLE_STAKE {
-        Err(Verdict::BadShare(entry.voter()))
-    } else {
-        Ok(())
-    }
+    is_bad || sum >= WHOLE_STAKE
 }
 
 /// Appends the edges of an entry whose voter has this stake.

@@ -17,13 +17,15 @@ use std::marker::Model;
 #[derive(Drop)]
 pub struct Weights {
     members: Room<u16>,
-    edges: Room<Edge>,
+    edges: Vec<Edge>,
     /// By target of the election, what the edges to it sum to. It is kept up as edges come, so that
     /// no call looks for them.
     supports: Vec<u128>,
 }
 
 impl Model for Weights {
+    ghost use Rattle.std.specs.Prelude.{◌-◌};
+    ghost use Rattle.std.specs.Vec.{vec_len, vec_capacity};
     ghost use Rattle.weight_book.specs.Room.{WeightBook};
     ghost use Rattle.weight_book.specs.Kept.{AreSupports};
 
@@ -32,7 +34,7 @@ impl Model for Weights {
     ghost view = { λ w. record {
       plain = record { committee = w.members.items; edges = w.edges.items };
       member_spare = w.members.spare;
-      edge_spare = w.edges.spare;
+      edge_spare = vec_capacity w.edges - vec_len w.edges;
     } };
 
     ghost invariant = { λ w. AreSupports w.edges.items w.supports.items };
@@ -46,7 +48,7 @@ impl Weights {
         ensures room { IfOk result (HasRoom snapshot.now) }
     {
         let members = Room::with_room(alloc, snapshot.target_count())?;
-        let edges = Room::with_room(alloc, count_votes(snapshot))?;
+        let edges = Vec::with_capacity(alloc, count_votes(snapshot))?;
         let supports = zeros(alloc, snapshot.target_count())?;
         Ok(Weights {
             members,
@@ -92,7 +94,7 @@ impl Weights {
         if let Some(support) = self.supports.get_mut(usize::from(edge.target)) {
             *support += u128::from(edge.amount);
         }
-        self.edges.push_within(edge);
+        self.edges.push_reserved(edge);
     }
 
     /// Leaves no member and no edge. Their room is then spare.

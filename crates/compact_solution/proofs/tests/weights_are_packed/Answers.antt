@@ -1,5 +1,5 @@
 -- The worked weights can be packed.
-use Rattle.std.proofs.Common.{[], ◌∷◌, refl, sym}
+use Rattle.std.proofs.Common.{[], ◌∷◌, refl}
 use Rattle.compact_solution.proofs.PackTests.{packable}
 use Rattle.compact_solution.proofs.tests.weights_are_packed.Goals as goal
 

@@ -2,7 +2,7 @@ use Rattle.std.proofs.Common.{◌≡◌, ◌≤◌, ◌<◌, ◌*◌, length, ta
 use Rattle.std.specs.Prelude.{sum, nat_eq}
 use Rattle.std.specs.List.{list_any}
 use Rattle.compact_solution.specs.declared.entry.Share.{Share}
-use Rattle.election_check.proofs.entries.check_shares.Given as goal
+use Rattle.election_check.proofs.entries.has_bad_share.Given as goal
 
 -- the sum of the shares so far, and whether one of them is nothing
 abbrev pub invariant-loop-share : goal.invariant-loop-share
