@@ -1,12 +1,12 @@
 -- The members of an era after one of them changed, and what is counted over all of them.
-use Rattle.std.proofs.Common.{◌≡◌, ℕ, ◌+◌, ◌-◌, ◌<◌, ◌≤◌, ◌^◌, List, [], ◌∷◌, length, fold, sum_by, All, IfSome, Option, Some, None, refl, ap, sym, subst, ◌∙◌, arith}
+use Rattle.std.proofs.Common.{◌≡◌, ℕ, ◌+◌, ◌-◌, ◌<◌, ◌≤◌, ◌^◌, List, [], ◌∷◌, ◌++◌, length, fold, sum_by, All, IfSome, Option, Some, None, refl, ap, sym, subst, ◌∙◌, arith}
 use Rattle.std.specs.BTreeMap.{is_at}
 use Rattle.std.specs.Map.{values_of, set_value}
 use Rattle.std.proofs.lemmas.Map.{length-set_value}
 use Rattle.std.proofs.lemmas.Map.Entries.{sum_by-set_value, length-values_of}
 use Rattle.std.proofs.lemmas.Map.Views.{All-values-insert_entry, All-values-set_value, IfSome-lookup_from_All}
 use Rattle.std.proofs.lemmas.List.Elements.{All-nil, All-head, All-tail}
-use Rattle.std.proofs.lemmas.List.Sums.{sum_by-cons, sum_by-le}
+use Rattle.std.proofs.lemmas.List.Sums.{fold-append, sum_by-cons, sum_by-le}
 use Rattle.std.specs.Ordering.{match_ordering}
 use Rattle.std.specs.declared.cmp.Ordering.{Ordering}
 use Rattle.std.specs.declared.cmp.Ordering.TheVariants.{Less, Equal, Greater}
@@ -55,6 +55,9 @@ all_with P members [] fine all = all
 all_with P members (exposure ∷ exposures) fine all =
     all_with P (with_exposure members exposure) exposures (All-tail (λ e. P (newcomer e)) exposure exposures fine)
     (All-values-insert_entry account_cmp exposure.validator (newcomer exposure) P members all (All-head (λ e. P (newcomer e)) exposure exposures fine))
+
+pub members_more : (exposures : List Exposure) (exposure : Exposure) → members_with (exposures ++ exposure ∷ []) ≡ with_exposure (members_with exposures) exposure
+members_more exposures exposure = fold-append with_exposure [] exposures (exposure ∷ [])
 
 -- a newcomer adds at most what it has itself to a sum
 entered_at : (f : Member → ℕ) (exposure : Exposure) (row : AccountId × Member) (rows : Members) (r : Ordering)

@@ -1,6 +1,6 @@
 -- Parts are rounded down, so the parts of some amounts are together at most the part of all.
-use Rattle.std.proofs.Common.{◌≡◌, ℕ, zero, suc, ◌+◌, ◌*◌, ◌/◌, ◌≤◌, List, [], ◌∷◌, sum_by, ap, sym, ◌∙◌, mul-add, arith}
-use Rattle.std.proofs.Math.Nat.{div-zero, div-mul-le_self, mul-le-mul_left}
+use Rattle.std.proofs.Common.{◌≡◌, ℕ, zero, suc, ◌+◌, ◌*◌, ◌/◌, ◌%◌, ◌<◌, ◌≤◌, List, [], ◌∷◌, sum_by, ap, sym, ◌∙◌, mul-add, arith}
+use Rattle.std.proofs.Math.Nat.{div-zero, div-mul-le_self, add-mul-div_left, mod-add-div, mul-le-mul_left, mul_assoc}
 use Rattle.std.proofs.lemmas.Nat.{le-div, div-mul-add}
 use Rattle.std.proofs.lemmas.List.Sums.{sum_by-cons}
 use Rattle.npos_base.specs.declared.limits.TheConstants.{WHOLE_FRACTION}
@@ -34,6 +34,16 @@ part_grows value few more whole l = quotient_grows (value * few) (value * more) 
 
 pub part_within : (value some whole : ℕ) → some ≤ whole → part value some whole ≤ value
 part_within value some whole l = omega (arith, part_grows value some whole whole l, part_whole value whole)
+
+-- the parts of what the wholes make up, and of what is left over, are together the part of all
+pub part_split : (value parts whole : ℕ) → 0 < whole → value / whole * parts + value % whole * parts / whole ≡ part value parts whole
+part_split value parts whole some =
+    let apart : value * parts ≡ value % whole * parts + whole * (value / whole * parts) =
+    ap (λ n. n * parts) (sym (mod-add-div value whole))
+    ∙ (twice (value % whole) (whole * (value / whole)) parts ∙ ap (λ n. value % whole * parts + n) (mul_assoc whole (value / whole) parts)) in
+    let joined : value * parts / whole ≡ value % whole * parts / whole + value / whole * parts =
+    ap (λ n. n / whole) apart ∙ add-mul-div_left (value % whole * parts) (value / whole * parts) some in
+    omega (arith, joined)
 
 pub two_parts : (value a b whole : ℕ) → part value a whole + part value b whole ≤ part value (a + b) whole
 two_parts value a b whole = omega (arith, quotients_within (value * a) (value * b) whole, ap (λ n. n / whole) (sym (mul-add value a b)))

@@ -7,3 +7,4 @@ pub mod Calls
 pub mod Events
 pub mod Laws
 pub mod Committee
+pub mod Seats

@@ -125,7 +125,7 @@ impl EraBook {
         if era == self.current {
             return Err(EraRefusal::EraNotOver);
         }
-        let Some(member) = members.get(validator) else {
+        let Some(member) = members.get(alloc, validator)? else {
             return Err(EraRefusal::NotExposed);
         };
         if member.claimed {
@@ -175,7 +175,7 @@ impl EraBook {
         let Some(members) = self.era(era) else {
             return Err(EraRefusal::UnknownEra);
         };
-        let Some(member) = members.get(validator) else {
+        let Some(member) = members.get(alloc, validator)? else {
             return Err(EraRefusal::NotExposed);
         };
         if fraction <= member.fraction {

@@ -1,6 +1,5 @@
 //! The members of one era.
 ghost use Rattle.std.specs.Prelude.{◌≡◌, ◌<◌, ◌≤◌, [], fold, is_some, IfSome, IfOk};
-ghost use Rattle.std.specs.Option.{option_copied};
 ghost use Rattle.std.specs.List.{list_all};
 ghost use Rattle.era_book.specs.Payouts.{part};
 ghost use Rattle.era_book.specs.Members.{member_of, members_with, with_points, with_member, total_points};
@@ -9,6 +8,8 @@ ghost use Rattle.era_book.specs.Calls.{claiming, keeping};
 use crate::Exposure;
 use crate::member::Member;
 use crate::members::{claim, gain, keep};
+use crate::names::Names;
+use crate::seat::Seat;
 use npos_base::{AccountId, List, NoMemory};
 use std::alloc::Global;
 use std::collections::BTreeMap;
@@ -18,18 +19,22 @@ use std::marker::Model;
 /// their members, by rising account.
 #[derive(Drop)]
 pub struct Era {
-    members: BTreeMap<AccountId, Member>,
+    /// The accounts of the backers, by place.
+    accounts: Vec<AccountId>,
+    members: BTreeMap<AccountId, Seat>,
     points: u128,
 }
 
 impl Model for Era {
     ghost use Rattle.era_book.specs.Members.{Members, IsCounted};
+    ghost use Rattle.era_book.specs.Seats.{members_seen};
 
     ghost Value = { Members };
 
-    ghost view = { λ era. era.members.entries };
+    ghost view = { λ era. members_seen era.accounts.items era.members.entries };
 
-    ghost invariant = { λ era. IsCounted era.members.entries era.points };
+    ghost invariant = { λ era.
+        IsCounted (members_seen era.accounts.items era.members.entries) era.points };
 }
 
 impl Era {
@@ -38,6 +43,7 @@ impl Era {
         ensures { result ≡ [] }
     {
         Era {
+            accounts: Vec::new(alloc),
             members: BTreeMap::new(alloc),
             points: 0,
         }
@@ -47,27 +53,51 @@ impl Era {
     pub fn with_exposures(alloc: Global, exposures: List<Exposure>) -> Result<Era, NoMemory>
         ensures { IfOk result (λ era. era ≡ members_with exposures) }
     {
+        if exposures.is_empty() {
+            return Ok(Era::new(alloc));
+        }
+        let mut names = Names::new(alloc)?;
         let mut members = BTreeMap::new(alloc);
         for exposure in exposures.into_vec() {
-            members.insert(exposure.validator, Member::new(exposure))?;
+            let member = Seat::new(alloc, &mut names, &exposure)?;
+            members.insert(exposure.validator, member)?;
         }
-        Ok(Era { members, points: 0 })
+        let accounts = names.accounts(alloc)?;
+        Ok(Era {
+            accounts,
+            members,
+            points: 0,
+        })
     }
 
-    /// The member with this account. It has at most the points of all together.
-    #[tactic(auto, using(crate::proofs::MemberLemmas::points_within))]
-    pub fn get(&self, who: AccountId) -> Option<&Member>
-        ensures member { option_copied result ≡ member_of self.now who }
-        ensures points { IfSome result (λ member. member.now.points ≤ total_points self.now) }
+    /// The member with this account, which takes memory for its backers. It has at most the points
+    /// of all together.
+    pub fn get(&self, alloc: Global, who: AccountId) -> Result<Option<Member>, NoMemory>
+        ensures member { IfOk result (λ member. member ≡ member_of self.now who) }
+        ensures points { IfOk result (λ member. IfSome member
+            (λ member. member.points ≤ total_points self.now)) }
     {
-        self.members.get(&who)
+        match self.members.get(&who) {
+            Some(member) => {
+                let member = member.member(alloc, self.accounts.as_slice())?;
+                Ok(Some(member))
+            }
+            None => Ok(None),
+        }
     }
 
     /// Whether all these accounts are members.
     pub fn contains_all(&self, items: &[(AccountId, u32)]) -> bool
         ensures { result ≡ list_all (λ item. is_some (member_of self.now item.0)) items.now }
     {
-        items.iter().all(|item| self.members.contains_key(&item.0))
+        items.iter().all(|item| self.contains(item.0))
+    }
+
+    /// Whether the account is a member.
+    fn contains(&self, who: AccountId) -> bool
+        ensures { result ≡ is_some (member_of self.now who) }
+    {
+        self.members.contains_key(&who)
     }
 
     /// The part of the reward that so many of the points earn.

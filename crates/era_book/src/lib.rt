@@ -10,8 +10,10 @@ mod exposure;
 pub mod laws;
 mod member;
 mod members;
+mod names;
 mod payout;
 mod refusal;
+mod seat;
 
 pub use book::EraBook;
 pub use committee::{exposures_by_voter, exposures_of};

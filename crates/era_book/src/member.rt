@@ -6,7 +6,6 @@ ghost use Rattle.npos_base.specs.declared.limits.TheConstants.{WHOLE_FRACTION};
 ghost use Rattle.era_book.specs.Exposures.{amount_sum, IsSound};
 ghost use Rattle.era_book.specs.Payouts.{part, own_part, others, kept_lines, line, payout_lines, payout_of};
 ghost use Rattle.era_book.specs.Slashes.{slash_lines};
-ghost use Rattle.era_book.specs.Members.{newcomer, gaining};
 
 use crate::{Backer, Exposure, Payout};
 use npos_base::{AccountId, List, NoMemory, Room, WHOLE_FRACTION, part_of};
@@ -25,28 +24,6 @@ pub struct Member {
 }
 
 impl Member {
-    /// A member as its era begins.
-    pub fn new(exposure: Exposure) -> Member
-        ensures { result ≡ newcomer exposure }
-    {
-        Member {
-            exposure,
-            points: 0,
-            claimed: false,
-            fraction: 0,
-        }
-    }
-
-    /// Adds the points, up to the most that a member can have, and answers how many those were.
-    pub fn gain(&mut self, points: u32) -> u32
-        ensures member { self.new ≡ gaining points self.old }
-        ensures added { self.old.points + result ≡ self.new.points }
-    {
-        let added = points.min(u32::MAX - self.points);
-        self.points += added;
-        added
-    }
-
     /// What a value pays that is due to this member and its backers: the commission to the
     /// validator, and the rest by what each gives.
     #[tactic(auto, using(crate::proofs::LineLemmas::payout_within))]
@@ -78,13 +55,16 @@ impl Member {
     }
 }
 
-/// The part that so many billionths are of the value.
+/// The part that so many billionths are of the value. Its whole billions and what is left over have
+/// their parts each, so that 64 bits are enough.
 fn billionths_of(value: u64, billionths: u32) -> u64
     requires { billionths ≤ WHOLE_FRACTION }
     ensures part { result ≡ part value billionths WHOLE_FRACTION }
     ensures within { result ≤ value }
 {
-    part_of(value, u64::from(billionths), u64::from(WHOLE_FRACTION))
+    let whole = u64::from(WHOLE_FRACTION);
+    let parts = u64::from(billionths);
+    value / whole * parts + value % whole * parts / whole
 }
 
 /// The part of the value that goes to one of the amounts that make up the support.

@@ -1,7 +1,10 @@
 use Rattle.std.proofs.Common.{refl}
 use Rattle.era_book.specs.Calls.{claiming}
+use Rattle.era_book.specs.Seats.{members_seen}
 use Rattle.era_book.proofs.MemberLemmas.{counted_same}
 use Rattle.era_book.proofs.era.Era.claim.Goals as goal
 
 pub invariant_of-self : goal.invariant_of-self
-invariant_of-self c = rw c.claim.ensures (counted_same c.args.who claiming (λ member. refl) c.self.inside.members.entries c.self.inside.points c.self.invariant)
+invariant_of-self c =
+    rw (c.claim.ensures c.self.inside.accounts.items)
+    (counted_same c.args.who claiming (λ member. refl) (members_seen c.self.inside.accounts.items c.self.inside.members.entries) c.self.inside.points c.self.invariant)

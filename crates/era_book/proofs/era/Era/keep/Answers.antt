@@ -1,8 +1,10 @@
 use Rattle.std.proofs.Common.{refl}
 use Rattle.era_book.specs.Calls.{keeping}
+use Rattle.era_book.specs.Seats.{members_seen}
 use Rattle.era_book.proofs.MemberLemmas.{counted_same}
 use Rattle.era_book.proofs.era.Era.keep.Goals as goal
 
 pub invariant_of-self : goal.invariant_of-self
 invariant_of-self c =
-    rw c.keep.ensures (counted_same c.args.who (keeping c.args.fraction) (λ member. refl) c.self.inside.members.entries c.self.inside.points c.self.invariant)
+    rw (c.keep.ensures c.self.inside.accounts.items)
+    (counted_same c.args.who (keeping c.args.fraction) (λ member. refl) (members_seen c.self.inside.accounts.items c.self.inside.members.entries) c.self.inside.points c.self.invariant)

@@ -1,0 +1,130 @@
+//! How a member is kept: its backers by the places of their accounts.
+ghost use Rattle.std.specs.Prelude.{◌≡◌, ◌+◌, List as list, IfOk};
+ghost use Rattle.npos_base.specs.declared.account.AccountId.{AccountId};
+ghost use Rattle.era_book.specs.Committee.{account_at};
+ghost use Rattle.era_book.specs.Members.{newcomer, gaining};
+ghost use Rattle.era_book.specs.Seats.{Grows, AreWithin, backers_seen, member_seen};
+
+use crate::member::Member;
+use crate::names::Names;
+use crate::{Backer, Exposure};
+use npos_base::{AccountId, List, NoMemory, Room};
+use std::alloc::Global;
+
+/// A backer by the place of its account among those of the era. A voter backs up to 16 validators,
+/// and this takes 16 bytes where a backer with its account takes 48.
+#[derive(Clone, Copy, Debug)]
+pub struct Share {
+    pub place: u32,
+    pub amount: u64,
+}
+
+/// A member as it is kept.
+#[derive(Debug, Drop)]
+pub struct Seat {
+    pub validator: AccountId,
+    pub commission: u32,
+    pub support: u64,
+    pub shares: List<Share>,
+    /// At most 2^32 - 1, where they stay.
+    pub points: u32,
+    /// Whether its part of the era's reward is claimed.
+    pub claimed: bool,
+    /// The greatest fraction that was reported, in billionths; 0 at first.
+    pub fraction: u32,
+}
+
+impl Seat {
+    /// A member as its era begins. The accounts of its backers are named.
+    pub fn new(alloc: Global, names: &mut Names, exposure: &Exposure) -> Result<Seat, NoMemory>
+        ensures grows { Grows names.old names.new }
+        ensures seen { IfOk result
+            (λ seat. member_seen names.new seat ≡ newcomer exposure.now) }
+        ensures within { IfOk result (λ seat. AreWithin names.new seat.shares) }
+    {
+        let shares = named(alloc, names, exposure.backers.as_slice())?;
+        Ok(Seat {
+            validator: exposure.validator,
+            commission: exposure.commission,
+            support: exposure.support,
+            shares,
+            points: 0,
+            claimed: false,
+            fraction: 0,
+        })
+    }
+
+    /// The member, with the accounts of its backers.
+    pub fn member(&self, alloc: Global, accounts: &[AccountId]) -> Result<Member, NoMemory>
+        ensures { IfOk result (λ member. member ≡ member_seen accounts.now self.now) }
+    {
+        let backers = backers(alloc, accounts, self.shares.as_slice())?;
+        Ok(Member {
+            exposure: Exposure {
+                validator: self.validator,
+                commission: self.commission,
+                support: self.support,
+                backers,
+            },
+            points: self.points,
+            claimed: self.claimed,
+            fraction: self.fraction,
+        })
+    }
+
+    /// Adds the points, up to the most that a member can have, and answers how many those were.
+    pub fn gain(&mut self, points: u32) -> u32
+        ensures member { (accounts : list AccountId) → member_seen accounts self.new
+            ≡ gaining points (member_seen accounts self.old) }
+        ensures added { self.old.points + result ≡ self.new.points }
+    {
+        let added = points.min(u32::MAX - self.points);
+        self.points += added;
+        added
+    }
+}
+
+/// The backers by the places of their accounts.
+fn named(alloc: Global, names: &mut Names, backers: &[Backer]) -> Result<List<Share>, NoMemory>
+    ensures grows { Grows names.old names.new }
+    ensures seen { IfOk result (λ shares. backers_seen names.new shares ≡ backers.now) }
+    ensures within { IfOk result (λ shares. AreWithin names.new shares) }
+{
+    let mut shares = Room::with_room(alloc, backers.len())?;
+    for backer in backers {
+        let place = names.place(backer.who)?;
+        shares.push_within(Share {
+            place,
+            amount: backer.amount,
+        });
+    }
+    Ok(shares.into_list())
+}
+
+/// The backers with their accounts.
+fn backers(
+    alloc: Global,
+    accounts: &[AccountId],
+    shares: &[Share],
+) -> Result<List<Backer>, NoMemory>
+    ensures { IfOk result (λ backers. backers ≡ backers_seen accounts.now shares.now) }
+{
+    let mut backers = Room::with_room(alloc, shares.len())?;
+    for share in shares {
+        backers.push_within(Backer {
+            who: account_at(accounts, share.place),
+            amount: share.amount,
+        });
+    }
+    Ok(backers.into_list())
+}
+
+/// The account at the place.
+fn account_at(accounts: &[AccountId], place: u32) -> AccountId
+    ensures { result ≡ account_at accounts.now place }
+{
+    match accounts.get(place as usize) {
+        Some(account) => *account,
+        None => AccountId { hi: 0, lo: 0 },
+    }
+}
