@@ -6,6 +6,7 @@ pub mod ElectionLaws
 pub mod MineLaws
 pub mod SoundLaws
 pub mod TurnLaws
+pub mod NearLaws
 pub mod StartLaws
 pub mod BookLaws
 pub mod RunLaws

@@ -1,5 +1,5 @@
 -- What the reader of a stream does at one place, and until the end.
-use Rattle.std.specs.Prelude.{◌≡◌, ◌⊎◌, ◌<◌, ⊤, ℕ, ◌≤◌, Bool, true, false, List, [], ◌++◌, length, Option, None, Result, Ok, Err}
+use Rattle.std.specs.Prelude.{◌≡◌, ◌⊎◌, ◌<◌, ⊤, ℕ, ◌+◌, ◌*◌, ◌^◌, ◌≤◌, Bool, true, false, List, [], ◌++◌, length, Option, None, Result, Ok, Err}
 use Rattle.scale_wire.specs.declared.fault.Why.TheVariants.{Short, Trailing}
 use Rattle.npos_base.specs.Outside.{Told, Appends}
 use Rattle.scale_wire.specs.Reading.{Place}
@@ -19,6 +19,11 @@ use Rattle.npos_cli.specs.Replay.{Machine, Spot, turn, IsTurn, behind, Starts, R
 -- where a cursor and a chain stand together
 abbrev pub spot : Place → Chain → Spot Chain
 spot place chain = record { at = place.at; state = chain; rest = place.rest }
+
+-- Behind a genesis, which has fewer than 2^23 bytes, stand blocks of fewer than 2^28 bytes each, whose numbers rise by
+-- one and are below 2^32: so no place comes near 2^64.
+abbrev pub IsNear : Spot Chain → Type 0
+IsNear p = (p.state.due ≤ 2 ^ 32) × (p.at ≤ 2 ^ 23 + 2 ^ 28 * p.state.due)
 
 -- the same place where more bytes follow
 abbrev pub grown : {S : Type 0} → List ℕ → Spot S → Spot S

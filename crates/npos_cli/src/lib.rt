@@ -2,8 +2,6 @@
 #![tactic(auto)]
 
 mod answers;
-#[cfg(test)]
-mod check_tests;
 mod checking;
 mod demo;
 mod edges;
@@ -17,16 +15,10 @@ mod pieces;
 pub mod promises;
 mod reading;
 mod replaying;
-#[cfg(test)]
-mod rewrite_tests;
 mod rewriting;
 mod status;
-#[cfg(test)]
-mod stream_tests;
 mod tasks;
 mod telling;
-#[cfg(test)]
-mod tests;
 mod top;
 
 pub use status::Status;

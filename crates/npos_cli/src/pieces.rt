@@ -1,5 +1,5 @@
 //! An input that is read by pieces.
-ghost use Rattle.std.specs.Prelude.{◌≡◌, ◌+◌, ◌<◌, ◌≤◌, ◌^◌, false, length, vec_len, IfOk, IsTrue};
+ghost use Rattle.std.specs.Prelude.{◌≡◌, ◌+◌, ◌<◌, ◌≤◌, ◌^◌, false, length, vec_len, IfOk};
 ghost use Rattle.npos_cli.specs.Owed.{HaltsWell, TakesMore};
 ghost use Rattle.npos_cli.specs.Ahead.{FeedsMore};
 
@@ -44,18 +44,7 @@ pub fn read_more<S: Source>(
     }
 }
 
-/// Whether the reader may be fed so many bytes: places are numbers below 2^64.
-fn has_place(reader: &StreamReader, size: usize) -> bool
-    ensures room { IsTrue result
-        → reader.now.at + (length reader.now.rest + size) < 2 ^ 64 }
-    ensures fits { reader.now.at + length reader.now.rest < 2 ^ 64 }
-{
-    let next = reader.at() + reader.held().len() as u64;
-    next.checked_add(size as u64).is_some()
-}
-
-/// Reads once and feeds what came to the reader, and answers whether the input has ended. A read
-/// that could pass the last place, which no chain comes near, ends as want of memory does. The
+/// Reads once and feeds what came to the reader, and answers whether the input has ended. The
 /// status of an Err is ReadFault or NoMemory.
 #[tactic(auto, using(crate::proofs::FeedLaws::feeds_nothing, crate::proofs::FeedLaws::feeds_none, crate::proofs::FeedLaws::feeds_some, crate::proofs::FeedLaws::feeds_lost))]
 pub fn read_piece<S: Source>(
@@ -65,15 +54,12 @@ pub fn read_piece<S: Source>(
 ) -> Result<bool, Status>
     requires some { 0 < length piece.old }
     requires one_piece { length piece.old ≤ 65536 }
+    requires room { reader.old.at + length reader.old.rest + 65536 < 2 ^ 64 }
     ensures feeds { FeedsMore (S.left source.old) (S.left source.new) reader.old reader.new result }
     ensures further { IfOk result (λ ended. ended ≡ false
         → length reader.old.rest < length reader.new.rest) }
-    ensures fits { reader.old.at + length reader.old.rest < 2 ^ 64 }
     ensures halts { HaltsWell (S.faults source.old) (S.faults source.new) result }
 {
-    if !has_place(reader, piece.len()) {
-        return Err(Status::NoMemory);
-    }
     let Ok(count) = source.read(piece) else {
         return Err(Status::ReadFault);
     };

@@ -10,7 +10,7 @@ ghost use Rattle.npos_cli.specs.Ahead.{Begins, first_place};
 ghost use Rattle.npos_cli.specs.Owed.{HaltsWell, ReadsWell, WritesWell};
 ghost use Rattle.npos_cli.specs.Report.{replay_status};
 ghost use Rattle.npos_cli.specs.Streaming.{Runs, RunsOn, ReplayEnds};
-ghost use Rattle.npos_cli.specs.Turning.{spot, IsGoing, TakesTurn, WritesOn, StopsHere};
+ghost use Rattle.npos_cli.specs.Turning.{spot, IsNear, IsGoing, TakesTurn, WritesOn, StopsHere};
 
 use crate::Status;
 use crate::edges::{flush, put};
@@ -134,6 +134,7 @@ fn take_all<S: Source, K: Sink>(
     requires unspent { runtime.old.spent ≡ false }
     requires some { 0 < length piece.old }
     requires one_piece { length piece.old ≤ 65536 }
+    requires near { IsNear (spot reader.old runtime.old.state) }
     ensures runs { RunsOn (S.left source.old) (S.left source.new) (K.told sink.old)
         (K.told sink.new) (spot reader.old runtime.old.state) text.new.items result }
     ensures reads { ReadsWell (S.faults source.old) (S.faults source.new) result }

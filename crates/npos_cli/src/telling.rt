@@ -1,6 +1,6 @@
 //! The lines that the program writes, made piece by piece.
-ghost use Rattle.std.specs.Prelude.{◌≡◌, ◌≢◌, ◌++◌, flat_map, OnOk};
-ghost use Rattle.npos_cli.specs.Texts.{fault_line, number_line, genesis_line, word_of, account_text};
+ghost use Rattle.std.specs.Prelude.{◌≡◌, ◌≢◌, ◌++◌, flat_map, decimal, OnOk};
+ghost use Rattle.npos_cli.specs.Texts.{fault_line, number_line, genesis_line, word_of, account_text, newline};
 ghost use Rattle.npos_runtime.specs.declared.line.Line.TheVariants as lines;
 ghost use Rattle.npos_runtime.specs.Genesis.{fault_numbers};
 ghost use Rattle.npos_runtime.specs.declared.begin.GenesisFault.TheVariants as faults;
@@ -129,6 +129,59 @@ pub fn tell_genesis_fault(text: &mut Vec<u8>, fault: GenesisFault) -> Result<(),
     )
 }
 
+/// Appends a number in decimal, between these words.
+fn tell_counted(text: &mut Vec<u8>, words: &str, number: u64, end: &str) -> Result<(), NoMemory>
+    ensures { OnOk result
+        (text.new.items ≡ text.old.items ++ (words.now ++ (decimal number ++ end.now))) }
+{
+    text.extend_from_slice(words.as_bytes())?;
+    text.extend_from_slice(Buffer::new().format(number).as_bytes())?;
+    text.extend_from_slice(end.as_bytes())?;
+    Ok(())
+}
+
+/// Appends the line of two numbers, each behind some words.
+fn tell_two(
+    text: &mut Vec<u8>,
+    words: &str,
+    first: u64,
+    between: &str,
+    second: u64,
+) -> Result<(), NoMemory>
+    ensures { OnOk result (text.new.items ≡ text.old.items
+        ++ (words.now ++ (decimal first ++ (between.now ++ (decimal second ++ newline))))) }
+{
+    tell_counted(text, words, first, between)?;
+    tell_counted(text, "", second, "\n")
+}
+
+/// Appends the line of a snapshot.
+fn tell_snapshot(
+    text: &mut Vec<u8>,
+    round: u32,
+    targets: u32,
+    voters: u32,
+    total: u64,
+) -> Result<(), NoMemory>
+    ensures { OnOk result (text.new.items ≡ text.old.items
+        ++ line_text (lines.Snapshot round targets voters total)) }
+{
+    tell(
+        text,
+        &[
+            Piece::Words("snapshot "),
+            Piece::Number(u64::from(round)),
+            Piece::Words(" targets "),
+            Piece::Number(u64::from(targets)),
+            Piece::Words(" voters "),
+            Piece::Number(u64::from(voters)),
+            Piece::Words(" total "),
+            Piece::Number(total),
+            Piece::Words("\n"),
+        ],
+    )
+}
+
 /// Appends the line of a submission that does not hold.
 fn tell_forfeit(
     text: &mut Vec<u8>,
@@ -139,16 +192,8 @@ fn tell_forfeit(
     ensures { OnOk result
         (text.new.items ≡ text.old.items ++ line_text (lines.Forfeit number deposit verdict)) }
 {
-    tell(
-        text,
-        &[
-            Piece::Words("forfeit "),
-            Piece::Number(number),
-            Piece::Words(" "),
-            Piece::Number(deposit),
-            Piece::Words(" "),
-        ],
-    )?;
+    tell_counted(text, "forfeit ", number, " ")?;
+    tell_counted(text, "", deposit, " ")?;
     tell_verdict(text, verdict)
 }
 
@@ -157,138 +202,51 @@ fn tell_amount(text: &mut Vec<u8>, words: &str, who: AccountId, amount: u64) -> 
     ensures { OnOk result
         (text.new.items ≡ text.old.items ++ amount_line words.now who amount) }
 {
-    tell(
-        text,
-        &[
-            Piece::Words(words),
-            Piece::Account(who),
-            Piece::Words(" "),
-            Piece::Number(amount),
-            Piece::Words("\n"),
-        ],
-    )
+    text.extend_from_slice(words.as_bytes())?;
+    tell_account(text, who)?;
+    tell_counted(text, " ", amount, "\n")
 }
 
-/// Appends one line of a receipt.
+/// Appends one line of a receipt. Each kind of line has a function, since a function clears the
+/// room of all its values where it begins.
 fn tell_line(text: &mut Vec<u8>, line: &Line) -> Result<(), NoMemory>
     ensures { OnOk result (text.new.items ≡ text.old.items ++ line_text line.now) }
 {
     match *line {
-        Line::Block { number } => tell(
-            text,
-            &[
-                Piece::Words("block "),
-                Piece::Number(u64::from(number)),
-                Piece::Words("\n"),
-            ],
-        ),
-        Line::Era { era } => tell(
-            text,
-            &[
-                Piece::Words("era "),
-                Piece::Number(u64::from(era)),
-                Piece::Words("\n"),
-            ],
-        ),
+        Line::Block { number } => tell_counted(text, "block ", u64::from(number), "\n"),
+        Line::Era { era } => tell_counted(text, "era ", u64::from(era), "\n"),
         Line::Snapshot {
             round,
             targets,
             voters,
             total,
-        } => tell(
-            text,
-            &[
-                Piece::Words("snapshot "),
-                Piece::Number(u64::from(round)),
-                Piece::Words(" targets "),
-                Piece::Number(u64::from(targets)),
-                Piece::Words(" voters "),
-                Piece::Number(u64::from(voters)),
-                Piece::Words(" total "),
-                Piece::Number(total),
-                Piece::Words("\n"),
-            ],
-        ),
-        Line::VoidFew { round } => tell(
-            text,
-            &[
-                Piece::Words("void "),
-                Piece::Number(u64::from(round)),
-                Piece::Words(" few\n"),
-            ],
-        ),
-        Line::VoidPoor { round } => tell(
-            text,
-            &[
-                Piece::Words("void "),
-                Piece::Number(u64::from(round)),
-                Piece::Words(" poor\n"),
-            ],
-        ),
+        } => tell_snapshot(text, round, targets, voters, total),
+        Line::VoidFew { round } => tell_counted(text, "void ", u64::from(round), " few\n"),
+        Line::VoidPoor { round } => tell_counted(text, "void ", u64::from(round), " poor\n"),
         Line::Forfeit {
             number,
             deposit,
             verdict,
         } => tell_forfeit(text, number, deposit, verdict),
-        Line::Returned { number, deposit } => tell(
-            text,
-            &[
-                Piece::Words("return "),
-                Piece::Number(number),
-                Piece::Words(" "),
-                Piece::Number(deposit),
-                Piece::Words("\n"),
-            ],
-        ),
-        Line::Reward { number, amount } => tell(
-            text,
-            &[
-                Piece::Words("reward "),
-                Piece::Number(number),
-                Piece::Words(" "),
-                Piece::Number(amount),
-                Piece::Words("\n"),
-            ],
-        ),
-        Line::SeatSigned { round, number } => tell(
-            text,
-            &[
-                Piece::Words("seat "),
-                Piece::Number(u64::from(round)),
-                Piece::Words(" signed "),
-                Piece::Number(number),
-                Piece::Words("\n"),
-            ],
-        ),
-        Line::SeatFill { round } => tell(
-            text,
-            &[
-                Piece::Words("seat "),
-                Piece::Number(u64::from(round)),
-                Piece::Words(" fill\n"),
-            ],
-        ),
+        Line::Returned { number, deposit } => tell_two(text, "return ", number, " ", deposit),
+        Line::Reward { number, amount } => tell_two(text, "reward ", number, " ", amount),
+        Line::SeatSigned { round, number } => {
+            tell_two(text, "seat ", u64::from(round), " signed ", number)
+        }
+        Line::SeatFill { round } => tell_counted(text, "seat ", u64::from(round), " fill\n"),
         Line::Member { who, support } => tell_member(text, who, u128::from(support)),
-        Line::CallOk { index } => tell(
-            text,
-            &[
-                Piece::Words("call "),
-                Piece::Number(u64::from(index)),
-                Piece::Words(" ok\n"),
-            ],
-        ),
+        Line::CallOk { index } => tell_counted(text, "call ", u64::from(index), " ok\n"),
         Line::Paid { who, amount } => tell_amount(text, "paid ", who, amount),
         Line::Slashed { who, amount } => tell_amount(text, "slashed ", who, amount),
-        Line::CallRefused { index, code } => tell(
-            text,
-            &[
-                Piece::Words("call "),
-                Piece::Number(u64::from(index)),
-                Piece::Words(" refused "),
-                Piece::Number(u64::from(code)),
-                Piece::Words("\n"),
-            ],
-        ),
+        Line::CallRefused { index, code } => {
+            tell_two(
+                text,
+                "call ",
+                u64::from(index),
+                " refused ",
+                u64::from(code),
+            )
+        }
     }
 }
 

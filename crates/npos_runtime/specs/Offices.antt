@@ -1,10 +1,10 @@
 -- Points, payouts and offences: when each is refused, what it makes of the chain, and what it tells.
-use Rattle.std.specs.Prelude.{ℕ, Bool, not, List, [], ◌∷◌, map, Option, Some, is_some, option_map, ◌==◌, if◌then◌else◌}
+use Rattle.std.specs.Prelude.{ℕ, Bool, not, List, [], ◌∷◌, map, Option, Some, option_map, ◌==◌, if◌then◌else◌}
 use Rattle.std.specs.Option.{option_or}
 use Rattle.npos_base.specs.declared.account.AccountId.{AccountId}
 use Rattle.npos_base.specs.Account.{same_account}
-use Rattle.stake_ledger.specs.Ledger.{Ledger, row_at, row_of}
-use Rattle.stake_ledger.specs.Calls.{deposit_held, mint_refusal, minted_free, slashed, slash_amount}
+use Rattle.stake_ledger.specs.Ledger.{Ledger, row_at}
+use Rattle.stake_ledger.specs.Calls.{mint_refusal, minted_free, slashed, slash_amount}
 use Rattle.era_book.specs.declared.exposure.Backer.{Backer}
 use Rattle.era_book.specs.declared.payout.Payout.{Payout}
 use Rattle.era_book.specs.Calls.{points_refusal, pointed, payout_refusal, payout_in, paid, slash_refusal, slash_in, reported}
@@ -41,10 +41,6 @@ abbrev pub payout_stop : Chain → ℕ → AccountId → Option Refusal
 payout_stop chain era validator =
     option_or (option_map ByEra (payout_refusal chain.eras era validator))
     (option_map ByLedger (mint_refusal chain.book (payout_now chain era validator).total))
-
--- an account that is not known is opened first, by a deposit of nothing
-abbrev pub opened : AccountId → Ledger → Ledger
-opened who book = if is_some (row_of book who) then book else deposit_held who 0 book
 
 -- each line is minted to its account, in order
 abbrev pub all_minted : List Backer → Ledger → Ledger

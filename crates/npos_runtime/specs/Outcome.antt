@@ -1,5 +1,5 @@
 -- What a part of a step makes of a chain, and what it tells.
-use Rattle.std.specs.Prelude.{◌≡◌, ℕ, List, [], ◌++◌, Option, option_map, Result}
+use Rattle.std.specs.Prelude.{◌≡◌, ◌≢◌, ℕ, List, [], ◌++◌, Option, option_map, Result, IfErr}
 use Rattle.npos_base.specs.Refusal.{MeetsWhileRoom}
 use Rattle.election_snapshot.specs.Snapshot.{Snapshot}
 use Rattle.weight_book.specs.Weights.{Weights}
@@ -54,3 +54,7 @@ pub record Goes (outcome : Outcome) (new : Chain) (told_old told_new : List Line
 -- Nothing is said after want of memory, which ends the life of a runtime.
 abbrev pub Meets : {T : Type 0} → Option Refusal → Chain → Chain → Chain → Result T Stop → Type 0
 Meets due done old new result = MeetsWhileRoom stops.NoMemory (option_map stops.Refused due) done old new result
+
+-- a call that is refused tells nothing
+abbrev pub Untold : {T : Type 0} → List Line → List Line → Result T Stop → Type 0
+Untold told_old told_new result = IfErr result (λ stop. stop ≢ stops.NoMemory → told_new ≡ told_old)

@@ -1,6 +1,6 @@
 //! The kinds of call, one function each.
 ghost use Rattle.std.specs.Prelude.{◌≡◌, ◌+◌, ◌<◌, ◌^◌, ◌++◌, Err, None, Some, OnOk, IfErr};
-ghost use Rattle.npos_runtime.specs.Outcome.{Meets};
+ghost use Rattle.npos_runtime.specs.Outcome.{Meets, Untold};
 ghost use Rattle.npos_runtime.specs.Live.{IsLive, IsJoined};
 ghost use Rattle.npos_runtime.specs.Ballots.{active_of};
 ghost use Rattle.npos_runtime.specs.Calls.{release_now, stop_of, done_of, told_of, transfer_stop, transfer_done, bond_stop, bond_done, bond_extra_stop, bond_extra_done, unbond_stop, unbond_done, rebond_stop, rebond_done, withdraw_stop, withdraw_done, least_active, role_refusal, nominate_stop, nominate_done, validate_stop, validate_done, chill_stop, chill_done, rebag_stop, rebag_done, put_in_front_stop, put_in_front_done};
@@ -203,8 +203,8 @@ fn put_in_front(chain: &mut Chain, who: AccountId, lighter: AccountId) -> Result
     Ok(())
 }
 
-/// Does what the call asks for, or stops. What it tells besides that it was accepted goes to
-/// `more`.
+/// Does what the call asks for, or stops. What it tells besides that it was accepted is appended to
+/// `more`; a refused call tells nothing.
 #[tactic(auto, unfolding(crate::specs::Calls::stop_of, crate::specs::Calls::done_of, crate::specs::Calls::told_of))]
 pub fn act(
     alloc: Global,
@@ -218,6 +218,7 @@ pub fn act(
     ensures meets { Meets (stop_of chain.old who kind)
         (done_of chain.old who kind) chain.old chain.new result }
     ensures told { OnOk result (more.new.items ≡ more.old.items ++ told_of chain.old who kind) }
+    ensures untold { Untold more.old.items more.new.items result }
 {
     match kind {
         CallKind::Transfer { to, value } => transfer(chain, who, to, value),

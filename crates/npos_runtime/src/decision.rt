@@ -154,13 +154,9 @@ fn seat(checker: Checker, weights: Weights) -> Elected
     ensures snapshot { result.snapshot ≡ checker }
     ensures weights { result.weights.plain ≡ rising checker weights.plain }
 {
-    match checker.seal(weights) {
-        Ok(elected) => {
-            let _committee = elected.committee();
-            elected
-        }
-        Err(_) => unreachable!(),
-    }
+    let elected = checker.elect(weights);
+    let _committee = elected.committee();
+    elected
 }
 
 /// Seats the fill.

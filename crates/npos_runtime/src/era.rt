@@ -21,7 +21,7 @@ use std::alloc::Global;
 fn targets(alloc: Global, snapshot: &Snapshot) -> Result<Vec<AccountId>, NoMemory>
     ensures { IfOk result (λ targets. targets.items ≡ snapshot.now.targets) }
 {
-    let mut targets = Vec::new(alloc);
+    let mut targets = Vec::with_capacity(alloc, snapshot.target_count())?;
     for i in 0..snapshot.target_count() {
         targets.push(snapshot.target(i as u16))?;
     }
@@ -32,7 +32,7 @@ fn targets(alloc: Global, snapshot: &Snapshot) -> Result<Vec<AccountId>, NoMemor
 fn voters(alloc: Global, snapshot: &Snapshot) -> Result<Vec<AccountId>, NoMemory>
     ensures { IfOk result (λ voters. voters.items ≡ accounts_of snapshot.now.voters) }
 {
-    let mut voters = Vec::new(alloc);
+    let mut voters = Vec::with_capacity(alloc, snapshot.voter_count())?;
     for i in 0..snapshot.voter_count() {
         voters.push(snapshot.voter(i as u32))?;
     }
@@ -44,7 +44,7 @@ fn supports(alloc: Global, elected: &Elected) -> Result<Vec<u64>, NoMemory>
     ensures { IfOk result (λ supports. supports.items ≡ map (support elected.now.weights.plain.edges)
         (range_with_len 0 (length elected.now.snapshot.targets))) }
 {
-    let mut supports = Vec::new(alloc);
+    let mut supports = Vec::with_capacity(alloc, elected.snapshot().target_count())?;
     for i in 0..elected.snapshot().target_count() {
         supports.push(elected.support(i as u16))?;
     }

@@ -20,8 +20,6 @@ mod runtime;
 mod signed;
 mod step;
 mod stop;
-#[cfg(test)]
-mod tests;
 mod waiting;
 
 pub use begin::GenesisFault;

@@ -30,7 +30,7 @@ pub fn retire(chain: &mut Chain, who: AccountId)
     requires { IsJoined chain.old.roles chain.old.bags }
     ensures { chain.new ≡ retired who chain.old }
 {
-    if has_role(chain, who) && !chain.book.bonded(who) {
+    if !chain.book.bonded(who) && has_role(chain, who) {
         let _ = chain.roles.chill(who);
         chain.bags.remove(who);
     }

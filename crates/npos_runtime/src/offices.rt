@@ -2,11 +2,10 @@
 ghost use Rattle.std.specs.Prelude.{◌≡◌, ◌≤◌, ◌++◌, map, OnOk};
 ghost use Rattle.stake_ledger.specs.Calls.{minted_free, room_of};
 ghost use Rattle.era_book.specs.Exposures.{amount_sum};
-ghost use Rattle.npos_runtime.specs.Outcome.{Goes, Meets};
+ghost use Rattle.npos_runtime.specs.Outcome.{Goes, Meets, Untold};
 ghost use Rattle.npos_runtime.specs.Live.{IsLive};
-ghost use Rattle.npos_runtime.specs.Offices.{is_root, points_stop, points_done, payout_stop, payout_done, payout_told, opened, all_minted, paid_line, offence_stop, offence_done, offence_told, slash_outcome, slashes};
+ghost use Rattle.npos_runtime.specs.Offices.{is_root, points_stop, points_done, payout_stop, payout_done, payout_told, all_minted, paid_line, offence_stop, offence_done, offence_told, slash_outcome, slashes};
 
-use crate::deposits::hold;
 use crate::lists::retire;
 use crate::rules::{era_reward_of, root_of};
 use crate::stop::Stop;
@@ -34,26 +33,14 @@ pub fn points(chain: &mut Chain, who: AccountId, items: List<(AccountId, u32)>) 
     Ok(())
 }
 
-/// Opens the account's row, where it has none.
-fn open(book: &mut Book, who: AccountId) -> Result<(), NoMemory>
-    ensures { OnOk result (book.new ≡ opened who book.old) }
-{
-    if !book.knows(who) {
-        hold(book, who, 0)?;
-    }
-    Ok(())
-}
-
-/// Mints to an account. Who was exposed is known, so its row is there; else it opens.
-#[tactic(auto, using(crate::proofs::OfficeLemmas::opened_known, crate::proofs::OfficeLemmas::opened_fits, crate::proofs::OfficeLemmas::opened_minted))]
+/// Mints to an account. There is room for it, so this fails for want of memory alone.
 fn mint(book: &mut Book, who: AccountId, amount: u64) -> Result<(), NoMemory>
     requires { amount ≤ room_of book.old }
     ensures { OnOk result (book.new ≡ minted_free who amount book.old) }
 {
-    open(book, who)?;
-    match book.mint_free(who, amount) {
+    match book.mint(who, amount) {
         Ok(()) => Ok(()),
-        Err(_) => unreachable!(),
+        Err(_) => Err(NoMemory),
     }
 }
 
@@ -85,6 +72,7 @@ pub fn payout(
         (payout_done chain.old era validator) chain.old chain.new result }
     ensures told { OnOk result
         (more.new.items ≡ more.old.items ++ payout_told chain.old era validator) }
+    ensures untold { Untold more.old.items more.new.items result }
 {
     let reward = era_reward_of(&chain.params);
     let payout = chain.eras.payout_list(alloc, era, validator, reward)?;
@@ -140,6 +128,7 @@ pub fn offence(
         (offence_done chain.old era validator fraction) chain.old chain.new result }
     ensures told { OnOk result
         (more.new.items ≡ more.old.items ++ offence_told chain.old era validator fraction) }
+    ensures untold { Untold more.old.items more.new.items result }
 {
     if !is_root(chain, reporter) {
         return Err(Stop::Refused(Refusal::NotRoot));

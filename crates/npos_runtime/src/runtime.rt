@@ -56,6 +56,9 @@ pub struct Receipt {
 pub struct Runtime {
     alloc: Global,
     chain: Chain,
+    /// How many lines the last block told. The next one may tell as many, so it begins with room
+    /// for them.
+    told: usize,
     spent: bool,
 }
 
@@ -85,6 +88,7 @@ impl Runtime {
         Ok(Runtime {
             alloc,
             chain,
+            told: 0,
             spent: false,
         })
     }
@@ -112,6 +116,7 @@ impl Runtime {
         }
         let Block { number, calls } = block;
         let mut lines = Vec::new(self.alloc);
+        let _ = lines.reserve(self.told);
         self.spent = true;
         take_block(
             self.alloc,
@@ -121,6 +126,7 @@ impl Runtime {
             calls.into_vec(),
         )?;
         self.spent = false;
+        self.told = lines.len();
         Ok(Receipt {
             lines: List::from_vec(lines),
         })

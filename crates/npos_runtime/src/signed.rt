@@ -1,6 +1,6 @@
 //! Signed submissions.
 ghost use Rattle.std.specs.Prelude.{◌≡◌, ◌+◌, ◌++◌, ◌<◌, ◌^◌, None, Some, OnOk, IfErr};
-ghost use Rattle.npos_runtime.specs.Outcome.{Meets};
+ghost use Rattle.npos_runtime.specs.Outcome.{Meets, Untold};
 ghost use Rattle.npos_runtime.specs.Live.{IsLive};
 ghost use Rattle.npos_runtime.specs.Deposits.{return_lines};
 ghost use Rattle.npos_runtime.specs.Signed.{is_open, form_refusal, offer_refusal, ejected, submitted, submit_stop, submit_done, submit_told};
@@ -49,6 +49,7 @@ fn take_in(chain: &mut Chain, more: &mut Vec<Line>, item: Submission) -> Result<
         chain.old chain.new result }
     ensures told { OnOk result
         (more.new.items ≡ more.old.items ++ return_lines (ejected chain.old.queue item)) }
+    ensures untold { Untold more.old.items more.new.items result }
 {
     let (who, deposit) = (item.who, item.deposit);
     if chain.book.free(who) < deposit {
@@ -80,6 +81,7 @@ pub fn submit(
         (submit_done chain.old who claim bytes) chain.old chain.new result }
     ensures told { OnOk result
         (more.new.items ≡ more.old.items ++ submit_told chain.old who claim bytes) }
+    ensures untold { Untold more.old.items more.new.items result }
 {
     if let Err(refusal) = check_form(chain, round, bytes.as_slice()) {
         return Err(Stop::Refused(refusal));

@@ -43,14 +43,12 @@ fn take_call(
         (call_outcome index call chain.old) chain.new lines.old.items lines.new.items) }
 {
     let Call { who, kind } = call;
-    let mut more = Vec::new(alloc);
-    match act(alloc, chain, &mut more, who, kind) {
-        Ok(()) => {
-            lines.push(Line::CallOk { index })?;
-            lines.extend_from_slice(more.as_slice())?;
-            Ok(())
-        }
+    let told = lines.len();
+    lines.push(Line::CallOk { index })?;
+    match act(alloc, chain, lines, who, kind) {
+        Ok(()) => Ok(()),
         Err(Stop::Refused(refusal)) => {
+            lines.truncate(told);
             lines.push(Line::CallRefused {
                 index,
                 code: refusal.code(),

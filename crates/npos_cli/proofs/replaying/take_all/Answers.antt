@@ -5,6 +5,7 @@ use Rattle.npos_cli.specs.declared.replaying.Stop.TheVariants.{More, Last}
 use Rattle.npos_cli.specs.Chain.{npos_machine}
 use Rattle.npos_cli.specs.Turning.{spot, WritesOn}
 use Rattle.npos_cli.proofs.TurnLaws.{ends_alike, nearer_end}
+use Rattle.npos_cli.proofs.NearLaws.{reaches_near, cut_room}
 use Rattle.npos_cli.proofs.CourseLaws.{course_on, course_last, course_cut, course_unread}
 use Rattle.npos_cli.proofs.replaying.take_all.Goals as goal
 
@@ -31,17 +32,26 @@ returns-in_err-ended-in-More-clause-runs g c =
     (spot c.take_turns.new.reader c.take_turns.new.runtime.state) (g.K.Sink.told c.take_turns.new.sink) c.take_turns.new.text.items (c.pieces.invariant.course left old course)
     (g.S.Source.left c.read_piece.new.source) c.take_turns.new.reader c.read_piece.new.reader c.in_err-ended-in-More.field-0.0 writes c.in_err-ended-in-More.ensures.feeds)
 
+pub read_piece-requires-clause-room : goal.read_piece-requires-clause-room
+read_piece-requires-clause-room g c =
+    let writes : WritesOn npos_machine c.pieces.ended (spot c.pieces.reader c.pieces.runtime.state) (spot c.take_turns.new.reader c.take_turns.new.runtime.state) (g.K.Sink.told c.pieces.sink) (g.K.Sink.told c.take_turns.new.sink)
+    c.take_turns.new.text.items (Ok More) = search rules in
+    let q = spot c.take_turns.new.reader c.take_turns.new.runtime.state in
+    cut_room q writes.1 (reaches_near (spot c.pieces.reader c.pieces.runtime.state) q writes.2.0 writes.2.1 c.pieces.invariant.near)
+
 pub pieces-smaller : goal.pieces-smaller
 pieces-smaller g c =
     let writes : WritesOn npos_machine c.pieces.ended (spot c.pieces.reader c.pieces.runtime.state) (spot c.take_turns.new.reader c.take_turns.new.runtime.state) (g.K.Sink.told c.pieces.sink) (g.K.Sink.told c.take_turns.new.sink)
     c.take_turns.new.text.items (Ok More) = search rules in
     let feeds = c.in_ok-ended-in-More.ensures.feeds in
+    let q = spot c.take_turns.new.reader c.take_turns.new.runtime.state in
+    let room = cut_room q writes.1 (reaches_near (spot c.pieces.reader c.pieces.runtime.state) q writes.2.0 writes.2.1 c.pieces.invariant.near) in
     let at : c.read_piece.new.reader.at ≡ c.take_turns.new.reader.at = ap (λ (p : Place). p.at) feeds.3.0 in
     let rest : length c.read_piece.new.reader.rest ≡ length c.take_turns.new.reader.rest + length feeds.0 = ap (λ (p : Place). length p.rest) feeds.3.0 ∙ length-append c.take_turns.new.reader.rest feeds.0 in
     nearer_end (c.pieces.reader.at + length c.pieces.reader.rest) (c.take_turns.new.reader.at + length c.take_turns.new.reader.rest) (c.read_piece.new.reader.at + length c.read_piece.new.reader.rest)
     c.pieces.ended c.in_ok-ended-in-More.ended writes.0
     (ends_alike (spot c.pieces.reader c.pieces.runtime.state) (spot c.take_turns.new.reader c.take_turns.new.runtime.state) writes.2.0 writes.2.1)
-    c.in_ok-ended-in-More.ensures.fits (omega (arith, at, rest)) (λ e. omega (arith, at, c.in_ok-ended-in-More.ensures.further e))
+    (omega (arith, room)) (omega (arith, at, rest)) (λ e. omega (arith, at, c.in_ok-ended-in-More.ensures.further e))
 
 pub pieces-preserved : goal.pieces-preserved
 pieces-preserved g c =
@@ -51,6 +61,9 @@ pieces-preserved g c =
       unspent = search rules;
       some = omega (arith, c.pieces.invariant.some, c.read_piece.auto.piece);
       one_piece = omega (arith, c.pieces.invariant.one_piece, c.read_piece.auto.piece);
+      near =
+          let near = reaches_near (spot c.pieces.reader c.pieces.runtime.state) (spot c.take_turns.new.reader c.take_turns.new.runtime.state) writes.2.0 writes.2.1 c.pieces.invariant.near in
+          (near.0, omega (arith, near.1, ap (λ (p : Place). p.at) c.in_ok-ended-in-More.ensures.feeds.3.0));
       reads = c.in_ok-ended-in-More.ensures.halts ∙ c.pieces.invariant.reads;
       writes = c.in_ok-faulty.ensures.faults ∙ c.pieces.invariant.writes;
       course = λ left old course. course_on left (g.S.Source.left c.pieces.source) old (g.K.Sink.told c.pieces.sink) c.pieces.ended (spot c.pieces.reader c.pieces.runtime.state)

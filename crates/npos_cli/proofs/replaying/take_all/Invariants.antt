@@ -1,16 +1,17 @@
 use Rattle.std.proofs.Common.{◌≡◌, ◌+◌, ◌-◌, ◌^◌, ◌<◌, ◌≤◌, ℕ, List, Option, false, length}
 use Rattle.npos_base.specs.Outside.{Told}
-use Rattle.npos_cli.specs.Turning.{spot}
+use Rattle.npos_cli.specs.Turning.{spot, IsNear}
 use Rattle.npos_cli.specs.Streaming.{Course}
 use Rattle.npos_cli.proofs.TurnLaws.{one_if_open}
 use Rattle.npos_cli.proofs.replaying.take_all.Given as goal
 
--- whatever led to the start goes on to here, and no read or write failed
+-- whatever led to the start goes on to here, no read or write failed, and the place is near
 abbrev pub invariant-pieces : goal.invariant-pieces
 invariant-pieces g l = record {
   unspent : l.runtime.spent ≡ false;
   some : 0 < length l.piece;
   one_piece : length l.piece ≤ 65536;
+  near : IsNear (spot l.reader l.runtime.state);
   reads : g.S.Source.faults l.source ≡ g.S.Source.faults l.fn.source;
   writes : g.K.Sink.faults l.sink ≡ g.K.Sink.faults l.fn.sink;
   course : (left : Option (List ℕ)) (old : Option Told) → Course left (g.S.Source.left l.fn.source) old (g.K.Sink.told l.fn.sink) false (spot l.fn.reader l.fn.runtime.state)

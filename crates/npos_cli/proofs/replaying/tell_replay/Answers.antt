@@ -1,10 +1,11 @@
-use Rattle.std.proofs.Common.{rules, ◌≡◌, ◌++◌, true, Ok, Err, ap, ◌∙◌}
+use Rattle.std.proofs.Common.{rules, ◌≡◌, ◌++◌, true, Ok, Err, ap, ◌∙◌, arith}
 use Rattle.std.proofs.lemmas.Result.{err_from_is_err_and}
 use Rattle.npos_runtime.specs.Life.{Life}
 use Rattle.npos_runtime.specs.Genesis.{fault_numbers}
 use Rattle.npos_cli.specs.Texts.{fault_line, genesis_line}
 use Rattle.npos_cli.specs.Turning.{spot}
 use Rattle.npos_cli.specs.Ahead.{Begins}
+use Rattle.npos_cli.proofs.NearLaws.{begun_near}
 use Rattle.npos_cli.proofs.ChainLaws.{few_endowments, few_thresholds}
 use Rattle.npos_cli.proofs.StartLaws.{refused_replay, faulty_replay, genesis_starts}
 use Rattle.npos_cli.proofs.CourseLaws.{begins_starved, begins_cut, begun_starved, finished_first, course_starts}
@@ -59,6 +60,12 @@ returns-in-Err-start-clause-runs g c =
     finished_first (g.S.Source.left c.args.source.now) (g.S.Source.left c.take_genesis.new.source) (g.K.Sink.told c.args.sink.now) begins.0 c.tell_genesis_fault.new.text.items true begins.1 begins.2
     (faulty_replay (g.S.Source.left c.args.source.now) (g.S.Source.left c.take_genesis.new.source) begins.0 c.tell_genesis_fault.new.text.items c.take_genesis.new.reader c.in-Ok.genesis c.in-Err-start.fault begins.1 begins.3
     c.in-Err-start.ensures.refused c.in_ok-tell_genesis_fault-in-Err-start.ensures.memory line)
+
+pub take_all-requires-clause-near : goal.take_all-requires-clause-near
+take_all-requires-clause-near g c =
+    let begins : Begins (g.S.Source.left c.args.source.now) (g.S.Source.left c.take_genesis.new.source) c.take_genesis.new.reader (Ok (Ok c.in-Ok.genesis)) = search rules in
+    let due : c.in-Ok-start.runtime.state.due ≡ 1 = ap (λ (life : Life). life.state.due) c.in-Ok-start.ensures.ok.1 in
+    (omega (arith, due), omega (arith, due, begun_near begins.0 c.take_genesis.new.reader c.in-Ok.genesis begins.3))
 
 pub returns-clause-runs : goal.returns-clause-runs
 returns-clause-runs g c =
