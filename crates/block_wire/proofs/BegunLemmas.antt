@@ -15,7 +15,7 @@ use Rattle.block_wire.specs.declared.limits.TheConstants.{MOST_CALLS}
 use Rattle.block_wire.specs.declared.call.Call.{Call}
 use Rattle.block_wire.specs.declared.begun.Begun.{Begun}
 use Rattle.block_wire.specs.Calls.{call_form, block_form}
-use Rattle.block_wire.specs.Begun.{next_form, behind, IsHead, IsBegun, ReadsOn, Opens, IsWholeBlock}
+use Rattle.block_wire.specs.Begun.{next_form, behind, IsHead, HasItems, IsBegun, ReadsOn, Opens, IsWholeBlock}
 
 -- ## Places
 
@@ -28,7 +28,7 @@ pub record Goes (old new : Place) : Type 0 where
 pub goes_by : {V : Type 0} (form : Form V) (old new : Place) (value : V) → IsRead form old value new → Goes old new
 goes_by form old new value read = record { bytes = form.spelling value; whole = read.whole; at_is = read.at_is }
 
-goes_on : (old mid new : Place) → Goes old mid → Goes mid new → Goes old new
+pub goes_on : (old mid new : Place) → Goes old mid → Goes mid new → Goes old new
 goes_on old mid new first then = record {
   bytes = first.bytes ++ then.bytes;
   whole = first.whole ∙ (ap (λ (s : List ℕ). first.bytes ++ s) then.whole ∙ sym (append_assoc first.bytes then.bytes new.rest));
@@ -103,21 +103,6 @@ opened_none old new read =
       subst (λ (n : ℕ). n ≤ length old.rest) one is.within,
     )
 
--- a block was begun, and none of its calls was read
-pub opened : (old new : Place) (begun : Begun) → IsHead old begun.number begun.count new → begun.size ≡ new.at - old.at → begun.calls.items ≡ [] → IsBegun begun old
-opened old new begun head size none =
-    let is = is_behind old new (goes_head old new begun.number begun.count head) in
-    let place : new ≡ behind begun.size old = sym is.place_is ∙ ap (λ (n : ℕ). behind n old) (sym size) in
-    let here : IsRead (items call_form 0) new [] new = record { in_range = (tt, refl); whole = refl; at_is = omega arith } in
-    record {
-      counted = new;
-      head = head;
-      calls = subst (λ (p : Place). IsRead (items call_form (length begun.calls.items)) new begun.calls.items p) place
-          (subst (λ (xs : List Call). IsRead (items call_form (length xs)) new xs new) (sym none) here);
-      few = omega (arith, ap length none);
-      within = subst (λ (n : ℕ). n ≤ length old.rest) (sym size) is.within;
-    }
-
 -- ## The calls
 
 pub no_more : {A : Type 0} (item : Form A) (xs ys : List A) (old : Place) → ys ≡ xs → ReadsOn item xs old ys old
@@ -145,38 +130,59 @@ on_more item xs ys zs old mid new y on read same = λ start first.
       at_is = omega (arith, so_far.at_is, read.at_is, length-append (flat_map item.spelling ys) (item.spelling y), ap length (flat_more item.spelling ys y));
     }
 
--- where the reader goes on
-pub goes_begun : (begun : Begun) (old : Place) → IsBegun begun old → Goes old (behind begun.size old)
-goes_begun begun old is =
-    goes_on old is.counted (behind begun.size old) (goes_head old is.counted begun.number begun.count is.head)
-    (goes_by (items call_form (length begun.calls.items)) is.counted (behind begun.size old) begun.calls.items is.calls)
-
--- the reader goes on from there
-pub goes_further : (begun : Begun) (more : List Call) (old here there : Place) → IsBegun begun old → here ≡ behind begun.size old → ReadsOn call_form begun.calls.items here more there
+-- where the reader goes on behind the items that were whole
+pub goes_further : {A : Type 0} (Head : Place → Place → Type 0) (item : Form A) (count size : ℕ) (xs ys : List A) (old here there : Place)
+    → ((counted : Place) → Head old counted → Goes old counted) → HasItems Head item count size xs old → here ≡ behind size old → ReadsOn item xs here ys there
     → IsBehind old there
-goes_further begun more old here there is place on =
-    let read = on is.counted (subst (λ (p : Place). IsRead (items call_form (length begun.calls.items)) is.counted begun.calls.items p) (sym place) is.calls) in
-    is_behind old there (goes_on old is.counted there (goes_head old is.counted begun.number begun.count is.head) (goes_by (items call_form (length more)) is.counted there more read))
+goes_further Head item count size xs ys old here there goes is place on =
+    let read = on is.counted (subst (λ (p : Place). IsRead (items item (length xs)) is.counted xs p) (sym place) is.whole) in
+    is_behind old there (goes_on old is.counted there (goes is.counted is.head) (goes_by (items item (length ys)) is.counted there ys read))
 
--- more of the calls were read
-pub begun_grows : (begun more : Begun) (old here there : Place) → IsBegun begun old → here ≡ behind begun.size old → ReadsOn call_form begun.calls.items here more.calls.items there
-    → more.number ≡ begun.number → more.count ≡ begun.count → more.size ≡ there.at - old.at → length more.calls.items ≤ more.count → IsBegun more old × (there ≡ behind more.size old)
-begun_grows begun more old here there is place on number count size few =
-    let read = on is.counted (subst (λ (p : Place). IsRead (items call_form (length begun.calls.items)) is.counted begun.calls.items p) (sym place) is.calls) in
-    let stands = goes_further begun more.calls.items old here there is place on in
-    let there_is : there ≡ behind more.size old = sym stands.place_is ∙ ap (λ (n : ℕ). behind n old) (sym size) in (
+-- more of the items were read
+pub items_grow : {A : Type 0} (Head : Place → Place → Type 0) (item : Form A) (count size more : ℕ) (xs ys : List A) (old here there : Place)
+    → ((counted : Place) → Head old counted → Goes old counted) → HasItems Head item count size xs old → here ≡ behind size old → ReadsOn item xs here ys there
+    → more ≡ there.at - old.at → length ys ≤ count → HasItems Head item count more ys old × (there ≡ behind more old)
+items_grow Head item count size more xs ys old here there goes is place on size_is few =
+    let read = on is.counted (subst (λ (p : Place). IsRead (items item (length xs)) is.counted xs p) (sym place) is.whole) in
+    let stands = goes_further Head item count size xs ys old here there goes is place on in
+    let there_is : there ≡ behind more old = sym stands.place_is ∙ ap (λ (n : ℕ). behind n old) (sym size_is) in (
       record {
         counted = is.counted;
-        head = subst (λ (n : ℕ). IsHead old n more.count is.counted) (sym number) (subst (λ (n : ℕ). IsHead old begun.number n is.counted) (sym count) is.head);
-        calls = subst (λ (p : Place). IsRead (items call_form (length more.calls.items)) is.counted more.calls.items p) there_is read;
+        head = is.head;
+        whole = subst (λ (p : Place). IsRead (items item (length ys)) is.counted ys p) there_is read;
         few = few;
-        within = subst (λ (n : ℕ). n ≤ length old.rest) (sym size) stands.within;
+        within = subst (λ (n : ℕ). n ≤ length old.rest) (sym size_is) stands.within;
       },
       there_is,
     )
 
+-- nothing but the head was read
+pub no_items : {A : Type 0} (Head : Place → Place → Type 0) (item : Form A) (count size : ℕ) (xs : List A) (old new : Place)
+    → ((counted : Place) → Head old counted → Goes old counted) → Head old new → size ≡ new.at - old.at → xs ≡ [] → HasItems Head item count size xs old
+no_items Head item count size xs old new goes head size_is none =
+    let is = is_behind old new (goes new head) in
+    let place : new ≡ behind size old = sym is.place_is ∙ ap (λ (n : ℕ). behind n old) (sym size_is) in
+    let here : IsRead (items item 0) new [] new = record { in_range = (tt, refl); whole = refl; at_is = omega arith } in
+    record {
+      counted = new;
+      head = head;
+      whole = subst (λ (p : Place). IsRead (items item (length xs)) new xs p) place
+          (subst (λ (ys : List _). IsRead (items item (length ys)) new ys new) (sym none) here);
+      few = omega (arith, ap length none);
+      within = subst (λ (n : ℕ). n ≤ length old.rest) (sym size_is) is.within;
+    }
+
+-- where the reader goes on in a block
+pub goes_calls : (begun : Begun) (old counted : Place) → IsHead old begun.number begun.count counted → Goes old counted
+goes_calls begun old counted head = goes_head old counted begun.number begun.count head
+
+-- a block was begun, and none of its calls was read
+pub opened : (old new : Place) (begun : Begun) → IsHead old begun.number begun.count new → begun.size ≡ new.at - old.at → begun.calls.items ≡ [] → IsBegun begun old
+opened old new begun head size none =
+    no_items (λ start end. IsHead start begun.number begun.count end) call_form begun.count begun.size begun.calls.items old new (goes_calls begun old) head size none
+
 -- one part behind another
-behind_read : {A B : Type 0} (a : Form A) (b : Form B) (old mid new : Place) (x : A) (y : B) → IsRead a old x mid → IsRead b mid y new → IsRead (pair a b) old (x, y) new
+pub behind_read : {A B : Type 0} (a : Form A) (b : Form B) (old mid new : Place) (x : A) (y : B) → IsRead a old x mid → IsRead b mid y new → IsRead (pair a b) old (x, y) new
 behind_read a b old mid new x y first then = record {
   in_range = (first.in_range, then.in_range);
   whole = first.whole ∙ (ap (λ (s : List ℕ). a.spelling x ++ s) then.whole ∙ sym (append_assoc (a.spelling x) (b.spelling y) new.rest));
@@ -189,8 +195,8 @@ whole_block begun old is all =
     let there = behind begun.size old in
     let head = is.head in
     let counted : IsRead (length_form MOST_CALLS) head.1 (length begun.calls.items) is.counted = subst (λ (n : ℕ). IsRead (length_form MOST_CALLS) head.1 n is.counted) (sym all) head.4 in
-    let calls = behind_read (length_form MOST_CALLS) (items call_form (length begun.calls.items)) head.1 is.counted there (length begun.calls.items) begun.calls.items counted is.calls in
-    let listed : IsRead calls_form head.1 begun.calls.items there = record { in_range = (counted.in_range, is.calls.in_range.0); whole = calls.whole; at_is = calls.at_is } in
+    let calls = behind_read (length_form MOST_CALLS) (items call_form (length begun.calls.items)) head.1 is.counted there (length begun.calls.items) begun.calls.items counted is.whole in
+    let listed : IsRead calls_form head.1 begun.calls.items there = record { in_range = (counted.in_range, is.whole.in_range.0); whole = calls.whole; at_is = calls.at_is } in
     let block = behind_read compact_u32 calls_form head.0 head.1 there begun.number begun.calls.items head.3 listed in
     let some = behind_read (tag_form 2) (pair compact_u32 calls_form) old head.0 there 1 (begun.number, begun.calls.items) head.2 block in
     (record { in_range = block.in_range; whole = some.whole; at_is = some.at_is }, is.within)
@@ -201,7 +207,7 @@ pub cut_block : (begun : Begun) (old there : Place) (fault : ReadFault) → IsBe
 cut_block begun old there fault is place fewer refused =
     let head = is.head in
     let here : IsRead (items call_form (length begun.calls.items)) is.counted begun.calls.items there =
-    subst (λ (p : Place). IsRead (items call_form (length begun.calls.items)) is.counted begun.calls.items p) (sym place) is.calls in
+    subst (λ (p : Place). IsRead (items call_form (length begun.calls.items)) is.counted begun.calls.items p) (sym place) is.whole in
     optional_err block_form old old head.0 head.0 1 fault refl (λ e. cc) head.2
     (pair_err compact_u32 calls_form head.0 head.1 head.1 begun.number fault head.3
     (list_err call_form MOST_CALLS head.1 head.1 is.counted is.counted begun.count fault refl head.4

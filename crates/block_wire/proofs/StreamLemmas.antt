@@ -1,5 +1,5 @@
 -- How the reader's place moves.
-use Rattle.std.proofs.Common.{◌≡◌, ℕ, ◌+◌, ◌-◌, ◌≤◌, List, ◌++◌, length, drop, Option, Some, None, IfSome, sym, ◌∙◌, ap, subst, arith, append_assoc, length-append}
+use Rattle.std.proofs.Common.{◌≡◌, ℕ, ◌+◌, List, ◌++◌, length, drop, Option, Some, None, IfSome, sym, ◌∙◌, ap, subst, arith, append_assoc, length-append}
 use Rattle.std.proofs.lemmas.List.{drop-drop, drop-append-le}
 use Rattle.scale_wire.specs.Form.{Form}
 use Rattle.scale_wire.specs.Parts.{tag_form, compact_u32, length_form}
@@ -7,22 +7,20 @@ use Rattle.scale_wire.specs.Composite.{items}
 use Rattle.scale_wire.specs.Reading.{Place, IsRead}
 use Rattle.block_wire.specs.declared.limits.TheConstants.{MOST_CALLS}
 use Rattle.block_wire.specs.declared.begun.Begun.{Begun}
+use Rattle.block_wire.specs.declared.begun_genesis.BegunGenesis.{BegunGenesis}
+use Rattle.npos_base.specs.declared.limits.TheConstants.{MOST_ENDOWMENTS}
 use Rattle.block_wire.specs.Calls.{call_form}
-use Rattle.block_wire.specs.Begun.{behind, IsBegun}
-use Rattle.block_wire.proofs.BegunLemmas.{is_behind, goes_by}
+use Rattle.block_wire.specs.Begun.{behind, IsHead, HasItems, IsBegun}
+use Rattle.block_wire.specs.BegunGenesis.{IsGenesisHead, IsBegunGenesis}
+use Rattle.block_wire.specs.Genesis.{endowment_form}
 
--- behind a value that was read
-pub read_behind : {V : Type 0} (form : Form V) (old new : Place) (value : V) (size : ℕ) → IsRead form old value new → size ≡ new.at - old.at
-    → IsRead form old value (behind size old) × (size ≤ length old.rest)
-read_behind form old new value size read size_is =
-    let is = is_behind old new (goes_by form old new value read) in (
-      subst (λ (p : Place). IsRead form old value p) (sym is.place_is ∙ ap (λ (n : ℕ). behind n old) (sym size_is)) read,
-      subst (λ (n : ℕ). n ≤ length old.rest) (sym size_is) is.within,
-    )
-
--- the first bytes of what is left are those behind the first bytes of all
-pub moved : (size from : ℕ) (bytes : List ℕ) → drop size (drop from bytes) ≡ drop (from + size) bytes
-moved size from bytes = drop-drop size from bytes
+-- the reader's place behind a value
+pub taken : {V : Type 0} (form : Form V) (value : V) (at from size : ℕ) (bytes : List ℕ) (old : Place) → record { at = at; rest = drop from bytes } ≡ old
+    → IsRead form (record { at = at; rest = drop from bytes }) value (behind size (record { at = at; rest = drop from bytes }))
+    → IsRead form old value (record { at = at + size; rest = drop (from + size) bytes })
+taken form value at from size bytes old place read =
+    subst (λ (p : Place). IsRead form p value (record { at = at + size; rest = drop (from + size) bytes })) place
+    (subst (λ (rest : List ℕ). IsRead form (record { at = at; rest = drop from bytes }) value (record { at = at + size; rest = rest })) (drop-drop size from bytes) read)
 
 -- the same place where more bytes follow
 abbrev pub further : List ℕ → Place → Place
@@ -35,28 +33,45 @@ read_grows form old new value more is = record {
   at_is = is.at_is;
 }
 
-begun_further : (begun : Begun) (old : Place) (more : List ℕ) → IsBegun begun old → IsBegun begun (further more old)
-begun_further begun old more is =
-    let there : further more (behind begun.size old) ≡ behind begun.size (further more old) =
-    λ i. record { at = old.at + begun.size; rest = sym (drop-append-le begun.size old.rest more is.within) i } in
+items_further : {A : Type 0} (Head : Place → Place → Type 0) (item : Form A) (count size : ℕ) (xs : List A) (old : Place) (more : List ℕ)
+    → ((counted : Place) → Head old counted → Head (further more old) (further more counted)) → HasItems Head item count size xs old
+    → HasItems Head item count size xs (further more old)
+items_further Head item count size xs old more grows is =
+    let there : further more (behind size old) ≡ behind size (further more old) =
+    λ i. record { at = old.at + size; rest = sym (drop-append-le size old.rest more is.within) i } in
     record {
       counted = further more is.counted;
-      head = (
-        further more is.head.0,
-        further more is.head.1,
-        read_grows (tag_form 2) old is.head.0 1 more is.head.2,
-        read_grows compact_u32 is.head.0 is.head.1 begun.number more is.head.3,
-        read_grows (length_form MOST_CALLS) is.head.1 is.counted begun.count more is.head.4,
-      );
-      calls = subst (λ (p : Place). IsRead (items call_form (length begun.calls.items)) (further more is.counted) begun.calls.items p) there
-          (read_grows (items call_form (length begun.calls.items)) is.counted (behind begun.size old) begun.calls.items more is.calls);
+      head = grows is.counted is.head;
+      whole = subst (λ (p : Place). IsRead (items item (length xs)) (further more is.counted) xs p) there
+          (read_grows (items item (length xs)) is.counted (behind size old) xs more is.whole);
       few = is.few;
       within = omega (arith, is.within, length-append old.rest more);
     }
 
+pub begun_further : (begun : Begun) (old : Place) (more : List ℕ) → IsBegun begun old → IsBegun begun (further more old)
+begun_further begun old more is =
+    items_further (λ start end. IsHead start begun.number begun.count end) call_form begun.count begun.size begun.calls.items old more
+    (λ counted head. (
+      further more head.0,
+      further more head.1,
+      read_grows (tag_form 2) old head.0 1 more head.2,
+      read_grows compact_u32 head.0 head.1 begun.number more head.3,
+      read_grows (length_form MOST_CALLS) head.1 counted begun.count more head.4,
+    )) is
+
+pub genesis_further : (begun : BegunGenesis) (old : Place) (more : List ℕ) → IsBegunGenesis begun old → IsBegunGenesis begun (further more old)
+genesis_further begun old more is =
+    items_further (λ start end. IsGenesisHead start begun.tag begun.count end) endowment_form begun.count begun.size begun.endowments.items old more
+    (λ counted head. (
+      further more head.0,
+      read_grows (tag_form 2) old head.0 begun.tag more head.1,
+      read_grows (length_form MOST_ENDOWMENTS) head.0 counted begun.count more head.2,
+    )) is
+
 -- what was begun stays begun where more bytes follow
-pub fed : (begun : Option Begun) (at : ℕ) (rest more bytes : List ℕ) → bytes ≡ rest ++ more → IfSome begun (λ some. IsBegun some (record { at = at; rest = rest }))
-    → IfSome begun (λ some. IsBegun some (record { at = at; rest = bytes }))
-fed None at rest more bytes is begun = tt
-fed (Some some) at rest more bytes is begun =
-    subst (λ (all : List ℕ). IsBegun some (record { at = at; rest = all })) (sym is) (begun_further some (record { at = at; rest = rest }) more begun)
+pub fed : {B : Type 0} (Is : B → Place → Type 0) (begun : Option B) (at : ℕ) (rest more bytes : List ℕ)
+    → ((some : B) (old : Place) (more : List ℕ) → Is some old → Is some (further more old)) → bytes ≡ rest ++ more
+    → IfSome begun (λ some. Is some (record { at = at; rest = rest })) → IfSome begun (λ some. Is some (record { at = at; rest = bytes }))
+fed Is None at rest more bytes grows is begun = tt
+fed Is (Some some) at rest more bytes grows is begun =
+    subst (λ (all : List ℕ). Is some (record { at = at; rest = all })) (sym is) (grows some (record { at = at; rest = rest }) more begun)

@@ -34,14 +34,20 @@ ReadsHead old (Ok None) new = IsRead next_form old None new
 ReadsHead old (Ok (Some head)) new = IsHead old head.0 head.1 new
 ReadsHead old (Err fault) new = IsFault next_form old fault old
 
--- The first `size` bytes are the head of a block and as many of its calls as were whole.
-pub record IsBegun (begun : Begun) (old : Place) : Type 0 where
+-- The first `size` bytes are a head and as many of the `count` items behind it as were whole.
+pub record HasItems {A : Type 0} (Head : Place → Place → Type 0) (item : Form A) (count size : ℕ)
+    (xs : List A) (old : Place) : Type 0 where
   pub counted : Place
-  pub head : IsHead old begun.number begun.count counted
-  pub calls : IsRead (items call_form (length begun.calls.items)) counted begun.calls.items
-      (behind begun.size old)
-  pub few : length begun.calls.items ≤ begun.count
-  pub within : begun.size ≤ length old.rest
+  pub head : Head old counted
+  pub whole : IsRead (items item (length xs)) counted xs (behind size old)
+  pub few : length xs ≤ count
+  pub within : size ≤ length old.rest
+
+-- the head of a block, and as many of its calls as were whole
+abbrev pub IsBegun : Begun → Place → Type 0
+IsBegun begun old =
+    HasItems (λ start end. IsHead start begun.number begun.count end) call_form begun.count
+    begun.size begun.calls.items old
 
 -- `ys` are `xs` and the items between the two places, wherever the first of them stands
 abbrev pub ReadsOn : {A : Type 0} → Form A → List A → Place → List A → Place → Type 0

@@ -5,4 +5,5 @@ pub mod CallLaws
 pub mod Bundles
 pub mod BundleLaws
 pub mod Begun
+pub mod BegunGenesis
 pub mod Stream

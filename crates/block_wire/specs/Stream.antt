@@ -1,14 +1,14 @@
 -- What the reader of a stream answers on the bytes that it was fed so far.
-use Rattle.std.specs.Prelude.{◌≡◌, ℕ, ◌+◌, ◌≤◌, Bool, true, false, Option, Some, None, Result, Ok, Err, length}
+use Rattle.std.specs.Prelude.{◌≡◌, ℕ, ◌+◌, Bool, true, false, Option, Some, None, Result, Ok, Err}
 use Rattle.scale_wire.specs.declared.fault.Why.TheVariants.{Short}
 use Rattle.scale_wire.specs.declared.fault.ReadFault.{ReadFault}
 use Rattle.scale_wire.specs.declared.fault.ReadFault.TheVariants as faults
 use Rattle.scale_wire.specs.declared.fault.WireFault.{WireFault}
 use Rattle.scale_wire.specs.Form.{Form}
-use Rattle.scale_wire.specs.Reading.{Place, IsRead, IsFault, Reads}
+use Rattle.scale_wire.specs.Reading.{Place, IsRead, IsFault}
 use Rattle.block_wire.specs.declared.stream.Next.{Next}
 use Rattle.block_wire.specs.declared.stream.Next.TheVariants.{More, Block, End}
-use Rattle.block_wire.specs.Begun.{next_form, behind}
+use Rattle.block_wire.specs.Begun.{next_form}
 
 -- the bytes are cut within a value, more may come, and nothing was consumed
 abbrev pub Waits : {V : Type 0} → Form V → Bool → Place → Place → Type 0
@@ -36,9 +36,3 @@ TakesNext ended old (Ok (Block at block)) new =
 TakesNext ended old (Ok End) new = IsRead next_form old None new
 TakesNext ended old (Err (faults.Wire fault)) new = Refuses next_form ended old fault new
 TakesNext ended old (Err faults.NoMemory) new = new ≡ old
-
--- a value that has this many bytes was read, or the bytes are refused
-abbrev pub ReadsAt : {V : Type 0} → Form V → Place → Result (V × ℕ) ReadFault → Type 0
-ReadsAt form old (Ok value) =
-    IsRead form old value.0 (behind value.1 old) × (value.1 ≤ length old.rest)
-ReadsAt form old (Err fault) = Reads form old (Err fault) old

@@ -69,7 +69,7 @@ fn open_block(alloc: Global, bytes: &[u8], at: u64) -> Result<Option<Begun>, Rea
 /// Reads items until there are as many, or until one is refused or memory runs out, and leaves the
 /// cursor behind the last that was read.
 #[tactic(auto, using(crate::proofs::BegunLemmas::no_more, crate::proofs::BegunLemmas::on_more))]
-fn read_on<T: Wire>(
+pub fn read_on<T: Wire>(
     alloc: Global,
     items: &mut Vec<T>,
     count: u32,

@@ -3,6 +3,7 @@
 #![tactic(auto)]
 
 mod begun;
+mod begun_genesis;
 mod block;
 mod bundle;
 mod call;

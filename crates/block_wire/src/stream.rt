@@ -4,13 +4,13 @@ ghost use Rattle.scale_wire.specs.Form.{IsBytes};
 ghost use Rattle.scale_wire.specs.Reading.{Reads};
 ghost use Rattle.block_wire.specs.Genesis.{genesis_form};
 ghost use Rattle.block_wire.specs.Begun.{next_form};
-ghost use Rattle.block_wire.specs.Stream.{ReadsAt, TakesMore, TakesNext};
+ghost use Rattle.block_wire.specs.Stream.{TakesMore, TakesNext};
 
 use crate::begun::{Begun, Step, go_on};
+use crate::begun_genesis::{BegunGenesis, GenesisStep, resume_genesis};
 use crate::{Block, Genesis};
 use npos_base::{List, NoMemory};
 use scale_wire::fault::{ReadFault, Why, WireFault};
-use scale_wire::{Cursor, Wire};
 use std::alloc::Global;
 use std::marker::Model;
 
@@ -27,8 +27,8 @@ pub enum Next {
 
 /// Takes a genesis and then blocks from bytes that it is fed by pieces. Contracts see the place
 /// behind the values that were taken, counted in bytes from the first that was ever fed, and the
-/// bytes that stand there. Of a block that is not whole yet it keeps the calls that are, and goes on
-/// at the first that was not.
+/// bytes that stand there. Of a genesis or a block that is not whole yet it keeps the endowments or
+/// the calls that are, and goes on at the first that was not.
 #[derive(Drop)]
 pub struct StreamReader {
     alloc: Global,
@@ -36,12 +36,14 @@ pub struct StreamReader {
     from: usize,
     at: u64,
     begun: Option<Begun>,
+    begun_genesis: Option<BegunGenesis>,
 }
 
 impl Model for StreamReader {
     ghost use Rattle.std.specs.Prelude.{◌+◌, ◌<◌, ◌≤◌, ◌^◌, length, drop, vec_len, IfSome};
     ghost use Rattle.scale_wire.specs.Reading.{Place};
     ghost use Rattle.block_wire.specs.Begun.{IsBegun};
+    ghost use Rattle.block_wire.specs.BegunGenesis.{IsBegunGenesis};
 
     ghost Value = { Place };
 
@@ -50,7 +52,9 @@ impl Model for StreamReader {
     ghost invariant = { λ r. (r.from ≤ vec_len r.bytes)
         × (r.at + length (drop r.from r.bytes.items) < 2 ^ 64)
         × IfSome r.begun (λ begun.
-        IsBegun begun (record { at = r.at; rest = drop r.from r.bytes.items })) };
+        IsBegun begun (record { at = r.at; rest = drop r.from r.bytes.items }))
+        × IfSome r.begun_genesis (λ begun.
+        IsBegunGenesis begun (record { at = r.at; rest = drop r.from r.bytes.items })) };
 }
 
 /// Lets go of the first bytes. Where none go, none are moved, so that the cost of a long value does
@@ -67,18 +71,6 @@ fn remove_front(bytes: &mut Vec<u8>, count: usize)
     bytes.truncate(left);
 }
 
-/// Reads a value at this place, and answers how many bytes it has.
-fn read_at<T: Wire>(alloc: Global, bytes: &[u8], at: u64) -> Result<(T, usize), ReadFault>
-    requires fits { at + length bytes.now < 2 ^ 64 }
-    ensures read { ReadsAt T.form (record { at = at; rest = bytes.now }) result }
-    ensures bytes { IsBytes bytes.now }
-{
-    let mut here = Cursor::new(bytes, at);
-    let value = T::read(alloc, &mut here)?;
-    let size = (here.at() - at) as usize;
-    Ok((value, size))
-}
-
 impl StreamReader {
     /// A reader that was fed nothing. It takes no memory yet.
     pub fn new(alloc: Global) -> StreamReader
@@ -90,6 +82,7 @@ impl StreamReader {
             from: 0,
             at: 0,
             begun: None,
+            begun_genesis: None,
         }
     }
 
@@ -127,13 +120,8 @@ impl StreamReader {
         ensures takes { TakesMore genesis_form ended self.old result self.new }
         ensures bytes { IsBytes self.old.rest }
     {
-        match read_at::<Genesis>(self.alloc, self.held(), self.at) {
-            Ok((genesis, size)) => {
-                self.begun = None;
-                self.from += size;
-                self.at += size as u64;
-                Ok(Some(genesis))
-            }
+        match self.read_genesis() {
+            Ok(genesis) => Ok(Some(genesis)),
             Err(
                 ReadFault::Wire(
                     WireFault {
@@ -143,6 +131,31 @@ impl StreamReader {
                 ),
             ) if !ended => Ok(None),
             Err(fault) => Err(fault),
+        }
+    }
+
+    /// The genesis that the bytes begin with.
+    fn read_genesis(&mut self) -> Result<Genesis, ReadFault>
+        ensures reads { Reads genesis_form self.old result self.new }
+        ensures bytes { IsBytes self.old.rest }
+    {
+        self.begun = None;
+        let begun = self.begun_genesis.take();
+        match resume_genesis(
+            self.alloc,
+            begun,
+            &self.bytes.as_slice()[self.from..],
+            self.at,
+        ) {
+            GenesisStep::Whole(genesis, size) => {
+                self.from += size;
+                self.at += size as u64;
+                Ok(genesis)
+            }
+            GenesisStep::Stopped(begun, fault) => {
+                self.begun_genesis = begun;
+                Err(fault)
+            }
         }
     }
 
@@ -174,6 +187,7 @@ impl StreamReader {
         ensures bytes { IsBytes self.old.rest }
         ensures fits { self.old.at + length self.old.rest < 2 ^ 64 }
     {
+        self.begun_genesis = None;
         let begun = self.begun.take();
         match go_on(
             self.alloc,

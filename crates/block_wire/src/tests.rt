@@ -252,29 +252,34 @@ fn take_whole(reader: &mut StreamReader, places: &mut Vec<u64>) -> Result<(), Re
     Ok(())
 }
 
-// A genesis, a block of two transfers and the None, by pieces.
+// A genesis of each kind, before a block of two transfers and the None, and the places in that
+// stream.
+const STREAMS: [(&[u8], [u64; 3]); 2] = [(&PLAIN, [69, 70, 205]), (&FULL, [82, 83, 218])];
+
 #[test]
 fn a_stream_by_pieces(rt: HostRuntime) -> Result<(), Fail> {
-    let mut stream = PLAIN.to_vec(rt.alloc())?;
-    stream.extend_from_slice(&BLOCK)?;
-    stream.push(0)?;
-    for size in [1, 7, 65_536] {
-        let mut reader = StreamReader::new(rt.alloc());
-        let mut places = Vec::new(rt.alloc());
-        for piece in stream.chunks(size) {
-            assert!(rt; reader.at() < 300 && reader.held().len() < 300 && piece.len() < 300);
-            reader.feed(piece)?;
-            for _ in 0..3 {
-                take_whole(&mut reader, &mut places)?;
+    for (genesis, whole) in STREAMS {
+        let mut stream = genesis.to_vec(rt.alloc())?;
+        stream.extend_from_slice(&BLOCK)?;
+        stream.push(0)?;
+        for size in [1, 7, 65_536] {
+            let mut reader = StreamReader::new(rt.alloc());
+            let mut places = Vec::new(rt.alloc());
+            for piece in stream.chunks(size) {
+                assert!(rt; reader.at() < 300 && reader.held().len() < 300 && piece.len() < 300);
+                reader.feed(piece)?;
+                for _ in 0..3 {
+                    take_whole(&mut reader, &mut places)?;
+                }
             }
+            assert_eq!(rt; places.as_slice(), whole.as_slice());
         }
-        assert_eq!(rt; places.as_slice(), [69, 70, 205].as_slice());
     }
     Ok(())
 }
 
 // Bytes that no genesis or a cut one stands at, and whether the input has ended.
-const CUT: [(&[u8], bool, Option<WireFault>); 3] = [
+const CUT: [(&[u8], bool, Option<WireFault>); 5] = [
     (
         &[0x09],
         false,
@@ -286,6 +291,15 @@ const CUT: [(&[u8], bool, Option<WireFault>); 3] = [
     (&[0x00, 0x04, 0x01], false, None),
     (
         &[0x00, 0x04, 0x01],
+        true,
+        Some(WireFault {
+            at: 2,
+            why: Why::Short,
+        }),
+    ),
+    (&[0x01, 0x00, 0x01], false, None),
+    (
+        &[0x01, 0x00, 0x01],
         true,
         Some(WireFault {
             at: 2,

@@ -1,0 +1,154 @@
+//! A genesis that is read from bytes which come by pieces. What was whole is kept, so that the cost
+//! of a genesis does not depend on how it is cut.
+ghost use Rattle.std.specs.Prelude.{◌≡◌, ◌+◌, ◌^◌, ◌<◌, ◌≤◌, length, drop, Err, MatchResult, IfSome};
+ghost use Rattle.scale_wire.specs.Form.{IsBytes};
+ghost use Rattle.scale_wire.specs.Reading.{Reads};
+ghost use Rattle.block_wire.specs.Genesis.{genesis_form};
+ghost use Rattle.block_wire.specs.BegunGenesis.{ReadsGenesisHead, OpensGenesis, IsBegunGenesis, ReadsAt, GenesisSteps};
+
+use crate::begun::read_on;
+use crate::limits::MOST_ENDOWMENTS;
+use crate::{Endowment, Genesis, Params};
+use npos_base::List;
+use scale_wire::fault::{ReadFault, WireFault};
+use scale_wire::{Cursor, Wire};
+use std::alloc::Global;
+
+/// A genesis that was not whole yet: its tag, the count of its endowments, those that were whole,
+/// and the bytes that all this has.
+#[derive(Drop)]
+pub struct BegunGenesis {
+    pub tag: u8,
+    pub count: u32,
+    pub endowments: Vec<Endowment>,
+    pub size: usize,
+}
+
+/// What going on with a genesis comes to.
+#[derive(Drop)]
+pub enum GenesisStep {
+    /// The genesis, and how many bytes it has.
+    Whole(Genesis, usize),
+    /// The bytes are refused or memory ran out, and this much of a genesis is begun.
+    Stopped(Option<BegunGenesis>, ReadFault),
+}
+
+// An endowment is an account and a number, which has a byte at least.
+const LEAST_ENDOWMENT_BYTES: usize = 33;
+
+/// The tag of the genesis that stands here and the count of its endowments.
+#[tactic(auto, using(crate::proofs::GenesisLemmas::tag_fault, crate::proofs::GenesisLemmas::count_fault))]
+fn read_head(cursor: &mut Cursor<'_>) -> Result<(u8, u32), WireFault>
+    ensures { ReadsGenesisHead cursor.old result cursor.new }
+{
+    let tag = cursor.take_tag(2)?;
+    let count = cursor.take_length(MOST_ENDOWMENTS)?;
+    Ok((tag, count))
+}
+
+/// Begins the genesis that stands at this place, of which no endowment is read yet. Room is made
+/// for no more of them than the bytes can have.
+#[tactic(auto, using(crate::proofs::GenesisLemmas::genesis_opened))]
+fn open_genesis(alloc: Global, bytes: &[u8], at: u64) -> Result<BegunGenesis, ReadFault>
+    requires { at + length bytes.now < 2 ^ 64 }
+    ensures { OpensGenesis (record { at = at; rest = bytes.now }) result }
+{
+    let mut here = Cursor::new(bytes, at);
+    let (tag, count) = read_head(&mut here)?;
+    let room = (here.rest().len() / LEAST_ENDOWMENT_BYTES).min(count as usize);
+    let endowments = Vec::with_capacity(alloc, room)?;
+    let size = (here.at() - at) as usize;
+    Ok(BegunGenesis {
+        tag,
+        count,
+        endowments,
+        size,
+    })
+}
+
+/// Reads the endowments that are left of a genesis, or as many as are whole.
+fn fill(alloc: Global, begun: &mut BegunGenesis, bytes: &[u8], at: u64) -> Result<(), ReadFault>
+    requires fits { at + length bytes.now < 2 ^ 64 }
+    requires begun { IsBegunGenesis begun.old (record { at = at; rest = bytes.now }) }
+    ensures begun { IsBegunGenesis begun.new (record { at = at; rest = bytes.now }) }
+    ensures filled { MatchResult result
+        (λ _. length begun.new.endowments.items ≡ begun.new.count)
+        (λ fault. Reads genesis_form (record { at = at; rest = bytes.now }) (Err fault)
+        (record { at = at; rest = bytes.now })) }
+{
+    let (_, rest) = bytes.split_at(begun.size);
+    let mut here = Cursor::new(rest, at + begun.size as u64);
+    let read = read_on(alloc, &mut begun.endowments, begun.count, &mut here);
+    begun.size = (here.at() - at) as usize;
+    read
+}
+
+/// Reads a value at this place, and answers how many bytes it has.
+fn read_at<T: Wire>(alloc: Global, bytes: &[u8], at: u64) -> Result<(T, usize), ReadFault>
+    requires fits { at + length bytes.now < 2 ^ 64 }
+    ensures { ReadsAt T.form (record { at = at; rest = bytes.now }) result }
+{
+    let mut here = Cursor::new(bytes, at);
+    let value = T::read(alloc, &mut here)?;
+    let size = (here.at() - at) as usize;
+    Ok((value, size))
+}
+
+/// The genesis whose endowments were all read: a plain one is whole, and of a full one the
+/// parameters are read, which are few bytes and are read anew where they are cut.
+#[tactic(auto, using(crate::proofs::GenesisLemmas::plain_whole, crate::proofs::GenesisLemmas::full_whole, crate::proofs::GenesisLemmas::params_cut))]
+fn finish(alloc: Global, begun: BegunGenesis, bytes: &[u8], at: u64) -> GenesisStep
+    requires fits { at + length bytes.now < 2 ^ 64 }
+    requires begun { IsBegunGenesis begun (record { at = at; rest = bytes.now }) }
+    requires filled { length begun.endowments.items ≡ begun.count }
+    ensures { GenesisSteps (record { at = at; rest = bytes.now }) result }
+{
+    if begun.tag == 0 {
+        let BegunGenesis {
+            endowments,
+            size,
+            ..
+        } = begun;
+        let endowments = List::from_vec(endowments);
+        return GenesisStep::Whole(Genesis::Plain { endowments }, size);
+    }
+    let (_, rest) = bytes.split_at(begun.size);
+    match read_at::<Params>(alloc, rest, at + begun.size as u64) {
+        Ok((params, more)) => {
+            let BegunGenesis {
+                endowments,
+                size,
+                ..
+            } = begun;
+            let endowments = List::from_vec(endowments);
+            GenesisStep::Whole(Genesis::Full { endowments, params }, size + more)
+        }
+        Err(fault) => GenesisStep::Stopped(Some(begun), fault),
+    }
+}
+
+/// Goes on with the genesis that was begun, or begins the one that stands at this place.
+pub fn resume_genesis(
+    alloc: Global,
+    begun: Option<BegunGenesis>,
+    bytes: &[u8],
+    at: u64,
+) -> GenesisStep
+    requires fits { at + length bytes.now < 2 ^ 64 }
+    requires begun { IfSome begun (λ some.
+        IsBegunGenesis some (record { at = at; rest = bytes.now })) }
+    ensures steps { GenesisSteps (record { at = at; rest = bytes.now }) result }
+    ensures bytes { IsBytes bytes.now }
+{
+    let mut begun = match begun {
+        Some(begun) => begun,
+        None => match open_genesis(alloc, bytes, at) {
+            Ok(begun) => begun,
+            Err(fault) => return GenesisStep::Stopped(None, fault),
+        },
+    };
+    match fill(alloc, &mut begun, bytes, at) {
+        Ok(()) => finish(alloc, begun, bytes, at),
+        Err(fault) => GenesisStep::Stopped(Some(begun), fault),
+    }
+}
