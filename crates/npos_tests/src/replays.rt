@@ -236,7 +236,7 @@ fn delivered(rt: &impl Abort, ran: &Ran, status: u8, text: &str) {
 #[test]
 fn sound_streams_end_with_the_end_line(rt: HostRuntime) -> Result<(), Fail> {
     for (parts, text) in SOUND {
-        for piece in [1, 7, 4096] {
+        for piece in [1, 7, 65_536] {
             delivered(&rt, &replay_parts(rt.alloc(), parts, calm(piece))?, 0, text);
         }
     }
@@ -246,7 +246,7 @@ fn sound_streams_end_with_the_end_line(rt: HostRuntime) -> Result<(), Fail> {
 #[test]
 fn damaged_streams_end_with_a_fault_line(rt: HostRuntime) -> Result<(), Fail> {
     for (parts, text) in DAMAGED {
-        for piece in [1, 7, 4096] {
+        for piece in [1, 7, 65_536] {
             delivered(&rt, &replay_parts(rt.alloc(), parts, calm(piece))?, 3, text);
         }
     }
