@@ -10,7 +10,7 @@ use Rattle.era_book.specs.Calls.{slash_in}
 use Rattle.npos_runtime.specs.declared.chain.Chain.{Chain}
 use Rattle.npos_runtime.specs.Rules.{era_reward_of}
 use Rattle.npos_runtime.specs.Genesis.{genesis_chain, params_of}
-use Rattle.npos_runtime.specs.Calls.{stop_of, done_of, told_of}
+use Rattle.npos_runtime.specs.Calls.{refusal_of, done_of, told_of}
 use Rattle.npos_runtime.specs.Step.{seated_by}
 use Rattle.npos_runtime.specs.EraLaws.{chain_at, paid_in, due_in, taken_in, IsPaidOut, AreTaken, elected_for, stake_behind}
 use Rattle.npos_cli.specs.Replay.{Spot, Starts, Reaches}
@@ -29,14 +29,14 @@ pub record AreWithin (genesis : Genesis) (blocks : List Block) : Type 0 where
 -- each payout that is accepted behind these blocks and calls is minted as it is told
 abbrev pub PaysAsTold : Genesis → List Block → List Call → Type 0
 PaysAsTold genesis blocks calls = (who : AccountId) (era : ℕ) (validator : AccountId)
-    → stop_of (chain_at genesis blocks calls) who (kinds.Payout era validator) ≡ None
+    → refusal_of (chain_at genesis blocks calls) who (kinds.Payout era validator) ≡ None
     → IsPaidOut (chain_at genesis blocks calls) who era validator
 
 -- each report that is accepted behind them takes what is due, one account after the other, but no
 -- more than the account has bonded
 abbrev pub TakesWhatIsDue : Genesis → List Block → List Call → Type 0
 TakesWhatIsDue genesis blocks calls = (who : AccountId) (era : ℕ) (validator : AccountId) (fraction : ℕ)
-    → stop_of (chain_at genesis blocks calls) who (kinds.Offence era validator fraction) ≡ None
+    → refusal_of (chain_at genesis blocks calls) who (kinds.Offence era validator fraction) ≡ None
     → AreTaken (slash_in (chain_at genesis blocks calls).eras era validator fraction)
     (chain_at genesis blocks calls).book
     (told_of (chain_at genesis blocks calls) who (kinds.Offence era validator fraction))

@@ -36,11 +36,11 @@ use Rattle.npos_runtime.specs.declared.round.Round.TheVariants as rounds
 use Rattle.npos_runtime.specs.Rules.{era_of, place_of, is_signed, is_decision, reward_of, solution_max_of}
 use Rattle.npos_runtime.specs.Ballots.{snapshot_of, commissions_of}
 use Rattle.npos_runtime.specs.Rounds.{begun_round, round_after, round_phase, is_few, is_poor}
-use Rattle.npos_runtime.specs.Signed.{is_open, current_round, submission_of, form_refusal, offer_refusal, submit_stop, submitted}
+use Rattle.npos_runtime.specs.Signed.{is_open, current_round, submission_of, form_refusal, offer_refusal, submit_refusal, submitted}
 use Rattle.npos_runtime.specs.Decision.{judged, is_yes, fails, losers, others, forfeit_line, paid_lines, seat_line, member_lines, committee_of, decision_of, decision_phase}
 use Rattle.npos_runtime.specs.Deposits.{all_burned}
 use Rattle.npos_runtime.specs.Outcome.{Outcome, quiet}
-use Rattle.npos_runtime.specs.Calls.{stop_of, done_of}
+use Rattle.npos_runtime.specs.Calls.{refusal_of, done_of}
 use Rattle.npos_runtime.specs.Step.{era_phase, call_after, call_outcome, calls_outcome, closed, step, after_blocks}
 use Rattle.npos_runtime.specs.Genesis.{params_fault, genesis_chain}
 use Rattle.npos_runtime.specs.Live.{IsLive}
@@ -274,10 +274,10 @@ module _ (params : Params) (sound : params_fault params ≡ None) (number : ℕ)
 
   called_submit : (index : ℕ) (call : Call) (chain : Chain) (round : ℕ) (claim : Score) (bytes : List ℕ) (offers : List Submission) → IsNow chain offers → IsLive chain
       → call.kind ≡ kinds.Submit round claim bytes
-      → IsNow (call_after (submit_stop chain call.who round claim bytes) index call chain).state
-      (offers ++ offer_if (round == number) (is_offered (submit_stop chain call.who round claim bytes)) (submission_of chain call.who claim bytes))
+      → IsNow (call_after (submit_refusal chain call.who round claim bytes) index call chain).state
+      (offers ++ offer_if (round == number) (is_offered (submit_refusal chain call.who round claim bytes)) (submission_of chain call.who claim bytes))
   unfolding done_of
-  called_submit index call chain round claim bytes offers h live is = at (submit_stop chain call.who round claim bytes) refl where
+  called_submit index call chain round claim bytes offers h live is = at (submit_refusal chain call.who round claim bytes) refl where
     item : Submission
     item = submission_of chain call.who claim bytes
 
@@ -293,7 +293,7 @@ module _ (params : Params) (sound : params_fault params ≡ None) (number : ℕ)
     worse false true e = refl
     worse false false e = cc
 
-    at : (due : Option Refusal) → submit_stop chain call.who round claim bytes ≡ due
+    at : (due : Option Refusal) → submit_refusal chain call.who round claim bytes ≡ due
         → IsNow (call_after due index call chain).state (offers ++ offer_if (round == number) (is_offered due) item)
     at None e =
         let form = formed chain round bytes (offer_refusal chain item) (ap is_offered e) in
@@ -326,37 +326,37 @@ module _ (params : Params) (sound : params_fault params ≡ None) (number : ℕ)
 
   called_kind : (index : ℕ) (who : AccountId) (kind : CallKind) (chain : Chain) (offers : List Submission) → IsNow chain offers → IsLive chain
       → IsNow (call_outcome index (record { who = who; kind = kind }) chain).state (offers ++ offer_of number chain who kind)
-  unfolding stop_of done_of
+  unfolding refusal_of done_of
   called_kind index who (kinds.Submit round claim bytes) chain offers h live =
       called_submit index (record { who = who; kind = kinds.Submit round claim bytes }) chain round claim bytes offers h live refl
   called_kind index who (kinds.Transfer to value) chain offers h live =
-      other_after (stop_of chain who (kinds.Transfer to value)) index (record { who = who; kind = kinds.Transfer to value }) chain offers h refl refl refl refl
+      other_after (refusal_of chain who (kinds.Transfer to value)) index (record { who = who; kind = kinds.Transfer to value }) chain offers h refl refl refl refl
   called_kind index who (kinds.Bond value) chain offers h live =
-      other_after (stop_of chain who (kinds.Bond value)) index (record { who = who; kind = kinds.Bond value }) chain offers h refl refl refl refl
+      other_after (refusal_of chain who (kinds.Bond value)) index (record { who = who; kind = kinds.Bond value }) chain offers h refl refl refl refl
   called_kind index who (kinds.BondExtra value) chain offers h live =
-      other_after (stop_of chain who (kinds.BondExtra value)) index (record { who = who; kind = kinds.BondExtra value }) chain offers h refl refl refl refl
+      other_after (refusal_of chain who (kinds.BondExtra value)) index (record { who = who; kind = kinds.BondExtra value }) chain offers h refl refl refl refl
   called_kind index who (kinds.Unbond value) chain offers h live =
-      other_after (stop_of chain who (kinds.Unbond value)) index (record { who = who; kind = kinds.Unbond value }) chain offers h refl refl refl refl
+      other_after (refusal_of chain who (kinds.Unbond value)) index (record { who = who; kind = kinds.Unbond value }) chain offers h refl refl refl refl
   called_kind index who (kinds.Rebond value) chain offers h live =
-      other_after (stop_of chain who (kinds.Rebond value)) index (record { who = who; kind = kinds.Rebond value }) chain offers h refl refl refl refl
+      other_after (refusal_of chain who (kinds.Rebond value)) index (record { who = who; kind = kinds.Rebond value }) chain offers h refl refl refl refl
   called_kind index who kinds.Withdraw chain offers h live =
-      other_after (stop_of chain who kinds.Withdraw) index (record { who = who; kind = kinds.Withdraw }) chain offers h refl refl refl refl
+      other_after (refusal_of chain who kinds.Withdraw) index (record { who = who; kind = kinds.Withdraw }) chain offers h refl refl refl refl
   called_kind index who (kinds.Nominate targets) chain offers h live =
-      other_after (stop_of chain who (kinds.Nominate targets)) index (record { who = who; kind = kinds.Nominate targets }) chain offers h refl refl refl refl
+      other_after (refusal_of chain who (kinds.Nominate targets)) index (record { who = who; kind = kinds.Nominate targets }) chain offers h refl refl refl refl
   called_kind index who (kinds.Validate commission) chain offers h live =
-      other_after (stop_of chain who (kinds.Validate commission)) index (record { who = who; kind = kinds.Validate commission }) chain offers h refl refl refl refl
+      other_after (refusal_of chain who (kinds.Validate commission)) index (record { who = who; kind = kinds.Validate commission }) chain offers h refl refl refl refl
   called_kind index who kinds.Chill chain offers h live =
-      other_after (stop_of chain who kinds.Chill) index (record { who = who; kind = kinds.Chill }) chain offers h refl refl refl refl
+      other_after (refusal_of chain who kinds.Chill) index (record { who = who; kind = kinds.Chill }) chain offers h refl refl refl refl
   called_kind index who (kinds.Rebag whom) chain offers h live =
-      other_after (stop_of chain who (kinds.Rebag whom)) index (record { who = who; kind = kinds.Rebag whom }) chain offers h refl refl refl refl
+      other_after (refusal_of chain who (kinds.Rebag whom)) index (record { who = who; kind = kinds.Rebag whom }) chain offers h refl refl refl refl
   called_kind index who (kinds.PutInFront lighter) chain offers h live =
-      other_after (stop_of chain who (kinds.PutInFront lighter)) index (record { who = who; kind = kinds.PutInFront lighter }) chain offers h refl refl refl refl
+      other_after (refusal_of chain who (kinds.PutInFront lighter)) index (record { who = who; kind = kinds.PutInFront lighter }) chain offers h refl refl refl refl
   called_kind index who (kinds.Points items) chain offers h live =
-      other_after (stop_of chain who (kinds.Points items)) index (record { who = who; kind = kinds.Points items }) chain offers h refl refl refl refl
+      other_after (refusal_of chain who (kinds.Points items)) index (record { who = who; kind = kinds.Points items }) chain offers h refl refl refl refl
   called_kind index who (kinds.Payout at validator) chain offers h live =
-      other_after (stop_of chain who (kinds.Payout at validator)) index (record { who = who; kind = kinds.Payout at validator }) chain offers h refl refl refl refl
+      other_after (refusal_of chain who (kinds.Payout at validator)) index (record { who = who; kind = kinds.Payout at validator }) chain offers h refl refl refl refl
   called_kind index who (kinds.Offence at validator fraction) chain offers h live =
-      other_after (stop_of chain who (kinds.Offence at validator fraction)) index (record { who = who; kind = kinds.Offence at validator fraction }) chain offers h refl refl refl refl
+      other_after (refusal_of chain who (kinds.Offence at validator fraction)) index (record { who = who; kind = kinds.Offence at validator fraction }) chain offers h refl refl refl refl
 
   called : (index : ℕ) (calls : List Call) (chain : Chain) (offers : List Submission) → IsNow chain offers → IsLive chain
       → IsNow (calls_outcome index calls chain).state (offers ++ offers_in number index calls chain)

@@ -41,7 +41,7 @@ use Rattle.npos_runtime.specs.Rules.{era_of, era_reward_of}
 use Rattle.npos_runtime.specs.Refusals.{code_of}
 use Rattle.npos_runtime.specs.Outcome.{Election}
 use Rattle.npos_runtime.specs.Offices.{payout_now, all_minted, paid_line, payout_told, slash_told, slashed_once, slashes, offence_told}
-use Rattle.npos_runtime.specs.Calls.{stop_of, done_of, told_of}
+use Rattle.npos_runtime.specs.Calls.{refusal_of, done_of, told_of}
 use Rattle.npos_runtime.specs.Step.{call_after, call_outcome, calls_outcome, step, after_blocks, seated_by}
 use Rattle.npos_runtime.specs.Genesis.{params_fault, params_of, genesis_fault, genesis_chain}
 use Rattle.npos_runtime.specs.Live.{IsLive}
@@ -231,7 +231,7 @@ module _ (less more : ℕ → Call → Chain → ℕ) (each : (index : ℕ) (cal
 
 pub taken_law : TakenLaw
 taken_law genesis blocks era who sound fit =
-    fewer_blocks (taken_by era who) (due_by era who) (λ index call chain. taken_call era who (stop_of chain call.who call.kind) index call chain) (genesis_chain genesis) blocks
+    fewer_blocks (taken_by era who) (due_by era who) (λ index call chain. taken_call era who (refusal_of chain call.who call.kind) index call chain) (genesis_chain genesis) blocks
 
 -- ## One slash
 
@@ -373,7 +373,7 @@ module _ (packed : PackedYesIsAccepting) (plain : PlainYesIsPassing) (fill : Eve
   rewards_law genesis blocks era sound fit =
       let params : Option Params = params_of genesis in
       let sum : paid_in era genesis blocks ≡ given_by (pays era (era_reward_of params)) (events_by (genesis_chain genesis) blocks) first_era =
-      sum_blocks params (paid_by era) (pays era (era_reward_of params)) (λ index call chain is. paid_call era params (stop_of chain call.who call.kind) index call chain is) (λ exposures eras. refl)
+      sum_blocks params (paid_by era) (pays era (era_reward_of params)) (λ index call chain is. paid_call era params (refusal_of chain call.who call.kind) index call chain is) (λ exposures eras. refl)
       (genesis_chain genesis) blocks refl in
       omega (arith, sum, reward_law era (era_reward_of params) (events_by (genesis_chain genesis) blocks) (accepted_from genesis blocks sound fit))
 
@@ -389,7 +389,7 @@ module _ (packed : PackedYesIsAccepting) (plain : PlainYesIsPassing) (fill : Eve
   dues_law genesis blocks era who sound fit =
       let events : List Event = events_by (genesis_chain genesis) blocks in
       let sum : due_in era who genesis blocks ≡ given_by (makes_due era who) events first_era =
-      sum_blocks (params_of genesis) (due_by era who) (makes_due era who) (λ index call chain is. due_call era who (stop_of chain call.who call.kind) call.kind chain) (λ exposures eras. refl)
+      sum_blocks (params_of genesis) (due_by era who) (makes_due era who) (λ index call chain is. due_call era who (refusal_of chain call.who call.kind) call.kind chain) (λ exposures eras. refl)
       (genesis_chain genesis) blocks refl in
       omega (arith, sum, due_law era who events (accepted_from genesis blocks sound fit), covered_from genesis blocks era who sound fit)
 
@@ -423,7 +423,7 @@ module _ (packed : PackedYesIsAccepting) (plain : PlainYesIsPassing) (fill : Eve
   minted_all (line ∷ more) book = omega (arith, minted_all more (minted_free line.who line.amount book), sum_by-cons (λ (l : Backer). l.amount) line more)
 
   pub payout_law : PayoutLaw
-  unfolding stop_of done_of told_of
+  unfolding refusal_of done_of told_of
   payout_law genesis blocks calls who era validator sound fit free = record {
     told = told_payout chain era validator;
     minted = minted_all (payout_now chain era validator).lines chain.book

@@ -32,7 +32,7 @@ use Rattle.npos_runtime.specs.Rounds.{begun_round, is_few, is_poor, round_line, 
 use Rattle.npos_runtime.specs.Deposits.{returned, return_lines, all_burned}
 use Rattle.npos_runtime.specs.Signed.{ejected, submission_of, form_refusal, offer_refusal}
 use Rattle.npos_runtime.specs.Decision.{fails, losers, others, forfeit_line, reward_in, paid_lines, seat_line, member_line, committee_of, decided, decision_of, decision_phase}
-use Rattle.npos_runtime.specs.Calls.{stop_of, done_of, told_of}
+use Rattle.npos_runtime.specs.Calls.{refusal_of, done_of, told_of}
 use Rattle.npos_runtime.specs.Outcome.{Outcome, quiet}
 use Rattle.npos_runtime.specs.Step.{era_phase, call_after, call_outcome, calls_outcome, step, after_blocks, told_by}
 use Rattle.npos_runtime.specs.Genesis.{genesis_fault, genesis_chain}
@@ -200,9 +200,9 @@ module _ (number : ℕ) where
         slashes_settle more (slashed_once due chain),
       )
 
-  fair_done : (index : ℕ) (chain : Chain) (who : AccountId) (kind : CallKind) → IsLive chain → stop_of chain who kind ≡ None
+  fair_done : (index : ℕ) (chain : Chain) (who : AccountId) (kind : CallKind) → IsLive chain → refusal_of chain who kind ≡ None
       → IsFair chain (lines.CallOk index ∷ told_of chain who kind) (done_of chain who kind)
-  unfolding stop_of done_of told_of
+  unfolding refusal_of done_of told_of
   fair_done index chain who (kinds.Transfer to value) live none =
       fair_quiet chain (done_of chain who (kinds.Transfer to value)) (lines.CallOk index ∷ []) refl refl refl
   fair_done index chain who (kinds.Bond value) live none =
@@ -242,7 +242,7 @@ module _ (number : ℕ) where
       fair_quiet chain (done_of chain who (kinds.Offence era validator fraction)) (lines.CallOk index ∷ offence_told chain era validator fraction)
       (omega (arith, settled_more (lines.CallOk index) (offence_told chain era validator fraction), slashes_settle (slash_in chain.eras era validator fraction) chain)) refl refl
 
-  fair_after : (due : Option Refusal) (index : ℕ) (call : Call) (chain : Chain) → IsLive chain → stop_of chain call.who call.kind ≡ due
+  fair_after : (due : Option Refusal) (index : ℕ) (call : Call) (chain : Chain) → IsLive chain → refusal_of chain call.who call.kind ≡ due
       → IsFair chain (call_after due index call chain).lines (call_after due index call chain).state
   fair_after None index call chain live e = fair_done index chain call.who call.kind live e
   fair_after (Some refusal) index call chain live e = omega arith
@@ -252,7 +252,7 @@ module _ (number : ℕ) where
   fair_calls index (call ∷ calls) chain live =
       let once : Outcome = call_outcome index call chain in
       fair_then chain once.state (calls_outcome (index + 1) calls once.state).state once.lines (calls_outcome (index + 1) calls once.state).lines
-      (fair_after (stop_of chain call.who call.kind) index call chain live refl)
+      (fair_after (refusal_of chain call.who call.kind) index call chain live refl)
       (fair_calls (index + 1) calls once.state (live_call index call chain live))
 
   pub fair_step : (chain : Chain) (block : Block) → IsLive chain → IsFair chain (step chain block).lines (step chain block).state

@@ -10,7 +10,7 @@ use Rattle.block_wire.specs.declared.genesis.Params.{Params}
 use Rattle.stake_ledger.specs.Calls.{mint_refusal}
 use Rattle.era_book.specs.declared.exposure.Exposure.{Exposure}
 use Rattle.era_book.specs.Exposures.{AreSound}
-use Rattle.era_book.specs.Calls.{points_refusal, payout_refusal, slash_refusal}
+use Rattle.era_book.specs.Calls.{points_refusal as era_points_refusal, payout_refusal as era_payout_refusal, slash_refusal}
 use Rattle.era_book.specs.Eras.{Eras}
 use Rattle.era_book.specs.Events.{Event, Started, Pointed, Paid, Reported, AreAccepted, after_all, given_by, begun}
 use Rattle.era_book.proofs.EventLemmas.{accepted_append, after_append, given_append, begun_append}
@@ -20,8 +20,8 @@ use Rattle.npos_runtime.specs.declared.refusal.Refusal.TheVariants.{Ledger as By
 use Rattle.npos_runtime.specs.Committee.{Committee}
 use Rattle.npos_runtime.specs.Exposed.{exposed}
 use Rattle.npos_runtime.specs.Rules.{begun_era}
-use Rattle.npos_runtime.specs.Offices.{is_root, points_stop, payout_stop, payout_now, offence_stop}
-use Rattle.npos_runtime.specs.Calls.{stop_of, done_of}
+use Rattle.npos_runtime.specs.Offices.{is_root, points_refusal, payout_refusal, payout_now, offence_refusal}
+use Rattle.npos_runtime.specs.Calls.{refusal_of, done_of}
 use Rattle.npos_runtime.specs.Step.{eras_after, era_phase, call_after, call_outcome, calls_outcome, step, after_blocks}
 use Rattle.npos_runtime.specs.Offers.{before_calls}
 use Rattle.npos_runtime.specs.EraLaws.{started_by, event_of_kind, event_of, events_of, events_in, events_by, over_calls, over_blocks}
@@ -41,23 +41,23 @@ by_root : (root : Bool) (due : Option Refusal) → (if not root then Some NotRoo
 by_root true due e = e
 by_root false due e = absurd (cc)
 
-points_free : (chain : Chain) (who : AccountId) (items : List (AccountId × ℕ)) → points_stop chain who items ≡ None → points_refusal chain.eras items ≡ None
-points_free chain who items free = none_inside ByEra (points_refusal chain.eras items) (by_root (is_root chain who) (option_map ByEra (points_refusal chain.eras items)) free)
+points_free : (chain : Chain) (who : AccountId) (items : List (AccountId × ℕ)) → points_refusal chain who items ≡ None → era_points_refusal chain.eras items ≡ None
+points_free chain who items free = none_inside ByEra (era_points_refusal chain.eras items) (by_root (is_root chain who) (option_map ByEra (era_points_refusal chain.eras items)) free)
 
-pub payout_free : (chain : Chain) (era : ℕ) (validator : AccountId) → payout_stop chain era validator ≡ None → payout_refusal chain.eras era validator ≡ None
+pub payout_free : (chain : Chain) (era : ℕ) (validator : AccountId) → payout_refusal chain era validator ≡ None → era_payout_refusal chain.eras era validator ≡ None
 payout_free chain era validator free =
-    none_inside ByEra (payout_refusal chain.eras era validator)
-    (first_none (option_map ByEra (payout_refusal chain.eras era validator)) (option_map ByLedger (mint_refusal chain.book (payout_now chain era validator).total)) free)
+    none_inside ByEra (era_payout_refusal chain.eras era validator)
+    (first_none (option_map ByEra (era_payout_refusal chain.eras era validator)) (option_map ByLedger (mint_refusal chain.book (payout_now chain era validator).total)) free)
 
-offence_free : (chain : Chain) (who : AccountId) (era : ℕ) (validator : AccountId) (fraction : ℕ) → offence_stop chain who era validator fraction ≡ None
+offence_free : (chain : Chain) (who : AccountId) (era : ℕ) (validator : AccountId) (fraction : ℕ) → offence_refusal chain who era validator fraction ≡ None
     → slash_refusal chain.eras era validator fraction ≡ None
 offence_free chain who era validator fraction free =
     none_inside ByEra (slash_refusal chain.eras era validator fraction) (by_root (is_root chain who) (option_map ByEra (slash_refusal chain.eras era validator fraction)) free)
 
 -- ## The events of calls
 
-accepted_kind : (chain : Chain) (who : AccountId) (kind : CallKind) → stop_of chain who kind ≡ None → AreAccepted (event_of_kind kind) chain.eras
-unfolding stop_of
+accepted_kind : (chain : Chain) (who : AccountId) (kind : CallKind) → refusal_of chain who kind ≡ None → AreAccepted (event_of_kind kind) chain.eras
+unfolding refusal_of
 accepted_kind chain who (kinds.Transfer to value) free = tt
 accepted_kind chain who (kinds.Bond value) free = tt
 accepted_kind chain who (kinds.BondExtra value) free = tt
@@ -92,7 +92,7 @@ eras_kind chain who (kinds.Points items) = refl
 eras_kind chain who (kinds.Payout era validator) = refl
 eras_kind chain who (kinds.Offence era validator fraction) = refl
 
-accepted_call : (due : Option Refusal) (call : Call) (chain : Chain) → stop_of chain call.who call.kind ≡ due → AreAccepted (event_of due call.kind) chain.eras
+accepted_call : (due : Option Refusal) (call : Call) (chain : Chain) → refusal_of chain call.who call.kind ≡ due → AreAccepted (event_of due call.kind) chain.eras
 accepted_call None call chain free = accepted_kind chain call.who call.kind free
 accepted_call (Some refusal) call chain free = tt
 
@@ -104,16 +104,16 @@ accepted_calls : (index : ℕ) (calls : List Call) (chain : Chain) → AreAccept
 accepted_calls index [] chain = tt
 accepted_calls index (call ∷ calls) chain =
     let next : Chain = (call_outcome index call chain).state in
-    accepted_append (event_of (stop_of chain call.who call.kind) call.kind) (events_of (index + 1) calls next) chain.eras
-    (accepted_call (stop_of chain call.who call.kind) call chain refl)
-    (subst (AreAccepted (events_of (index + 1) calls next)) (sym (eras_call (stop_of chain call.who call.kind) index call chain)) (accepted_calls (index + 1) calls next))
+    accepted_append (event_of (refusal_of chain call.who call.kind) call.kind) (events_of (index + 1) calls next) chain.eras
+    (accepted_call (refusal_of chain call.who call.kind) call chain refl)
+    (subst (AreAccepted (events_of (index + 1) calls next)) (sym (eras_call (refusal_of chain call.who call.kind) index call chain)) (accepted_calls (index + 1) calls next))
 
 eras_calls : (index : ℕ) (calls : List Call) (chain : Chain) → after_all (events_of index calls chain) chain.eras ≡ (calls_outcome index calls chain).state.eras
 eras_calls index [] chain = refl
 eras_calls index (call ∷ calls) chain =
     let next : Chain = (call_outcome index call chain).state in
-    after_append (event_of (stop_of chain call.who call.kind) call.kind) (events_of (index + 1) calls next) chain.eras
-    ∙ ap (after_all (events_of (index + 1) calls next)) (eras_call (stop_of chain call.who call.kind) index call chain)
+    after_append (event_of (refusal_of chain call.who call.kind) call.kind) (events_of (index + 1) calls next) chain.eras
+    ∙ ap (after_all (events_of (index + 1) calls next)) (eras_call (refusal_of chain call.who call.kind) index call chain)
     ∙ eras_calls (index + 1) calls next
 
 none_begun : (kind : CallKind) → begun (event_of_kind kind) ≡ []
@@ -142,8 +142,8 @@ begun_calls : (index : ℕ) (calls : List Call) (chain : Chain) → begun (event
 begun_calls index [] chain = refl
 begun_calls index (call ∷ calls) chain =
     let next : Chain = (call_outcome index call chain).state in
-    begun_append (event_of (stop_of chain call.who call.kind) call.kind) (events_of (index + 1) calls next)
-    ∙ ap (λ (es : List (List Exposure)). es ++ begun (events_of (index + 1) calls next)) (begun_call (stop_of chain call.who call.kind) call.kind)
+    begun_append (event_of (refusal_of chain call.who call.kind) call.kind) (events_of (index + 1) calls next)
+    ∙ ap (λ (es : List (List Exposure)). es ++ begun (events_of (index + 1) calls next)) (begun_call (refusal_of chain call.who call.kind) call.kind)
     ∙ begun_calls (index + 1) calls next
 
 -- ## The events of a block
@@ -196,13 +196,13 @@ params_step chain block = (fixed_calls 0 block.calls (before_calls chain)).param
 
 module _ (params : Option Params) (gives : ℕ → Call → Chain → ℕ) (event_gives : Event → Eras → ℕ)
     (each : (index : ℕ) (call : Call) (chain : Chain) → chain.params ≡ params
-    → gives index call chain ≡ given_by event_gives (event_of (stop_of chain call.who call.kind) call.kind) chain.eras)
+    → gives index call chain ≡ given_by event_gives (event_of (refusal_of chain call.who call.kind) call.kind) chain.eras)
     (start : (exposures : List Exposure) (eras : Eras) → event_gives (Started exposures) eras ≡ 0) where
   sum_calls : (index : ℕ) (calls : List Call) (chain : Chain) → chain.params ≡ params → over_calls gives index calls chain ≡ given_by event_gives (events_of index calls chain) chain.eras
   sum_calls index [] chain is = refl
   sum_calls index (call ∷ calls) chain is =
       let next : Chain = (call_outcome index call chain).state in
-      let due : Option Refusal = stop_of chain call.who call.kind in
+      let due : Option Refusal = refusal_of chain call.who call.kind in
       omega (
         arith,
         each index call chain is,

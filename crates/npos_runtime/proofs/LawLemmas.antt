@@ -19,7 +19,7 @@ use Rattle.npos_runtime.specs.Rounds.{begun_round, round_after, round_phase}
 use Rattle.npos_runtime.specs.Genesis.{genesis_chain}
 use Rattle.npos_runtime.specs.Decision.{others, decided_weights, decision_of, decision_phase}
 use Rattle.npos_runtime.specs.Outcome.{Election, Outcome, quiet}
-use Rattle.npos_runtime.specs.Calls.{stop_of}
+use Rattle.npos_runtime.specs.Calls.{refusal_of}
 use Rattle.npos_runtime.specs.Step.{era_phase, call_after, call_outcome, calls_outcome, step, seated_by}
 use Rattle.npos_runtime.specs.Live.{IsLive, IsSoundRound, AreSound}
 use Rattle.npos_runtime.specs.Laws.{IsSound, SoundStepLaw, SoundLaw, SeatsLaw, HeldLaw}
@@ -38,7 +38,7 @@ seats_after (Some refusal) index call chain = refl
 seats_calls : (index : ℕ) (calls : List Call) (chain : Chain) → (calls_outcome index calls chain).seated ≡ []
 seats_calls index [] chain = refl
 seats_calls index (call ∷ calls) chain =
-    ap (λ (es : List Election). es ++ (calls_outcome (index + 1) calls (call_outcome index call chain).state).seated) (seats_after (stop_of chain call.who call.kind) index call chain)
+    ap (λ (es : List Election). es ++ (calls_outcome (index + 1) calls (call_outcome index call chain).state).seated) (seats_after (refusal_of chain call.who call.kind) index call chain)
     ∙ seats_calls (index + 1) calls (call_outcome index call chain).state
 
 -- what the step seats is what its decision seats

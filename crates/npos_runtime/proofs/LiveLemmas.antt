@@ -15,7 +15,7 @@ use Rattle.stake_ledger.specs.declared.row.Row.{Row}
 use Rattle.stake_ledger.specs.Chunks.{chunk_sum, with_chunk, without_latest, lessened, is_empty}
 use Rattle.stake_ledger.specs.Rows.{empty_row, activated, unbonded, rebonded, withdrawn, gained, paid}
 use Rattle.stake_ledger.specs.Ledger.{Ledger, row_at, changed, IsBalanced}
-use Rattle.stake_ledger.specs.Calls.{transfer_refusal, transferred, bond_refusal, bond_extra_refusal, unbond_refusal, unbond_amount, rebond_refusal, rebond_amount, withdraw_refusal}
+use Rattle.stake_ledger.specs.Calls.{transfer_refusal as book_transfer_refusal, transferred, bond_refusal as book_bond_refusal, bond_extra_refusal as book_bond_extra_refusal, unbond_refusal as book_unbond_refusal, unbond_amount, rebond_refusal as book_rebond_refusal, rebond_amount, withdraw_refusal as book_withdraw_refusal}
 use Rattle.stake_ledger.specs.declared.call.RowCall.TheVariants as row_calls
 use Rattle.stake_ledger.proofs.LedgerLemmas.{row_of-changed, others_stay}
 use Rattle.stake_ledger.proofs.KeepLemmas.{balanced_called, balanced_transferred}
@@ -25,8 +25,8 @@ use Rattle.npos_base.specs.Account.{same_account}
 use Rattle.std.specs.Option.{option_or}
 use Rattle.voter_lists.specs.declared.standing.Standing.{Standing}
 use Rattle.voter_lists.specs.declared.standing.Standing.TheVariants.{Nominator, Validator}
-use Rattle.voter_lists.specs.Roles.{RoleList, standing_of, role_in, role_of, with_standing, without_role, nominate_refusal, validate_refusal}
-use Rattle.voter_lists.specs.Bags.{Listing, is_listed, removed, moved, rebag_refusal, put_in_front, put_in_front_refusal}
+use Rattle.voter_lists.specs.Roles.{RoleList, standing_of, role_in, role_of, with_standing, without_role, nominate_refusal as list_nominate_refusal, validate_refusal as list_validate_refusal}
+use Rattle.voter_lists.specs.Bags.{Listing, is_listed, removed, moved, rebag_refusal as list_rebag_refusal, put_in_front, put_in_front_refusal as list_put_in_front_refusal}
 use Rattle.npos_runtime.specs.Ballots.{active_of}
 use Rattle.npos_runtime.specs.Lists.{has_role, is_nominator_role, is_validator_role, followed, placed, with_stake, is_over, retired}
 use Rattle.npos_runtime.specs.Rounds.{round_phase, round_after, begun_round}
@@ -53,13 +53,13 @@ use Rattle.npos_runtime.proofs.EraLemmas.{era_begun}
 use Rattle.era_book.specs.declared.exposure.Backer.{Backer}
 use Rattle.era_book.specs.Exposures.{amount_sum}
 use Rattle.era_book.specs.Eras.{Eras}
-use Rattle.era_book.specs.Calls.{pointed, payout_refusal, paid as claimed, slash_in, reported}
-use Rattle.npos_runtime.specs.Offices.{payout_now, payout_stop, all_minted, slashed_once, slashes, offence_done}
+use Rattle.era_book.specs.Calls.{pointed, payout_refusal as era_payout_refusal, paid as claimed, slash_in, reported}
+use Rattle.npos_runtime.specs.Offices.{payout_now, payout_refusal, all_minted, slashed_once, slashes, offence_done}
 use Rattle.npos_runtime.proofs.ElectorateLemmas.{sound_round, noted_round}
 use Rattle.npos_runtime.proofs.ListLemmas.{IsListed, listed_from, listing_from, kept_followed, kept_removed, kept_rebagged, kept_front, kept_placed}
 use Rattle.npos_runtime.proofs.RoleLemmas.{AreKept, apart_from, standing_with, standing_other, standing_without, standing_without_other, kept_without, kept_nominated, kept_validating}
 use Rattle.npos_runtime.specs.Rules.{least_bond_of, era_of, begun_era, reward_of, era_reward_of, is_decision}
-use Rattle.npos_runtime.specs.Calls.{era_now, release_now, least_active, role_refusal, stop_of, done_of}
+use Rattle.npos_runtime.specs.Calls.{era_now, release_now, least_active, role_refusal, refusal_of, done_of}
 use Rattle.npos_runtime.specs.declared.refusal.Refusal.{Refusal}
 use Rattle.block_wire.specs.declared.call.Call.{Call}
 use Rattle.npos_runtime.specs.Offers.{before_calls}
@@ -117,7 +117,7 @@ none_inside : {A B : Type 0} (f : A → B) (o : Option A) → option_map f o ≡
 none_inside f None e = refl
 none_inside f (Some a) e = cc
 
-transfer_funds : (who to : AccountId) (value : ℕ) (ledger : Ledger) → transfer_refusal ledger who to value ≡ None → value ≤ (row_at ledger who).free
+transfer_funds : (who to : AccountId) (value : ℕ) (ledger : Ledger) → book_transfer_refusal ledger who to value ≡ None → value ≤ (row_at ledger who).free
 transfer_funds who to value ledger allowed = grind (arith, common_steps, allowed)
 
 -- a chain with other books, roles and bags that keep what it needs
@@ -264,14 +264,14 @@ pub second_none : (a b : Option Refusal) → option_or a b ≡ None → b ≡ No
 second_none None b e = e
 second_none (Some r) b e = cc
 
-rebag_listed : (listing : Listing) (who : AccountId) (score : ℕ) → rebag_refusal listing who score ≡ None → is_listed listing.order who ≡ true
+rebag_listed : (listing : Listing) (who : AccountId) (score : ℕ) → list_rebag_refusal listing who score ≡ None → is_listed listing.order who ≡ true
 rebag_listed listing who score allowed = at (is_listed listing.order who) refl where
   at : (b : Bool) → is_listed listing.order who ≡ b → b ≡ true
   at true e = refl
   at false e = grind (arith, common_steps, allowed, e)
 
 front_listed : (listing : Listing) (who : AccountId) (score : ℕ) (lighter : AccountId) (lighter_score : ℕ)
-    → put_in_front_refusal listing who score lighter lighter_score ≡ None → is_listed listing.order who ≡ true
+    → list_put_in_front_refusal listing who score lighter lighter_score ≡ None → is_listed listing.order who ≡ true
 front_listed listing who score lighter lighter_score allowed = at (is_listed listing.order who) refl where
   at : (b : Bool) → is_listed listing.order who ≡ b → b ≡ true
   at true e = refl
@@ -314,11 +314,11 @@ submitted_live chain item live none =
     }
 
 -- what a payout that is not refused pays fits into what may still be minted
-pub payout_fits : (chain : Chain) (era : ℕ) (validator : AccountId) → payout_stop chain era validator ≡ None
+pub payout_fits : (chain : Chain) (era : ℕ) (validator : AccountId) → payout_refusal chain era validator ≡ None
     → amount_sum (payout_now chain era validator).lines ≤ room_of chain.book
 payout_fits chain era validator free =
     let allowed = none_inside ByLedger (mint_refusal chain.book (payout_now chain era validator).total)
-    (second_none (option_map ByEra (payout_refusal chain.eras era validator)) (option_map ByLedger (mint_refusal chain.book (payout_now chain era validator).total)) free) in
+    (second_none (option_map ByEra (era_payout_refusal chain.eras era validator)) (option_map ByLedger (mint_refusal chain.book (payout_now chain era validator).total)) free) in
     subst (λ n. n ≤ room_of chain.book) (payout_sums chain.eras era validator (era_reward_of chain.params))
     (within (nat_lt (room_of chain.book) (payout_now chain era validator).total) refl allowed) where
       within : (b : Bool) → nat_lt (room_of chain.book) (payout_now chain era validator).total ≡ b → (if b then Some IssuanceCap else None) ≡ None
@@ -327,10 +327,10 @@ payout_fits chain era validator free =
       within false e none = ltb-false (room_of chain.book) (payout_now chain era validator).total e
 
 -- A call that is not refused keeps the chain live.
-pub live_done : (chain : Chain) (who : AccountId) (kind : CallKind) → IsLive chain → stop_of chain who kind ≡ None → IsLive (done_of chain who kind)
-unfolding stop_of done_of
+pub live_done : (chain : Chain) (who : AccountId) (kind : CallKind) → IsLive chain → refusal_of chain who kind ≡ None → IsLive (done_of chain who kind)
+unfolding refusal_of done_of
 live_done chain who (kinds.Transfer to value) live free =
-    let allowed = none_inside ByLedger (transfer_refusal chain.book who to value) free in
+    let allowed = none_inside ByLedger (book_transfer_refusal chain.book who to value) free in
     with_book chain (transferred who to value chain.book) live
     (balanced_transferred who to value chain.book live.balanced (transfer_funds who to value chain.book allowed))
     (chunks_changed (All (λ chunk. chunk.release ≤ release_now chain)) to (gained value) (changed who (paid value) chain.book)
@@ -339,20 +339,20 @@ live_done chain who (kinds.Transfer to value) live free =
     (held_changed to (gained value) (changed who (paid value) chain.book) chain.queue.items (λ row. refl)
     (held_changed who (paid value) chain.book chain.queue.items (λ row. refl) live.deposits))
 live_done chain who (kinds.Bond value) live free =
-    let allowed = none_inside ByLedger (bond_refusal (row_at chain.book who) value (least_bond_of chain.params)) free in
+    let allowed = none_inside ByLedger (book_bond_refusal (row_at chain.book who) value (least_bond_of chain.params)) free in
     with_book chain (changed who (activated value) chain.book) live
     (balanced_called who (row_calls.Bond value (least_bond_of chain.params)) chain.book live.balanced tt allowed)
     (chunks_changed (All (λ chunk. chunk.release ≤ release_now chain)) who (activated value) chain.book live.releases (live.releases who))
     (held_changed who (activated value) chain.book chain.queue.items (λ row. refl) live.deposits)
 live_done chain who (kinds.BondExtra value) live free =
-    let allowed = none_inside ByLedger (bond_extra_refusal (row_at chain.book who) value) free in
+    let allowed = none_inside ByLedger (book_bond_extra_refusal (row_at chain.book who) value) free in
     with_followed chain who (changed who (activated value) chain.book) live
     (balanced_called who (row_calls.BondExtra value) chain.book live.balanced tt allowed)
     (chunks_changed (All (λ chunk. chunk.release ≤ release_now chain)) who (activated value) chain.book live.releases (live.releases who))
     (held_changed who (activated value) chain.book chain.queue.items (λ row. refl) live.deposits)
 live_done chain who (kinds.Unbond value) live free =
     let amount : ℕ = unbond_amount (row_at chain.book who) value in
-    let allowed = none_inside ByLedger (unbond_refusal (row_at chain.book who) value (release_now chain) (least_active chain who)) free in
+    let allowed = none_inside ByLedger (book_unbond_refusal (row_at chain.book who) value (release_now chain) (least_active chain who)) free in
     with_followed chain who (changed who (unbonded amount (release_now chain)) chain.book) live
     (balanced_called who (row_calls.Unbond value (release_now chain) (least_active chain who)) chain.book live.balanced (live.releases who) allowed)
     (chunks_changed (All (λ chunk. chunk.release ≤ release_now chain)) who (unbonded amount (release_now chain)) chain.book live.releases
@@ -361,35 +361,35 @@ live_done chain who (kinds.Unbond value) live free =
 live_done chain who (kinds.Rebond value) live free =
     let amount : ℕ = rebond_amount (row_at chain.book who) value in
     with_followed chain who (changed who (rebonded amount) chain.book) live
-    (balanced_called who (row_calls.Rebond value) chain.book live.balanced tt (none_inside ByLedger (rebond_refusal (row_at chain.book who) value) free))
+    (balanced_called who (row_calls.Rebond value) chain.book live.balanced tt (none_inside ByLedger (book_rebond_refusal (row_at chain.book who) value) free))
     (chunks_changed (All (λ chunk. chunk.release ≤ release_now chain)) who (rebonded amount) chain.book live.releases
     (without_by (release_now chain) amount (row_at chain.book who).chunks (live.releases who)))
     (held_changed who (rebonded amount) chain.book chain.queue.items (λ row. refl) live.deposits)
 live_done chain who kinds.Withdraw live free =
     retired_live (record chain { book = changed who (withdrawn (era_now chain)) chain.book }) who (with_book chain (changed who (withdrawn (era_now chain)) chain.book) live
-    (balanced_called who (row_calls.Withdraw (era_now chain)) chain.book live.balanced tt (none_inside ByLedger (withdraw_refusal (row_at chain.book who)) free))
+    (balanced_called who (row_calls.Withdraw (era_now chain)) chain.book live.balanced tt (none_inside ByLedger (book_withdraw_refusal (row_at chain.book who)) free))
     (chunks_changed (All (λ chunk. chunk.release ≤ release_now chain)) who (withdrawn (era_now chain)) chain.book live.releases
     (All-filter (λ chunk. nat_lt (era_now chain) chunk.release) (λ chunk. chunk.release ≤ release_now chain) (row_at chain.book who).chunks (live.releases who)))
     (held_changed who (withdrawn (era_now chain)) chain.book chain.queue.items (λ row. refl) live.deposits))
 live_done chain who (kinds.Nominate targets) live free =
-    let allowed = none_inside ByList (nominate_refusal chain.roles who targets) (second_none (option_map ByLedger (role_refusal chain who)) (option_map ByList (nominate_refusal chain.roles who targets)) free) in
+    let allowed = none_inside ByList (list_nominate_refusal chain.roles who targets) (second_none (option_map ByLedger (role_refusal chain who)) (option_map ByList (list_nominate_refusal chain.roles who targets)) free) in
     placed_live chain who (Nominator targets) (is_nominator_role (role_of chain.roles who)) (active_of chain who) live
     (kept_nominated chain.roles who targets (kept_of chain live) allowed) (nominator_has (standing_of chain.roles who))
 live_done chain who (kinds.Validate commission) live free =
-    let allowed = none_inside ByList (validate_refusal chain.roles who commission) (second_none (option_map ByLedger (role_refusal chain who)) (option_map ByList (validate_refusal chain.roles who commission)) free) in
+    let allowed = none_inside ByList (list_validate_refusal chain.roles who commission) (second_none (option_map ByLedger (role_refusal chain who)) (option_map ByList (list_validate_refusal chain.roles who commission)) free) in
     placed_live chain who (Validator commission) (is_validator_role (role_of chain.roles who)) (active_of chain who) live
     (kept_validating chain.roles who commission (kept_of chain live) allowed) (validator_has (standing_of chain.roles who))
 live_done chain who kinds.Chill live free = without_live chain who live
 live_done chain who (kinds.Rebag whom) live free =
     with_lists chain chain.roles (moved chain.bags whom (active_of chain whom)) live
     (kept_rebagged (has_role chain.roles) chain.bags whom (listed_of chain live) (active_of chain whom)
-    (rebag_listed chain.bags whom (active_of chain whom) (none_inside ByList (rebag_refusal chain.bags whom (active_of chain whom)) free)))
+    (rebag_listed chain.bags whom (active_of chain whom) (none_inside ByList (list_rebag_refusal chain.bags whom (active_of chain whom)) free)))
     (kept_of chain live)
 live_done chain who (kinds.PutInFront lighter) live free =
     with_lists chain chain.roles (put_in_front chain.bags who lighter) live
     (kept_front (has_role chain.roles) chain.bags who (listed_of chain live) lighter
     (front_listed chain.bags who (active_of chain who) lighter (active_of chain lighter)
-    (none_inside ByList (put_in_front_refusal chain.bags who (active_of chain who) lighter (active_of chain lighter)) free)))
+    (none_inside ByList (list_put_in_front_refusal chain.bags who (active_of chain who) lighter (active_of chain lighter)) free)))
     (kept_of chain live)
 live_done chain who (kinds.Submit round claim bytes) live free =
     submitted_live chain (submission_of chain who claim bytes) live
@@ -404,14 +404,14 @@ live_done chain who (kinds.Offence era validator fraction) live free =
     subst IsLive (ap (λ (c : Chain). record c { eras = reported era validator fraction chain.eras }) (slashes_within dues chain))
     (with_eras (slashes dues chain).state (reported era validator fraction chain.eras) (slashes_live dues chain live))
 
-live_after : (due : Option Refusal) (index : ℕ) (call : Call) (chain : Chain) → IsLive chain → stop_of chain call.who call.kind ≡ due
+live_after : (due : Option Refusal) (index : ℕ) (call : Call) (chain : Chain) → IsLive chain → refusal_of chain call.who call.kind ≡ due
     → IsLive (call_after due index call chain).state
 live_after None index call chain live e = live_done chain call.who call.kind live e
 live_after (Some refusal) index call chain live e = live
 
 -- a call keeps the chain live, whether it is refused or not
 pub live_call : (index : ℕ) (call : Call) (chain : Chain) → IsLive chain → IsLive (call_outcome index call chain).state
-live_call index call chain live = live_after (stop_of chain call.who call.kind) index call chain live refl
+live_call index call chain live = live_after (refusal_of chain call.who call.kind) index call chain live refl
 
 pub live_calls : (index : ℕ) (calls : List Call) (chain : Chain) → IsLive chain → IsLive (calls_outcome index calls chain).state
 live_calls index [] chain live = live
@@ -458,7 +458,7 @@ pub fixed_calls : (index : ℕ) (calls : List Call) (chain : Chain) → IsFixed 
 fixed_calls index [] chain = record { params = refl; waiting = refl; due = refl; era = refl }
 fixed_calls index (call ∷ calls) chain =
     let next : Chain = (call_outcome index call chain).state in
-    fixed_then chain next (calls_outcome (index + 1) calls next).state (fixed_after (stop_of chain call.who call.kind) index call chain) (fixed_calls (index + 1) calls next)
+    fixed_then chain next (calls_outcome (index + 1) calls next).state (fixed_after (refusal_of chain call.who call.kind) index call chain) (fixed_calls (index + 1) calls next)
 
 pub due_calls : (index : ℕ) (calls : List Call) (chain : Chain) → (calls_outcome index calls chain).state.due ≡ chain.due
 due_calls index calls chain = (fixed_calls index calls chain).due
@@ -663,7 +663,7 @@ next_after None index call chain = next_done chain call.who call.kind
 next_after (Some refusal) index call chain = omega arith
 
 pub next_call : (index : ℕ) (call : Call) (chain : Chain) → (call_outcome index call chain).state.next ≤ chain.next + 1
-next_call index call chain = next_after (stop_of chain call.who call.kind) index call chain
+next_call index call chain = next_after (refusal_of chain call.who call.kind) index call chain
 
 pub next_calls : (index : ℕ) (calls : List Call) (chain : Chain) → (calls_outcome index calls chain).state.next ≤ chain.next + length calls
 next_calls index [] chain = omega arith

@@ -18,7 +18,7 @@ use Rattle.npos_base.proofs.EntryLemmas.{sorted_put, lookup_put, lookup_other}
 use Rattle.voter_lists.specs.declared.standing.Standing.{Standing}
 use Rattle.voter_lists.specs.declared.standing.Standing.TheVariants.{Nominator, Validator}
 use Rattle.voter_lists.specs.Ranked.{AreRanked}
-use Rattle.voter_lists.specs.Roles.{RoleList, role_in, role_of, standing_of, with_standing, without_role, validators_of, is_validator, nominated_by, targets_in, nominate_refusal, validate_refusal}
+use Rattle.voter_lists.specs.Roles.{RoleList, role_in, role_of, standing_of, with_standing, without_role, validators_of, is_validator, nominated_by, targets_in, nominate_refusal as list_nominate_refusal, validate_refusal as list_validate_refusal}
 use Rattle.voter_lists.proofs.ValidatorLemmas.{ranked_left, ranked_nominating, ranked_validating}
 use Rattle.npos_base.specs.declared.limits.TheConstants.{WHOLE_FRACTION}
 use Rattle.npos_runtime.specs.Ballots.{commission_in}
@@ -113,7 +113,7 @@ kept_without roles who kept = record {
       (subst (λ o. commission_in (role_in o) ≤ WHOLE_FRACTION) (sym (standing_without who roles kept.ranked.rising)) none_kept);
 }
 
-pub kept_nominated : (roles : RoleList) (who : AccountId) (targets : List AccountId) → AreKept roles → nominate_refusal roles who targets ≡ None
+pub kept_nominated : (roles : RoleList) (who : AccountId) (targets : List AccountId) → AreKept roles → list_nominate_refusal roles who targets ≡ None
     → AreKept (with_standing roles who (Nominator targets))
 kept_nominated roles who targets kept allowed = record {
   ranked = let r = ranked_nominating who targets roles (with_standing roles who (Nominator targets)) (validators_of roles) (remove_key (is_at (account_cmp who)) (validators_of roles)) kept.ranked refl
@@ -127,7 +127,7 @@ kept_nominated roles who targets kept allowed = record {
   sound : IsNomination targets
   sound = record { few = grind (arith, common_steps, nat_tests, allowed); distinct = grind (arith, common_steps, allowed) }
 
-pub kept_validating : (roles : RoleList) (who : AccountId) (commission : ℕ) → AreKept roles → validate_refusal roles who commission ≡ None
+pub kept_validating : (roles : RoleList) (who : AccountId) (commission : ℕ) → AreKept roles → list_validate_refusal roles who commission ≡ None
     → AreKept (with_standing roles who (Validator commission))
 kept_validating roles who commission kept allowed = record {
   ranked = let r = ranked_validating who commission roles (with_standing roles who (Validator commission)) (validators_of roles) (insert_key account_cmp (validators_of roles) who) kept.ranked room refl

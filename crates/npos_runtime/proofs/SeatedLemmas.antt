@@ -29,7 +29,7 @@ use Rattle.npos_runtime.specs.Rounds.{begun_round, round_after, round_phase, is_
 use Rattle.npos_runtime.specs.Decision.{others, decided_weights, committee_of, decision_of, decision_phase}
 use Rattle.npos_runtime.specs.Exposed.{exposed}
 use Rattle.npos_runtime.specs.Outcome.{Election, Outcome, quiet}
-use Rattle.npos_runtime.specs.Calls.{stop_of, done_of}
+use Rattle.npos_runtime.specs.Calls.{refusal_of, done_of}
 use Rattle.npos_runtime.specs.Step.{waiting_after, eras_after, era_phase, call_after, call_outcome, calls_outcome, closed, step}
 use Rattle.npos_runtime.specs.Genesis.{params_fault}
 use Rattle.npos_runtime.specs.Live.{IsLive, IsSoundRound, IsNotedCommittee}
@@ -103,7 +103,7 @@ round_call (Some refusal) index call chain = refl
 round_calls : (index : ℕ) (calls : List Call) (chain : Chain) → (calls_outcome index calls chain).state.round ≡ chain.round
 round_calls index [] chain = refl
 round_calls index (call ∷ calls) chain =
-    round_calls (index + 1) calls (call_outcome index call chain).state ∙ round_call (stop_of chain call.who call.kind) index call chain
+    round_calls (index + 1) calls (call_outcome index call chain).state ∙ round_call (refusal_of chain call.who call.kind) index call chain
 
 -- ## Who waits was elected
 

@@ -8,17 +8,17 @@ use Rattle.stake_ledger.specs.declared.refusal.LedgerRefusal.{LedgerRefusal}
 use Rattle.stake_ledger.specs.declared.refusal.LedgerRefusal.TheVariants.{NotBonded, BelowMinimum}
 use Rattle.stake_ledger.specs.Rows.{is_bonded, activated, unbonded, rebonded, withdrawn}
 use Rattle.stake_ledger.specs.Ledger.{row_at, changed}
-use Rattle.stake_ledger.specs.Calls.{transfer_refusal, transferred, bond_refusal, bond_extra_refusal, unbond_refusal, unbond_amount, rebond_refusal, rebond_amount, withdraw_refusal}
-use Rattle.voter_lists.specs.Roles.{role_of, nominate_refusal, nominated, validate_refusal, validating, chill_refusal, without_role}
-use Rattle.voter_lists.specs.Bags.{removed, moved, rebag_refusal, put_in_front, put_in_front_refusal}
+use Rattle.stake_ledger.specs.Calls.{transfer_refusal as book_transfer_refusal, transferred, bond_refusal as book_bond_refusal, bond_extra_refusal as book_bond_extra_refusal, unbond_refusal as book_unbond_refusal, unbond_amount, rebond_refusal as book_rebond_refusal, rebond_amount, withdraw_refusal as book_withdraw_refusal}
+use Rattle.voter_lists.specs.Roles.{role_of, nominate_refusal as list_nominate_refusal, nominated, validate_refusal as list_validate_refusal, validating, chill_refusal as list_chill_refusal, without_role}
+use Rattle.voter_lists.specs.Bags.{removed, moved, rebag_refusal as list_rebag_refusal, put_in_front, put_in_front_refusal as list_put_in_front_refusal}
 use Rattle.npos_runtime.specs.declared.chain.Chain.{Chain}
 use Rattle.npos_runtime.specs.declared.refusal.Refusal.{Refusal}
 use Rattle.npos_runtime.specs.declared.refusal.Refusal.TheVariants.{Ledger as ByLedger, List as ByList}
 use Rattle.npos_runtime.specs.Rules.{bonding_eras_of, least_bond_of, era_of}
 use Rattle.npos_runtime.specs.Ballots.{active_of}
 use Rattle.npos_runtime.specs.declared.line.Line.{Line}
-use Rattle.npos_runtime.specs.Signed.{submit_stop, submit_done, submit_told}
-use Rattle.npos_runtime.specs.Offices.{points_stop, points_done, payout_stop, payout_done, payout_told, offence_stop, offence_done, offence_told}
+use Rattle.npos_runtime.specs.Signed.{submit_refusal, submit_done, submit_told}
+use Rattle.npos_runtime.specs.Offices.{points_refusal, points_done, payout_refusal, payout_done, payout_told, offence_refusal, offence_done, offence_told}
 use Rattle.npos_runtime.specs.Lists.{has_role, is_nominator_role, is_validator_role, placed, with_stake, retired}
 
 -- the era of the block that is due
@@ -29,20 +29,20 @@ era_now chain = era_of chain.params chain.due
 abbrev pub release_now : Chain → ℕ
 release_now chain = era_now chain + bonding_eras_of chain.params
 
-abbrev pub transfer_stop : Chain → AccountId → AccountId → ℕ → Option Refusal
-transfer_stop chain who to value = option_map ByLedger (transfer_refusal chain.book who to value)
+abbrev pub transfer_refusal : Chain → AccountId → AccountId → ℕ → Option Refusal
+transfer_refusal chain who to value = option_map ByLedger (book_transfer_refusal chain.book who to value)
 
 abbrev pub transfer_done : Chain → AccountId → AccountId → ℕ → Chain
 transfer_done chain who to value = record chain { book = transferred who to value chain.book }
 
-abbrev pub bond_stop : Chain → AccountId → ℕ → Option Refusal
-bond_stop chain who value = option_map ByLedger (bond_refusal (row_at chain.book who) value (least_bond_of chain.params))
+abbrev pub bond_refusal : Chain → AccountId → ℕ → Option Refusal
+bond_refusal chain who value = option_map ByLedger (book_bond_refusal (row_at chain.book who) value (least_bond_of chain.params))
 
 abbrev pub bond_done : Chain → AccountId → ℕ → Chain
 bond_done chain who value = record chain { book = changed who (activated value) chain.book }
 
-abbrev pub bond_extra_stop : Chain → AccountId → ℕ → Option Refusal
-bond_extra_stop chain who value = option_map ByLedger (bond_extra_refusal (row_at chain.book who) value)
+abbrev pub bond_extra_refusal : Chain → AccountId → ℕ → Option Refusal
+bond_extra_refusal chain who value = option_map ByLedger (book_bond_extra_refusal (row_at chain.book who) value)
 
 abbrev pub bond_extra_done : Chain → AccountId → ℕ → Chain
 bond_extra_done chain who value = with_stake chain who (changed who (activated value) chain.book)
@@ -51,22 +51,22 @@ bond_extra_done chain who value = with_stake chain who (changed who (activated v
 abbrev pub least_active : Chain → AccountId → ℕ
 least_active chain who = if has_role chain.roles who then least_bond_of chain.params else 0
 
-abbrev pub unbond_stop : Chain → AccountId → ℕ → Option Refusal
-unbond_stop chain who value = option_map ByLedger (unbond_refusal (row_at chain.book who) value (release_now chain) (least_active chain who))
+abbrev pub unbond_refusal : Chain → AccountId → ℕ → Option Refusal
+unbond_refusal chain who value = option_map ByLedger (book_unbond_refusal (row_at chain.book who) value (release_now chain) (least_active chain who))
 
 abbrev pub unbond_done : Chain → AccountId → ℕ → Chain
 unbond_done chain who value =
     with_stake chain who (changed who (unbonded (unbond_amount (row_at chain.book who) value) (release_now chain)) chain.book)
 
-abbrev pub rebond_stop : Chain → AccountId → ℕ → Option Refusal
-rebond_stop chain who value = option_map ByLedger (rebond_refusal (row_at chain.book who) value)
+abbrev pub rebond_refusal : Chain → AccountId → ℕ → Option Refusal
+rebond_refusal chain who value = option_map ByLedger (book_rebond_refusal (row_at chain.book who) value)
 
 abbrev pub rebond_done : Chain → AccountId → ℕ → Chain
 rebond_done chain who value =
     with_stake chain who (changed who (rebonded (rebond_amount (row_at chain.book who) value)) chain.book)
 
-abbrev pub withdraw_stop : Chain → AccountId → Option Refusal
-withdraw_stop chain who = option_map ByLedger (withdraw_refusal (row_at chain.book who))
+abbrev pub withdraw_refusal : Chain → AccountId → Option Refusal
+withdraw_refusal chain who = option_map ByLedger (book_withdraw_refusal (row_at chain.book who))
 
 abbrev pub withdraw_done : Chain → AccountId → Chain
 withdraw_done chain who = retired who (record chain { book = changed who (withdrawn (era_now chain)) chain.book })
@@ -78,9 +78,9 @@ role_refusal chain who =
     else if nat_lt (active_of chain who) (least_bond_of chain.params) then Some BelowMinimum
     else None
 
-abbrev pub nominate_stop : Chain → AccountId → List AccountId → Option Refusal
-nominate_stop chain who targets =
-    option_or (option_map ByLedger (role_refusal chain who)) (option_map ByList (nominate_refusal chain.roles who targets))
+abbrev pub nominate_refusal : Chain → AccountId → List AccountId → Option Refusal
+nominate_refusal chain who targets =
+    option_or (option_map ByLedger (role_refusal chain who)) (option_map ByList (list_nominate_refusal chain.roles who targets))
 
 abbrev pub nominate_done : Chain → AccountId → List AccountId → Chain
 nominate_done chain who targets = record chain {
@@ -88,9 +88,9 @@ nominate_done chain who targets = record chain {
   bags = placed (is_nominator_role (role_of chain.roles who)) chain.bags who (active_of chain who);
 }
 
-abbrev pub validate_stop : Chain → AccountId → ℕ → Option Refusal
-validate_stop chain who commission =
-    option_or (option_map ByLedger (role_refusal chain who)) (option_map ByList (validate_refusal chain.roles who commission))
+abbrev pub validate_refusal : Chain → AccountId → ℕ → Option Refusal
+validate_refusal chain who commission =
+    option_or (option_map ByLedger (role_refusal chain who)) (option_map ByList (list_validate_refusal chain.roles who commission))
 
 abbrev pub validate_done : Chain → AccountId → ℕ → Chain
 validate_done chain who commission = record chain {
@@ -98,43 +98,43 @@ validate_done chain who commission = record chain {
   bags = placed (is_validator_role (role_of chain.roles who)) chain.bags who (active_of chain who);
 }
 
-abbrev pub chill_stop : Chain → AccountId → Option Refusal
-chill_stop chain who = option_map ByList (chill_refusal chain.roles who)
+abbrev pub chill_refusal : Chain → AccountId → Option Refusal
+chill_refusal chain who = option_map ByList (list_chill_refusal chain.roles who)
 
 abbrev pub chill_done : Chain → AccountId → Chain
 chill_done chain who = record chain { roles = without_role chain.roles who; bags = removed chain.bags who }
 
 -- anyone may put any account into the bag of its active stake
-abbrev pub rebag_stop : Chain → AccountId → Option Refusal
-rebag_stop chain whom = option_map ByList (rebag_refusal chain.bags whom (active_of chain whom))
+abbrev pub rebag_refusal : Chain → AccountId → Option Refusal
+rebag_refusal chain whom = option_map ByList (list_rebag_refusal chain.bags whom (active_of chain whom))
 
 abbrev pub rebag_done : Chain → AccountId → Chain
 rebag_done chain whom = record chain { bags = moved chain.bags whom (active_of chain whom) }
 
-abbrev pub put_in_front_stop : Chain → AccountId → AccountId → Option Refusal
-put_in_front_stop chain who lighter =
-    option_map ByList (put_in_front_refusal chain.bags who (active_of chain who) lighter (active_of chain lighter))
+abbrev pub put_in_front_refusal : Chain → AccountId → AccountId → Option Refusal
+put_in_front_refusal chain who lighter =
+    option_map ByList (list_put_in_front_refusal chain.bags who (active_of chain who) lighter (active_of chain lighter))
 
 abbrev pub put_in_front_done : Chain → AccountId → AccountId → Chain
 put_in_front_done chain who lighter = record chain { bags = put_in_front chain.bags who lighter }
 
 -- the table of refusals: a row a kind
-unfoldable pub stop_of : Chain → AccountId → CallKind → Option Refusal
-stop_of chain who (kinds.Transfer to value) = transfer_stop chain who to value
-stop_of chain who (kinds.Bond value) = bond_stop chain who value
-stop_of chain who (kinds.BondExtra value) = bond_extra_stop chain who value
-stop_of chain who (kinds.Unbond value) = unbond_stop chain who value
-stop_of chain who (kinds.Rebond value) = rebond_stop chain who value
-stop_of chain who kinds.Withdraw = withdraw_stop chain who
-stop_of chain who (kinds.Nominate targets) = nominate_stop chain who targets
-stop_of chain who (kinds.Validate commission) = validate_stop chain who commission
-stop_of chain who kinds.Chill = chill_stop chain who
-stop_of chain who (kinds.Rebag whom) = rebag_stop chain whom
-stop_of chain who (kinds.PutInFront lighter) = put_in_front_stop chain who lighter
-stop_of chain who (kinds.Submit round claim bytes) = submit_stop chain who round claim bytes
-stop_of chain who (kinds.Points items) = points_stop chain who items
-stop_of chain who (kinds.Payout era validator) = payout_stop chain era validator
-stop_of chain who (kinds.Offence era validator fraction) = offence_stop chain who era validator fraction
+unfoldable pub refusal_of : Chain → AccountId → CallKind → Option Refusal
+refusal_of chain who (kinds.Transfer to value) = transfer_refusal chain who to value
+refusal_of chain who (kinds.Bond value) = bond_refusal chain who value
+refusal_of chain who (kinds.BondExtra value) = bond_extra_refusal chain who value
+refusal_of chain who (kinds.Unbond value) = unbond_refusal chain who value
+refusal_of chain who (kinds.Rebond value) = rebond_refusal chain who value
+refusal_of chain who kinds.Withdraw = withdraw_refusal chain who
+refusal_of chain who (kinds.Nominate targets) = nominate_refusal chain who targets
+refusal_of chain who (kinds.Validate commission) = validate_refusal chain who commission
+refusal_of chain who kinds.Chill = chill_refusal chain who
+refusal_of chain who (kinds.Rebag whom) = rebag_refusal chain whom
+refusal_of chain who (kinds.PutInFront lighter) = put_in_front_refusal chain who lighter
+refusal_of chain who (kinds.Submit round claim bytes) = submit_refusal chain who round claim bytes
+refusal_of chain who (kinds.Points items) = points_refusal chain who items
+refusal_of chain who (kinds.Payout era validator) = payout_refusal chain era validator
+refusal_of chain who (kinds.Offence era validator fraction) = offence_refusal chain who era validator fraction
 
 -- the table of effects
 unfoldable pub done_of : Chain → AccountId → CallKind → Chain

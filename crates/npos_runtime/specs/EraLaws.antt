@@ -27,7 +27,7 @@ use Rattle.npos_runtime.specs.Exposed.{exposed}
 use Rattle.npos_runtime.specs.Rules.{begun_era, era_reward_of}
 use Rattle.npos_runtime.specs.Outcome.{Election}
 use Rattle.npos_runtime.specs.Genesis.{genesis_fault, genesis_chain, params_of}
-use Rattle.npos_runtime.specs.Calls.{stop_of, done_of, told_of}
+use Rattle.npos_runtime.specs.Calls.{refusal_of, done_of, told_of}
 use Rattle.npos_runtime.specs.Offices.{payout_now, slash_told}
 use Rattle.npos_runtime.specs.Step.{call_outcome, calls_outcome, step, after_blocks, seated_by}
 use Rattle.npos_runtime.specs.Offers.{before_calls}
@@ -54,7 +54,7 @@ event_of (Some refusal) kind = []
 abbrev pub events_of : ℕ → List Call → Chain → List Event
 events_of index [] chain = []
 events_of index (call ∷ calls) chain =
-    event_of (stop_of chain call.who call.kind) call.kind
+    event_of (refusal_of chain call.who call.kind) call.kind
     ++ events_of (index + 1) calls (call_outcome index call chain).state
 
 abbrev pub events_in : Chain → Block → List Event
@@ -132,7 +132,7 @@ abbrev pub PayoutLaw : Type 0
 PayoutLaw = (genesis : Genesis) (blocks : List Block) (calls : List Call) (who : AccountId)
     (era : ℕ) (validator : AccountId)
     → genesis_fault genesis ≡ None → FitsBehind genesis blocks
-    → stop_of (chain_at genesis blocks calls) who (kinds.Payout era validator) ≡ None
+    → refusal_of (chain_at genesis blocks calls) who (kinds.Payout era validator) ≡ None
     → IsPaidOut (chain_at genesis blocks calls) who era validator
 
 -- ## Offences
@@ -161,7 +161,7 @@ abbrev pub SlashLaw : Type 0
 SlashLaw = (genesis : Genesis) (blocks : List Block) (calls : List Call) (who : AccountId)
     (era : ℕ) (validator : AccountId) (fraction : ℕ)
     → genesis_fault genesis ≡ None → FitsBehind genesis blocks
-    → stop_of (chain_at genesis blocks calls) who (kinds.Offence era validator fraction) ≡ None
+    → refusal_of (chain_at genesis blocks calls) who (kinds.Offence era validator fraction) ≡ None
     → AreTaken (slash_in (chain_at genesis blocks calls).eras era validator fraction)
     (chain_at genesis blocks calls).book
     (told_of (chain_at genesis blocks calls) who (kinds.Offence era validator fraction))
@@ -199,7 +199,7 @@ due_of era who None kind chain = due_of_kind era who kind chain
 due_of era who (Some refusal) kind chain = 0
 
 abbrev pub due_by : ℕ → AccountId → ℕ → Call → Chain → ℕ
-due_by era who index call chain = due_of era who (stop_of chain call.who call.kind) call.kind chain
+due_by era who index call chain = due_of era who (refusal_of chain call.who call.kind) call.kind chain
 
 -- what blocks make due from an account for an era, over all its validators and all reports
 abbrev pub due_in : ℕ → AccountId → Genesis → List Block → ℕ

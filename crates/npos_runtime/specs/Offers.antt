@@ -21,7 +21,7 @@ use Rattle.npos_runtime.specs.declared.refusal.Refusal.TheVariants.{NotBetter}
 use Rattle.npos_runtime.specs.declared.round.Round.TheVariants as rounds
 use Rattle.npos_runtime.specs.Rules.{is_decision}
 use Rattle.npos_runtime.specs.Rounds.{round_phase}
-use Rattle.npos_runtime.specs.Signed.{submission_of, submit_stop}
+use Rattle.npos_runtime.specs.Signed.{submission_of, submit_refusal}
 use Rattle.npos_runtime.specs.Decision.{judged, forfeit_line, decision_phase}
 use Rattle.npos_runtime.specs.Step.{era_phase, call_outcome, step, after_blocks}
 
@@ -36,7 +36,7 @@ is_offered (Some other) = false
 -- what a call offers to the round of this number
 abbrev pub offer_of : ℕ → Chain → AccountId → CallKind → List Submission
 offer_of number chain who (kinds.Submit round claim bytes) =
-    if (round == number) && is_offered (submit_stop chain who round claim bytes)
+    if (round == number) && is_offered (submit_refusal chain who round claim bytes)
     then submission_of chain who claim bytes ∷ [] else []
 offer_of number chain who other = []
 

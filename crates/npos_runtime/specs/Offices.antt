@@ -7,7 +7,7 @@ use Rattle.stake_ledger.specs.Ledger.{Ledger, row_at}
 use Rattle.stake_ledger.specs.Calls.{mint_refusal, minted_free, slashed, slash_amount}
 use Rattle.era_book.specs.declared.exposure.Backer.{Backer}
 use Rattle.era_book.specs.declared.payout.Payout.{Payout}
-use Rattle.era_book.specs.Calls.{points_refusal, pointed, payout_refusal, payout_in, paid, slash_refusal, slash_in, reported}
+use Rattle.era_book.specs.Calls.{points_refusal as era_points_refusal, pointed, payout_refusal as era_payout_refusal, payout_in, paid, slash_refusal, slash_in, reported}
 use Rattle.npos_runtime.specs.declared.chain.Chain.{Chain}
 use Rattle.npos_runtime.specs.declared.line.Line.{Line}
 use Rattle.npos_runtime.specs.declared.line.Line.TheVariants as lines
@@ -22,10 +22,10 @@ is_root chain who = same_account who (root_of chain.params)
 
 -- ## Points, which the root gives
 
-abbrev pub points_stop : Chain → AccountId → List (AccountId × ℕ) → Option Refusal
-points_stop chain who items =
+abbrev pub points_refusal : Chain → AccountId → List (AccountId × ℕ) → Option Refusal
+points_refusal chain who items =
     if not (is_root chain who) then Some NotRoot
-    else option_map ByEra (points_refusal chain.eras items)
+    else option_map ByEra (era_points_refusal chain.eras items)
 
 abbrev pub points_done : Chain → List (AccountId × ℕ) → Chain
 points_done chain items = record chain { eras = pointed items chain.eras }
@@ -37,9 +37,9 @@ abbrev pub payout_now : Chain → ℕ → AccountId → Payout
 payout_now chain era validator = payout_in chain.eras era validator (era_reward_of chain.params)
 
 -- the whole of it has to fit into what may still be minted
-abbrev pub payout_stop : Chain → ℕ → AccountId → Option Refusal
-payout_stop chain era validator =
-    option_or (option_map ByEra (payout_refusal chain.eras era validator))
+abbrev pub payout_refusal : Chain → ℕ → AccountId → Option Refusal
+payout_refusal chain era validator =
+    option_or (option_map ByEra (era_payout_refusal chain.eras era validator))
     (option_map ByLedger (mint_refusal chain.book (payout_now chain era validator).total))
 
 -- each line is minted to its account, in order
@@ -61,8 +61,8 @@ payout_told chain era validator = map paid_line (payout_now chain era validator)
 
 -- ## Offences, which the root reports
 
-abbrev pub offence_stop : Chain → AccountId → ℕ → AccountId → ℕ → Option Refusal
-offence_stop chain who era validator fraction =
+abbrev pub offence_refusal : Chain → AccountId → ℕ → AccountId → ℕ → Option Refusal
+offence_refusal chain who era validator fraction =
     if not (is_root chain who) then Some NotRoot
     else option_map ByEra (slash_refusal chain.eras era validator fraction)
 

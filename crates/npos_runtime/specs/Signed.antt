@@ -56,8 +56,8 @@ offer_refusal chain item =
     else if is_err (offer_answer chain.queue item) then Some NotBetter
     else None
 
-abbrev pub submit_stop : Chain → AccountId → ℕ → Score → List ℕ → Option Refusal
-submit_stop chain who round claim bytes =
+abbrev pub submit_refusal : Chain → AccountId → ℕ → Score → List ℕ → Option Refusal
+submit_refusal chain who round claim bytes =
     option_or (form_refusal chain round bytes)
     (offer_refusal chain (submission_of chain who claim bytes))
 

@@ -15,7 +15,7 @@ use Rattle.npos_runtime.specs.Committee.{Committee}
 use Rattle.npos_runtime.specs.Exposed.{exposed}
 use Rattle.npos_runtime.specs.Rounds.{round_phase}
 use Rattle.npos_runtime.specs.Decision.{decision_phase}
-use Rattle.npos_runtime.specs.Calls.{stop_of, done_of, told_of}
+use Rattle.npos_runtime.specs.Calls.{refusal_of, done_of, told_of}
 
 abbrev pub opened : ℕ → Chain → Outcome
 opened number chain = telling (lines.Block number ∷ []) chain
@@ -46,7 +46,7 @@ call_after (Some refusal) index call chain =
     telling (lines.CallRefused index (code_of refusal) ∷ []) chain
 
 abbrev pub call_outcome : ℕ → Call → Chain → Outcome
-call_outcome index call chain = call_after (stop_of chain call.who call.kind) index call chain
+call_outcome index call chain = call_after (refusal_of chain call.who call.kind) index call chain
 
 abbrev pub calls_outcome : ℕ → List Call → Chain → Outcome
 calls_outcome index [] chain = quiet chain

@@ -3,9 +3,9 @@ ghost use Rattle.std.specs.Prelude.{◌≡◌, ◌+◌, ◌<◌, ◌^◌, ◌++�
 ghost use Rattle.npos_runtime.specs.Outcome.{Meets, Untold};
 ghost use Rattle.npos_runtime.specs.Live.{IsLive, IsJoined};
 ghost use Rattle.npos_runtime.specs.Ballots.{active_of};
-ghost use Rattle.npos_runtime.specs.Calls.{release_now, stop_of, done_of, told_of, transfer_stop, transfer_done, bond_stop, bond_done, bond_extra_stop, bond_extra_done, unbond_stop, unbond_done, rebond_stop, rebond_done, withdraw_stop, withdraw_done, least_active, role_refusal, nominate_stop, nominate_done, validate_stop, validate_done, chill_stop, chill_done, rebag_stop, rebag_done, put_in_front_stop, put_in_front_done};
+ghost use Rattle.npos_runtime.specs.Calls.{release_now, refusal_of, done_of, told_of, transfer_refusal, transfer_done, bond_refusal, bond_done, bond_extra_refusal, bond_extra_done, unbond_refusal, unbond_done, rebond_refusal, rebond_done, withdraw_refusal, withdraw_done, least_active, role_refusal, nominate_refusal, nominate_done, validate_refusal, validate_done, chill_refusal, chill_done, rebag_refusal, rebag_done, put_in_front_refusal, put_in_front_done};
 ghost use Rattle.voter_lists.specs.Bags.{is_listed};
-ghost use Rattle.npos_runtime.specs.Lists.{listed_anew, placed, retired, unlisted, with_stake};
+ghost use Rattle.npos_runtime.specs.Lists.{followed, listed_anew, retired, unlisted};
 
 use crate::lists::{has_role, is_role, retire};
 use crate::offices::{offence, payout, points};
@@ -20,7 +20,7 @@ use std::alloc::Global;
 use voter_lists::{Bags, Role};
 
 fn transfer(chain: &mut Chain, who: AccountId, to: AccountId, value: u64) -> Result<(), Stop>
-    ensures { Meets (transfer_stop chain.old who to value)
+    ensures { Meets (transfer_refusal chain.old who to value)
         (transfer_done chain.old who to value) chain.old chain.new result }
 {
     chain.book.transfer(who, to, value)?;
@@ -28,7 +28,7 @@ fn transfer(chain: &mut Chain, who: AccountId, to: AccountId, value: u64) -> Res
 }
 
 fn bond(chain: &mut Chain, who: AccountId, value: u64) -> Result<(), Stop>
-    ensures { Meets (bond_stop chain.old who value)
+    ensures { Meets (bond_refusal chain.old who value)
         (bond_done chain.old who value) chain.old chain.new result }
 {
     let minimum = least_bond_of(&chain.params);
@@ -37,7 +37,7 @@ fn bond(chain: &mut Chain, who: AccountId, value: u64) -> Result<(), Stop>
 }
 
 fn bond_extra(chain: &mut Chain, who: AccountId, value: u64) -> Result<(), Stop>
-    ensures { Meets (bond_extra_stop chain.old who value)
+    ensures { Meets (bond_extra_refusal chain.old who value)
         (bond_extra_done chain.old who value) chain.old chain.new result }
 {
     chain.book.bond_extra(who, value)?;
@@ -47,7 +47,8 @@ fn bond_extra(chain: &mut Chain, who: AccountId, value: u64) -> Result<(), Stop>
 
 /// The account's place in the bags follows its active stake, where it is listed.
 fn follow(chain: &mut Chain, who: AccountId) -> Result<(), NoMemory>
-    ensures { OnOk result (chain.new ≡ with_stake chain.old who chain.old.book) }
+    ensures { OnOk result (chain.new
+        ≡ record chain.old { bags = followed chain.old.bags who (active_of chain.old who) }) }
 {
     if chain.bags.contains(who) {
         let score = chain.book.active(who);
@@ -77,7 +78,7 @@ fn release(chain: &Chain) -> u32
 
 fn unbond(chain: &mut Chain, who: AccountId, value: u64) -> Result<(), Stop>
     requires { IsLive chain.old }
-    ensures { Meets (unbond_stop chain.old who value)
+    ensures { Meets (unbond_refusal chain.old who value)
         (unbond_done chain.old who value) chain.old chain.new result }
 {
     let release = release(chain);
@@ -88,7 +89,7 @@ fn unbond(chain: &mut Chain, who: AccountId, value: u64) -> Result<(), Stop>
 }
 
 fn rebond(chain: &mut Chain, who: AccountId, value: u64) -> Result<(), Stop>
-    ensures { Meets (rebond_stop chain.old who value)
+    ensures { Meets (rebond_refusal chain.old who value)
         (rebond_done chain.old who value) chain.old chain.new result }
 {
     chain.book.rebond(who, value)?;
@@ -98,7 +99,7 @@ fn rebond(chain: &mut Chain, who: AccountId, value: u64) -> Result<(), Stop>
 
 fn withdraw(chain: &mut Chain, who: AccountId) -> Result<(), Stop>
     requires { IsLive chain.old }
-    ensures { Meets (withdraw_stop chain.old who)
+    ensures { Meets (withdraw_refusal chain.old who)
         (withdraw_done chain.old who) chain.old chain.new result }
 {
     let era = era_of(&chain.params, chain.due);
@@ -108,7 +109,7 @@ fn withdraw(chain: &mut Chain, who: AccountId) -> Result<(), Stop>
 }
 
 /// Whether the account may take a role.
-fn check_stake(chain: &Chain, who: AccountId) -> Result<(), LedgerRefusal>
+fn check_role(chain: &Chain, who: AccountId) -> Result<(), LedgerRefusal>
     ensures ok { OnOk result (role_refusal chain.now who ≡ None) }
     ensures refused { IfErr result (λ refusal. role_refusal chain.now who ≡ Some refusal) }
 {
@@ -147,10 +148,10 @@ fn list_anew(chain: &mut Chain, who: AccountId, listed: bool) -> Result<(), NoMe
 #[tactic(auto, using(crate::proofs::ListLemmas::role_listed))]
 fn nominate(chain: &mut Chain, who: AccountId, targets: List<AccountId>) -> Result<(), Stop>
     requires { IsJoined chain.old.roles chain.old.bags }
-    ensures { Meets (nominate_stop chain.old who targets)
+    ensures { Meets (nominate_refusal chain.old who targets)
         (nominate_done chain.old who targets) chain.old chain.new result }
 {
-    check_stake(chain, who)?;
+    check_role(chain, who)?;
     let before = chain.roles.role(who);
     chain.roles.nominate(who, targets)?;
     if !matches!(before, Role::Nominator) {
@@ -162,10 +163,10 @@ fn nominate(chain: &mut Chain, who: AccountId, targets: List<AccountId>) -> Resu
 #[tactic(auto, using(crate::proofs::ListLemmas::role_listed))]
 fn validate(chain: &mut Chain, who: AccountId, commission: u32) -> Result<(), Stop>
     requires { IsJoined chain.old.roles chain.old.bags }
-    ensures { Meets (validate_stop chain.old who commission)
+    ensures { Meets (validate_refusal chain.old who commission)
         (validate_done chain.old who commission) chain.old chain.new result }
 {
-    check_stake(chain, who)?;
+    check_role(chain, who)?;
     let before = chain.roles.role(who);
     chain.roles.validate(who, commission)?;
     if !matches!(before, Role::Validator { .. }) {
@@ -176,7 +177,7 @@ fn validate(chain: &mut Chain, who: AccountId, commission: u32) -> Result<(), St
 
 fn chill(chain: &mut Chain, who: AccountId) -> Result<(), Stop>
     requires { IsJoined chain.old.roles chain.old.bags }
-    ensures { Meets (chill_stop chain.old who)
+    ensures { Meets (chill_refusal chain.old who)
         (chill_done chain.old who) chain.old chain.new result }
 {
     chain.roles.chill(who)?;
@@ -185,7 +186,7 @@ fn chill(chain: &mut Chain, who: AccountId) -> Result<(), Stop>
 }
 
 fn rebag(chain: &mut Chain, whom: AccountId) -> Result<(), Stop>
-    ensures { Meets (rebag_stop chain.old whom)
+    ensures { Meets (rebag_refusal chain.old whom)
         (rebag_done chain.old whom) chain.old chain.new result }
 {
     let score = chain.book.active(whom);
@@ -194,7 +195,7 @@ fn rebag(chain: &mut Chain, whom: AccountId) -> Result<(), Stop>
 }
 
 fn put_in_front(chain: &mut Chain, who: AccountId, lighter: AccountId) -> Result<(), Stop>
-    ensures { Meets (put_in_front_stop chain.old who lighter)
+    ensures { Meets (put_in_front_refusal chain.old who lighter)
         (put_in_front_done chain.old who lighter) chain.old chain.new result }
 {
     let score = chain.book.active(who);
@@ -205,7 +206,7 @@ fn put_in_front(chain: &mut Chain, who: AccountId, lighter: AccountId) -> Result
 
 /// Does what the call asks for, or stops. What it tells besides that it was accepted is appended to
 /// `more`; a refused call tells nothing.
-#[tactic(auto, unfolding(crate::specs::Calls::stop_of, crate::specs::Calls::done_of, crate::specs::Calls::told_of))]
+#[tactic(auto, unfolding(crate::specs::Calls::refusal_of, crate::specs::Calls::done_of, crate::specs::Calls::told_of))]
 pub fn act(
     alloc: Global,
     chain: &mut Chain,
@@ -215,7 +216,7 @@ pub fn act(
 ) -> Result<(), Stop>
     requires live { IsLive chain.old }
     requires numbers { chain.old.next + 1 < 2 ^ 64 }
-    ensures meets { Meets (stop_of chain.old who kind)
+    ensures meets { Meets (refusal_of chain.old who kind)
         (done_of chain.old who kind) chain.old chain.new result }
     ensures told { OnOk result (more.new.items ≡ more.old.items ++ told_of chain.old who kind) }
     ensures untold { Untold more.old.items more.new.items result }

@@ -4,7 +4,7 @@ ghost use Rattle.stake_ledger.specs.Calls.{minted_free, room_of};
 ghost use Rattle.era_book.specs.Exposures.{amount_sum};
 ghost use Rattle.npos_runtime.specs.Outcome.{Goes, Meets, Untold};
 ghost use Rattle.npos_runtime.specs.Live.{IsLive};
-ghost use Rattle.npos_runtime.specs.Offices.{is_root, points_stop, points_done, payout_stop, payout_done, payout_told, all_minted, paid_line, offence_stop, offence_done, offence_told, slash_outcome, slashes};
+ghost use Rattle.npos_runtime.specs.Offices.{is_root, points_refusal, points_done, payout_refusal, payout_done, payout_told, all_minted, paid_line, offence_refusal, offence_done, offence_told, slash_outcome, slashes};
 
 use crate::lists::retire;
 use crate::rules::{era_reward_of, root_of};
@@ -23,7 +23,7 @@ fn is_root(chain: &Chain, who: AccountId) -> bool
 
 /// Gives points to members of the current era.
 pub fn points(chain: &mut Chain, who: AccountId, items: List<(AccountId, u32)>) -> Result<(), Stop>
-    ensures { Meets (points_stop chain.old who items)
+    ensures { Meets (points_refusal chain.old who items)
         (points_done chain.old items) chain.old chain.new result }
 {
     if !is_root(chain, who) {
@@ -68,7 +68,7 @@ pub fn payout(
     era: u32,
     validator: AccountId,
 ) -> Result<(), Stop>
-    ensures meets { Meets (payout_stop chain.old era validator)
+    ensures meets { Meets (payout_refusal chain.old era validator)
         (payout_done chain.old era validator) chain.old chain.new result }
     ensures told { OnOk result
         (more.new.items ≡ more.old.items ++ payout_told chain.old era validator) }
@@ -124,7 +124,7 @@ pub fn offence(
     fraction: u32,
 ) -> Result<(), Stop>
     requires { IsLive chain.old }
-    ensures meets { Meets (offence_stop chain.old reporter era validator fraction)
+    ensures meets { Meets (offence_refusal chain.old reporter era validator fraction)
         (offence_done chain.old era validator fraction) chain.old chain.new result }
     ensures told { OnOk result
         (more.new.items ≡ more.old.items ++ offence_told chain.old era validator fraction) }

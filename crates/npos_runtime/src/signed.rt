@@ -3,7 +3,7 @@ ghost use Rattle.std.specs.Prelude.{◌≡◌, ◌+◌, ◌++◌, ◌<◌, ◌^�
 ghost use Rattle.npos_runtime.specs.Outcome.{Meets, Untold};
 ghost use Rattle.npos_runtime.specs.Live.{IsLive};
 ghost use Rattle.npos_runtime.specs.Deposits.{return_lines};
-ghost use Rattle.npos_runtime.specs.Signed.{is_open, form_refusal, offer_refusal, ejected, submitted, submit_stop, submit_done, submit_told};
+ghost use Rattle.npos_runtime.specs.Signed.{is_open, form_refusal, offer_refusal, ejected, submitted, submit_refusal, submit_done, submit_told};
 
 use crate::deposits::{hold, return_deposit};
 use crate::rules::{deposit_of, era_of, is_signed, solution_max_of};
@@ -77,7 +77,7 @@ pub fn submit(
 ) -> Result<(), Stop>
     requires live { IsLive chain.old }
     requires numbers { chain.old.next + 1 < 2 ^ 64 }
-    ensures meets { Meets (submit_stop chain.old who round claim bytes)
+    ensures meets { Meets (submit_refusal chain.old who round claim bytes)
         (submit_done chain.old who claim bytes) chain.old chain.new result }
     ensures told { OnOk result
         (more.new.items ≡ more.old.items ++ submit_told chain.old who claim bytes) }
