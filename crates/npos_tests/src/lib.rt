@@ -7,6 +7,8 @@
 #[cfg(test)]
 mod elections;
 #[cfg(test)]
+mod refusals;
+#[cfg(test)]
 mod replays;
 #[cfg(test)]
 mod rewriting;
