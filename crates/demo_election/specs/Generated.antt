@@ -48,7 +48,8 @@ abbrev pub voter_from : ℕ → ℕ → ℕ → Voter
 voter_from targets state place = record {
   account = voter_account place;
   stake = stake_from (drawn (state_after state 1));
-  votes = votes_round targets (drawn (state_after state 3) % targets) (count_from targets (drawn (state_after state 2)));
+  votes = votes_round targets (drawn (state_after state 3) % targets)
+      (count_from targets (drawn (state_after state 2)));
 }
 
 -- each voter takes the next three draws

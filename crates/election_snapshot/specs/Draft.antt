@@ -37,8 +37,8 @@ target_fault draft who =
 abbrev pub with_target : Draft → AccountId → Draft
 with_target draft who = record draft { targets = draft.targets ++ who ∷ [] }
 
--- The first fault of a voter, where so many targets and voters stand, its account among them or not, and the stakes sum
--- to this total.
+-- The first fault of a voter, where so many targets and voters stand, its account among them or
+-- not, and the stakes sum to this total.
 abbrev pub voter_fault_by : ℕ → ℕ → Bool → ℕ → ℕ → List ℕ → Option SnapshotFault
 voter_fault_by targets voters stands total stake votes =
     if nat_le MOST_VOTERS voters then Some TooManyVoters

@@ -24,4 +24,5 @@ pub record AreKept (targets accounts : List AccountId) (stakes : List ℕ) (vote
 -- the accounts of the voters are those of the entries
 abbrev pub AreNoted : List (AccountId × Unit {0}) → List Voter → Type 0
 AreNoted entries voters =
-    (who : AccountId) → is_some (lookup (is_at (account_cmp who)) entries) ≡ stands_in (accounts_of voters) who
+    (who : AccountId) → is_some (lookup (is_at (account_cmp who)) entries)
+    ≡ stands_in (accounts_of voters) who

@@ -1,4 +1,5 @@
--- The instance of one election, after Cevallos and Stewart: targets, voters with their stakes and nominations, and seats.
+-- The instance of one election, after Cevallos and Stewart: targets, voters with their stakes and
+-- nominations, and seats.
 use Rattle.std.specs.Prelude.{ℕ, ◌*◌, ◌/◌, ◌^◌, ◌<◌, ◌≤◌, Bool, nat_eq, List, [], length, map, sum_by, All, slice_index_or}
 use Rattle.std.specs.List.{list_any, IsDistinct}
 use Rattle.npos_base.specs.declared.account.AccountId.{AccountId}

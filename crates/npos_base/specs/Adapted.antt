@@ -12,7 +12,8 @@ pub record Taken : Type 0 where
   pub told : Option Told
   pub faults : ℕ
 
--- what a writer holds, all but the last bytes of which were flushed; nothing where it does not tell, or is not to
+-- what a writer holds, all but the last bytes of which were flushed; nothing where it does not
+-- tell, or is not to
 abbrev pub told_by : Option (List ℕ) → Option ℕ → Option Told
 told_by None unflushed = None
 told_by (Some held) None = None

@@ -11,7 +11,8 @@ pub record Kept : Type 0 where
 
 -- the bytes are told while all of them fit
 abbrev pub kept_told : Kept → Option Told
-kept_told sink = if nat_eq sink.past 0 then Some record { written = sink.kept; flushed = sink.flushed } else None
+kept_told sink =
+    if nat_eq sink.past 0 then Some record { written = sink.kept; flushed = sink.flushed } else None
 
 -- how many bytes the sink still keeps
 abbrev pub spare_room : Kept → ℕ

@@ -30,7 +30,8 @@ abbrev pub given_count : Input → ℕ → ℕ
 given_count input room = min (min input.most room) (length input.left)
 
 abbrev pub read_answer : Input → ℕ → Result ℕ Failed
-read_answer input room = if is_failing input.failing input.next then Err record {} else Ok (given_count input room)
+read_answer input room =
+    if is_failing input.failing input.next then Err record {} else Ok (given_count input room)
 
 -- the source after a read into a buffer with this room
 abbrev pub after_read : Input → ℕ → Input
@@ -58,7 +59,8 @@ pub record Output : Type 0 where
 
 -- a write fails where its number is among the failing, or where there are bytes and no spare
 abbrev pub write_fails : Output → List ℕ → Bool
-write_fails output piece = is_failing output.failing output.next || (nat_eq output.spare 0 && nat_lt 0 (length piece))
+write_fails output piece =
+    is_failing output.failing output.next || (nat_eq output.spare 0 && nat_lt 0 (length piece))
 
 abbrev pub taken_count : Output → List ℕ → ℕ
 taken_count output piece = min (min output.most (length piece)) output.spare

@@ -55,7 +55,8 @@ Flushes old (Some now) = (before : Told) × (old ≡ Some before)
 
 -- a write appends the first bytes of the piece, and a failed write none
 abbrev pub Writes : {E : Type 0} → Option Told → Option Told → Result ℕ E → List ℕ → Type 0
-Writes old new result piece = MatchResult result (λ n. Appends old new (take n piece)) (λ _. Appends old new [])
+Writes old new result piece =
+    MatchResult result (λ n. Appends old new (take n piece)) (λ _. Appends old new [])
 
 -- a flush flushes all, and a failed one nothing
 abbrev pub FlushesAll : {E : Type 0} → Option Told → Option Told → Result (Unit {0}) E → Type 0

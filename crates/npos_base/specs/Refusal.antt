@@ -11,14 +11,17 @@ abbrev pub answer_of : {E : Type 0} → Option E → Result (Unit {0}) E
 answer_of None = Ok tt
 answer_of (Some refusal) = Err refusal
 
--- no refusal stands and the new state is the effect, or nothing changed and the answer is the refusal that is due
-pub record Meets {S T E : Type 0} (memory : E) (due : Option E) (effect old new : S) (result : Result T E) : Type 0 where
+-- no refusal stands and the new state is the effect, or nothing changed and the answer is the
+-- refusal that is due
+pub record Meets {S T E : Type 0} (memory : E) (due : Option E) (effect old new : S)
+    (result : Result T E) : Type 0 where
   pub ok : OnOk result ((due ≡ None) × (new ≡ effect))
   pub refused : IfErr result (IsDue memory due)
   pub unchanged : OnErr result (new ≡ old)
 
 -- the same of a call that may leave its object in any state after want of memory
-pub record MeetsWhileRoom {S T E : Type 0} (memory : E) (due : Option E) (effect old new : S) (result : Result T E) : Type 0 where
+pub record MeetsWhileRoom {S T E : Type 0} (memory : E) (due : Option E) (effect old new : S)
+    (result : Result T E) : Type 0 where
   pub ok : OnOk result ((due ≡ None) × (new ≡ effect))
   pub refused : IfErr result (IsDue memory due)
   pub unchanged : IfErr result (λ error. error ≢ memory → new ≡ old)

@@ -136,8 +136,8 @@ impl<W: Write> Sink for WriteSink<W> {
 
     ghost faults = { λ sink. sink.faults };
 
-    /// A write that takes nothing of a piece that has bytes counts as a fault, and so does one whose
-    /// bytes cannot be counted any more.
+    /// A write that takes nothing of a piece that has bytes counts as a fault, and so does one
+    /// whose bytes cannot be counted any more.
     fn write(&mut self, piece: &[u8]) -> Result<usize, Failed> {
         if !has_room(self.unflushed, piece.len()) {
             return Err(fault(&mut self.faults));

@@ -12,7 +12,8 @@ option_rule name = record (new_rule name) { long = Some name; action = Some Set 
 
 -- a command with these options alone
 abbrev pub app_with : List Text → App
-app_with names = on_top (λ shape. record shape { disable_help_flag = true; rules = map option_rule names }) (new_app (codes "npos"))
+app_with names = on_top (λ shape. record shape { disable_help_flag = true; rules = map option_rule names })
+    (new_app (codes "npos"))
 
 -- clap finds these options, or none where there are none
 abbrev pub Finds : Option ArgMatches → Option (List Setting) → Type 0

@@ -12,8 +12,8 @@ joined_word setting = codes "--" ++ (setting.name ++ (codes "=" ++ setting.value
 abbrev pub flag_word : Setting → Text
 flag_word setting = codes "--" ++ setting.name
 
--- The words spell the settings, one behind the other: each as `--name=value`, or as `--name` and then the value, which
--- begins with no hyphen.
+-- The words spell the settings, one behind the other: each as `--name=value`, or as `--name` and
+-- then the value, which begins with no hyphen.
 abbrev pub Spell : List Text → List Setting → Type 0
 Spell words [] = words ≡ []
 Spell words (setting ∷ given) = (rest : List Text) × Spell rest given
@@ -29,7 +29,8 @@ AreApart (setting ∷ given) = (is_given given setting.name ≡ false) × AreApa
 abbrev pub IsName : Text → Type 0
 IsName name = (name ≢ []) × (list_any is_equals_sign name ≡ false)
 
--- Options are read from words exactly where the words spell them, each is one of the names, and none is given twice.
+-- Options are read from words exactly where the words spell them, each is one of the names, and
+-- none is given twice.
 abbrev pub ReadsWhatIsSpelled : Type 0
 ReadsWhatIsSpelled = (names words : List Text) (given : List Setting) → All IsName names
     → (options_of names words ≡ Some given)

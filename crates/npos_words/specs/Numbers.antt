@@ -13,4 +13,5 @@ is_within least most number = nat_le least number && nat_le number most
 -- the number that the text is, where it is one from the least to the most
 abbrev pub number_within : ℕ → ℕ → List ℕ → Option ℕ
 number_within least most text =
-    if is_number text && is_within least most (digits_value 10 text) then Some (digits_value 10 text) else None
+    if is_number text && is_within least most (digits_value 10 text) then Some (digits_value 10 text)
+    else None

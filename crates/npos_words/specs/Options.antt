@@ -30,8 +30,11 @@ begins_with_hyphen (first ∷ rest) = first == hyphen
 
 -- the name before the first `=`, and the value behind it where there is one
 abbrev pub name_and_value : Text → Text × Option Text
-name_and_value text =
-    (before_first is_equals_sign text, if list_any is_equals_sign text then Some (after_first is_equals_sign text) else None)
+name_and_value text = (
+  before_first is_equals_sign text,
+  if list_any is_equals_sign text
+      then Some (after_first is_equals_sign text) else None,
+)
 
 abbrev pub flag_text : Text → Option (Text × Option Text)
 flag_text [] = None
@@ -50,21 +53,28 @@ abbrev pub is_given : List Setting → Text → Bool
 is_given given name = list_any (λ setting. bytes_eq setting.name name) given
 
 -- One more option is one of these names, and was not given before; then the rest is read.
-abbrev pub with_setting : List Text → List Setting → Setting → (List Setting → Option (List Setting)) → Option (List Setting)
+abbrev pub with_setting : List Text → List Setting → Setting → (List Setting → Option (List Setting))
+    → Option (List Setting)
 with_setting names given setting rest =
-    if is_among names setting.name && not (is_given given setting.name) then rest (given ++ setting ∷ []) else None
+    if is_among names setting.name && not (is_given given setting.name) then rest (given ++ setting ∷ [])
+    else None
 
 -- A value that is a word of its own begins with no hyphen.
-abbrev pub with_next_word : List Text → List Setting → Text → Text → (List Setting → Option (List Setting)) → Option (List Setting)
+abbrev pub with_next_word : List Text → List Setting → Text → Text → (List Setting → Option (List Setting))
+    → Option (List Setting)
 with_next_word names given name word rest =
-    if begins_with_hyphen word then None else with_setting names given (record { name = name; value = word }) rest
+    if begins_with_hyphen word then None
+    else with_setting names given (record { name = name; value = word }) rest
 
 -- by the value that stands in the flag's own word, or else in the next one
-abbrev pub with_value : List Text → List Setting → Text → Option Text → (List Setting → Option (List Setting)) → Option (List Setting) → Option (List Setting)
-with_value names given name (Some value) rest apart = with_setting names given (record { name = name; value = value }) rest
+abbrev pub with_value : List Text → List Setting → Text → Option Text → (List Setting → Option (List Setting))
+    → Option (List Setting) → Option (List Setting)
+with_value names given name (Some value) rest apart = with_setting names given
+    (record { name = name; value = value }) rest
 with_value names given name None rest apart = apart
 
-abbrev pub with_flag : List Text → List Setting → Option (Text × Option Text) → (List Setting → Option (List Setting)) → (Text → Option (List Setting)) → Option (List Setting)
+abbrev pub with_flag : List Text → List Setting → Option (Text × Option Text)
+    → (List Setting → Option (List Setting)) → (Text → Option (List Setting)) → Option (List Setting)
 with_flag names given None rest apart = None
 with_flag names given (Some flag) rest apart = with_value names given flag.0 flag.1 rest (apart flag.0)
 
@@ -81,4 +91,5 @@ abbrev pub options_of : List Text → List Text → Option (List Setting)
 options_of names words = options_from names words []
 
 abbrev pub value_of : List Setting → Text → Option Text
-value_of given name = option_map (λ setting. setting.value) (find (λ setting. bytes_eq setting.name name) given)
+value_of given name =
+    option_map (λ setting. setting.value) (find (λ setting. bytes_eq setting.name name) given)

@@ -79,7 +79,8 @@ abbrev pub command_after : List Text → Option Command
 command_after [] = None
 command_after (verb ∷ words) = command_by verb words
 
--- The first word is the program's name, which is not looked at. The second is the verb. No word behind the first is bare.
+-- The first word is the program's name, which is not looked at. The second is the verb. No word
+-- behind the first is bare.
 abbrev pub command_of : List Text → Option Command
 command_of words = if list_any is_bare (drop 1 words) then None else command_after (drop 1 words)
 
@@ -104,5 +105,6 @@ has_verb words = begins_with_verb (drop 1 words) && not (list_any is_bare (drop 
 -- each number of a command is one that its option may have
 abbrev pub KeepsBounds : Option Command → Type 0
 KeepsBounds (Some (commands.Mine miner rounds)) = (1 ≤ rounds) × (rounds ≤ 100)
-KeepsBounds (Some (commands.Demo seed voters seats)) = (1 ≤ voters) × (voters ≤ 16384) × (1 ≤ seats) × (seats ≤ 512)
+KeepsBounds (Some (commands.Demo seed voters seats)) = (1 ≤ voters) × (voters ≤ 16384) × (1 ≤ seats)
+    × (seats ≤ 512)
 KeepsBounds command = ⊤

@@ -22,7 +22,8 @@ fn option_of<'a>(alloc: Global, name: &'a str) -> Arg<'a>
 /// A command of clap with these options, whose values are texts. It has no help and no version, and
 /// requires no option.
 fn command_with<'a>(alloc: Global, names: &[&'a str]) -> Result<clap::Command<'a>, NoMemory>
-    ensures { IfOk result (λ command. app_of command ≡ app_with (map (λ name. name.now) names.now)) }
+    ensures { IfOk result
+        (λ command. app_of command ≡ app_with (map (λ name. name.now) names.now)) }
 {
     let mut command = clap::Command::new(alloc, "npos").disable_help_flag(true);
     for name in names {

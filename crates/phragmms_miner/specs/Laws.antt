@@ -6,7 +6,8 @@ use Rattle.phragmms_miner.specs.Run.{IsRun}
 
 -- an election has at most one run, by the number of balancing rounds
 abbrev pub OneRun : Type 0
-OneRun = (snapshot : Snapshot) (rounds : ℕ) (one other : Weights) → IsRun snapshot rounds one → IsRun snapshot rounds other → one ≡ other
+OneRun = (snapshot : Snapshot) (rounds : ℕ) (one other : Weights) → IsRun snapshot rounds one
+    → IsRun snapshot rounds other → one ≡ other
 
 -- it has one whose weights are feasible, where there are enough targets
 abbrev pub AnyRun : Type 0

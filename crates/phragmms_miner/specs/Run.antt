@@ -1,4 +1,5 @@
--- The run of the miner: seat by seat the target outside with the greatest score joins, and the supports are balanced.
+-- The run of the miner: seat by seat the target outside with the greatest score joins, and the
+-- supports are balanced.
 use Rattle.std.specs.Prelude.{◌≡◌, ℕ, zero, suc, List, [], ◌∷◌, ◌++◌, length, take, slice_index_or}
 use Rattle.npos_base.specs.declared.figures.Edge.{Edge}
 use Rattle.election_snapshot.specs.Snapshot.{Snapshot}
@@ -7,13 +8,14 @@ use Rattle.support_balance.specs.Rounds.{GiveSame, IsBalanced, AreListed}
 use Rattle.phragmms_miner.specs.Scores.{IsBest}
 
 -- one seat more: the pick, and the rounds after it
-pub record IsSeated (snapshot : Snapshot) (rounds : ℕ) (committee : List ℕ) (before : List Edge) (pick : ℕ) (after : List Edge) : Type 0 where
+pub record IsSeated (snapshot : Snapshot) (rounds : ℕ) (committee : List ℕ) (before : List Edge) (pick : ℕ)
+    (after : List Edge) : Type 0 where
   pub best : IsBest snapshot committee before pick
   pub made : ℕ
   pub balanced : IsBalanced snapshot (committee ++ pick ∷ []) rounds made before after
 
--- Edges after so many picks. Those between follow the nominations too, so that what they leave to each voter is told by
--- what they give.
+-- Edges after so many picks. Those between follow the nominations too, so that what they leave to
+-- each voter is told by what they give.
 abbrev pub AreSeated : Snapshot → ℕ → List ℕ → ℕ → List Edge → Type 0
 AreSeated snapshot rounds picks zero edges = edges ≡ []
 AreSeated snapshot rounds picks (suc seat) edges =

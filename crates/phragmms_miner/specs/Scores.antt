@@ -1,5 +1,5 @@
--- The score of a target, after Cevallos and Stewart, in whole numbers: the greatest price of a seat that its nominators
--- could still pay with what they would have left at that price.
+-- The score of a target, after Cevallos and Stewart, in whole numbers: the greatest price of a seat
+-- that its nominators could still pay with what they would have left at that price.
 use Rattle.std.specs.Prelude.{ℕ, zero, suc, ◌<◌, ◌≤◌, IsFalse, nat_le, if◌then◌else◌, List, length}
 use Rattle.npos_base.specs.declared.figures.Edge.{Edge}
 use Rattle.election_snapshot.specs.Snapshot.{Snapshot, has, total_stake}
@@ -8,7 +8,8 @@ use Rattle.weight_book.specs.Passing.{prescore}
 -- the greatest number up to the most that is not above its value
 abbrev pub greatest : (ℕ → ℕ) → ℕ → ℕ
 greatest value zero = 0
-greatest value (suc number) = if nat_le (suc number) (value (suc number)) then suc number else greatest value number
+greatest value (suc number) = if nat_le (suc number) (value (suc number)) then suc number
+    else greatest value number
 
 abbrev pub score : Snapshot → List Edge → ℕ → ℕ
 score snapshot edges target = greatest (λ price. prescore price snapshot edges target) (total_stake snapshot)

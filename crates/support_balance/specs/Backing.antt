@@ -18,7 +18,8 @@ abbrev pub above_zero : List Edge → List Edge
 above_zero edges = filter (λ edge. nat_lt 0 edge.amount) edges
 
 -- how a backing is kept
-pub record IsKept (snapshot : Snapshot) (slots : List Edge) (members : List ℕ) (is_member : List Bool) (edges : List Edge)
+pub record IsKept (snapshot : Snapshot) (slots : List Edge) (members : List ℕ) (is_member : List Bool)
+    (edges : List Edge)
     (supports : List ℕ) : Type 0 where
   pub formed : IsWellFormed snapshot
   pub slots_are : AreSlots snapshot (length snapshot.voters) slots

@@ -1,5 +1,5 @@
--- The level of a turn over the members' bases, which are their supports without the voter's own amounts: all up to a
--- height, and some first ones a unit above it.
+-- The level of a turn over the members' bases, which are their supports without the voter's own
+-- amounts: all up to a height, and some first ones a unit above it.
 use Rattle.std.specs.Prelude.{◌≡◌, ℕ, ◌+◌, ◌*◌, ◌-◌, ◌<◌, min, nat_le, if◌then◌else◌, List, [], ◌∷◌, length, filter, map, sum, slice_index_or}
 use Rattle.npos_base.specs.declared.figures.Edge.{Edge}
 

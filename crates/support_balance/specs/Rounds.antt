@@ -13,7 +13,8 @@ GiveSame old new = (voter target : ℕ) → given new voter target ≡ given old
 abbrev pub AreTurns : Snapshot → List ℕ → ℕ → List Edge → List Edge → Type 0
 AreTurns snapshot committee zero old new = GiveSame old new
 AreTurns snapshot committee (suc voter) old new =
-    (before : List Edge) × AreTurns snapshot committee voter old before × IsTurn snapshot committee voter before new
+    (before : List Edge) × AreTurns snapshot committee voter old before
+    × IsTurn snapshot committee voter before new
 
 abbrev pub IsRound : Snapshot → List ℕ → List Edge → List Edge → Type 0
 IsRound snapshot committee old new = AreTurns snapshot committee (length snapshot.voters) old new
@@ -22,17 +23,20 @@ IsRound snapshot committee old new = AreTurns snapshot committee (length snapsho
 abbrev pub AreRounds : Snapshot → List ℕ → ℕ → List Edge → List Edge → Type 0
 AreRounds snapshot committee zero old new = GiveSame old new
 AreRounds snapshot committee (suc made) old new =
-    (before : List Edge) × AreRounds snapshot committee made old before × IsRound snapshot committee before new
+    (before : List Edge) × AreRounds snapshot committee made old before
+    × IsRound snapshot committee before new
     × (GiveSame before new → ⊥)
 
 -- a last round that changes nothing
 abbrev pub IsSettled : Snapshot → List ℕ → ℕ → List Edge → List Edge → Type 0
 IsSettled snapshot committee made old new =
-    (earlier : ℕ) × (before : List Edge) × (made ≡ earlier + 1) × AreRounds snapshot committee earlier old before
+    (earlier : ℕ) × (before : List Edge) × (made ≡ earlier + 1)
+    × AreRounds snapshot committee earlier old before
     × IsRound snapshot committee before new × GiveSame before new
 
 -- rounds until one changes nothing or the asked number is made
-pub record IsBalanced (snapshot : Snapshot) (committee : List ℕ) (asked made : ℕ) (old new : List Edge) : Type 0 where
+pub record IsBalanced (snapshot : Snapshot) (committee : List ℕ) (asked made : ℕ)
+    (old new : List Edge) : Type 0 where
   pub after : List Edge
   pub no_more : made ≤ asked
   pub rounds : (AreRounds snapshot committee made old after × (made ≡ asked))

@@ -19,8 +19,10 @@ pub record IsRow (supports : List ℕ) (row : List Edge) : Type 0 where
 -- the same edges but for their amounts
 pub record AreAlike (old new : List Edge) : Type 0 where
   pub count : length new ≡ length old
-  pub voters : (k : ℕ) (d : Edge) → k < length old → (slice_index_or new k d).voter ≡ (slice_index_or old k d).voter
-  pub targets : (k : ℕ) (d : Edge) → k < length old → (slice_index_or new k d).target ≡ (slice_index_or old k d).target
+  pub voters : (k : ℕ) (d : Edge) → k < length old
+      → (slice_index_or new k d).voter ≡ (slice_index_or old k d).voter
+  pub targets : (k : ℕ) (d : Edge) → k < length old
+      → (slice_index_or new k d).target ≡ (slice_index_or old k d).target
 
 abbrev pub amounts : List Edge → List ℕ
 amounts row = map (λ edge. edge.amount) row
@@ -34,10 +36,12 @@ differs (old ∷ olds) (new ∷ news) = not (nat_eq new old) || differs olds new
 -- the table follows the amounts
 pub record AreMoved (old new : List Edge) (supports after : List ℕ) : Type 0 where
   pub count : length after ≡ length supports
-  pub moved : (target : ℕ) → at after target + amount_sum (edges_to old target) ≡ at supports target + amount_sum (edges_to new target)
+  pub moved : (target : ℕ) → at after target + amount_sum (edges_to old target)
+      ≡ at supports target + amount_sum (edges_to new target)
 
 -- the stake is given whole, and no unit could lie lower
 pub record IsEven (stake : ℕ) (row : List Edge) (supports : List ℕ) : Type 0 where
   pub whole : amount_sum row ≡ stake
-  pub level : (i j : ℕ) (d : Edge) → i < length row → j < length row → i ≢ j → 0 < (slice_index_or row i d).amount
+  pub level : (i j : ℕ) (d : Edge) → i < length row → j < length row → i ≢ j
+      → 0 < (slice_index_or row i d).amount
       → LiesLow (at supports) (slice_index_or row i d).target (slice_index_or row j d).target

@@ -37,7 +37,8 @@ slot_of voter target = record { voter = voter; target = target; amount = 0 }
 
 abbrev pub IsOldOrNew : Snapshot → ℕ → List Edge → Edge → Type 0
 IsOldOrNew snapshot target edges edge = (has_pair edges edge ≡ true)
-    ⊎ ((edge.voter < length snapshot.voters) × (nominates snapshot edge.voter target ≡ true) × (edge.target ≡ target))
+    ⊎ ((edge.voter < length snapshot.voters) × (nominates snapshot edge.voter target ≡ true)
+    × (edge.target ≡ target))
 
 -- the edges, with one of amount 0 from each voter that nominates the target
 pub record IsJoined (snapshot : Snapshot) (target : ℕ) (edges joined : List Edge) : Type 0 where
