@@ -3,6 +3,7 @@ ghost use Rattle.std.specs.Prelude.{◌≡◌, ◌++◌, [], ◌∷◌, ◌<◌,
 ghost use Rattle.election_snapshot.specs.Draft.{target_fault, with_target};
 ghost use Rattle.demo_election.specs.Generated.{state_after, targets_of, voter_from, voters_of, votes_round, generated};
 ghost use Rattle.demo_election.specs.Begun.{IsBegun};
+ghost use Rattle.npos_base.specs.declared.limits.TheConstants.{MOST_SEATS, MOST_TARGETS, MOST_VOTERS};
 
 use crate::generator::draw;
 use election_snapshot::{Snapshot, SnapshotFault, SnapshotParts};
@@ -29,7 +30,7 @@ fn add_target(parts: &mut SnapshotParts, who: AccountId) -> Result<(), NoMemory>
 /// So many targets.
 #[tactic(auto, using(crate::proofs::DraftLemmas::target_is_free, crate::proofs::DraftLemmas::targets_more))]
 fn with_targets(alloc: Global, count: u32) -> Result<SnapshotParts, NoMemory>
-    requires { count ≤ 2048 }
+    requires { count ≤ MOST_TARGETS }
     ensures { IfOk result (λ parts. parts ≡ record { targets = targets_of count; voters = [] }) }
 {
     let mut parts = SnapshotParts::new(alloc);
@@ -46,7 +47,7 @@ fn with_targets(alloc: Global, count: u32) -> Result<SnapshotParts, NoMemory>
 /// Puts down so many votes from the first on, and from the last target on to target 0.
 #[tactic(auto, using(crate::proofs::VoteLemmas::votes_more))]
 fn put_votes(votes: &mut Vec<u16>, targets: u32, first: u32, count: u32) -> Result<(), NoMemory>
-    requires few { targets ≤ 2048 }
+    requires few { targets ≤ MOST_TARGETS }
     requires first { first < targets }
     requires count { count ≤ targets }
     ensures { OnOk result (votes.new.items ≡ votes_round targets first count) }
@@ -68,7 +69,7 @@ fn add_voter(
     place: u32,
 ) -> Result<(), NoMemory>
     requires begun { IsBegun targets place parts.old }
-    requires few { place < 16384 }
+    requires few { place < MOST_VOTERS }
     ensures voter { OnOk result (parts.new ≡ record {
       targets = parts.old.targets;
       voters = parts.old.voters ++ voter_from targets state.old place ∷ [];
@@ -98,8 +99,8 @@ fn add_voters(
 ) -> Result<(), NoMemory>
     requires begun { parts.old ≡ record { targets = targets_of targets; voters = [] } }
     requires some { 1 ≤ targets }
-    requires few { targets ≤ 2048 }
-    requires few_voters { count ≤ 16384 }
+    requires few { targets ≤ MOST_TARGETS }
+    requires few_voters { count ≤ MOST_VOTERS }
     ensures { OnOk result (parts.new
         ≡ record { targets = targets_of targets; voters = voters_of seed targets count }) }
 {
@@ -116,9 +117,9 @@ fn add_voters(
 #[tactic(auto, using(crate::proofs::DraftLemmas::seats_stand))]
 pub fn generated(alloc: Global, seed: u64, voters: u32, seats: u32) -> Result<Snapshot, NoMemory>
     requires some_voters { 1 ≤ voters }
-    requires few_voters { voters ≤ 16384 }
+    requires few_voters { voters ≤ MOST_VOTERS }
     requires some_seats { 1 ≤ seats }
-    requires few_seats { seats ≤ 512 }
+    requires few_seats { seats ≤ MOST_SEATS }
     ensures { IfOk result (λ snapshot. snapshot ≡ generated seed voters seats) }
 {
     let targets = TARGETS_A_SEAT * seats;

@@ -1,5 +1,6 @@
 -- What was read of an input so far, while more of it may come.
 use Rattle.std.specs.Prelude.{◌≡◌, ◌⊎◌, ⊤, ℕ, ◌≤◌, Bool, true, false, List, [], ◌++◌, length, Option, Result, Ok, Err}
+use Rattle.npos_cli.specs.declared.pieces.TheConstants.{PIECE}
 use Rattle.npos_base.specs.Outside.{IsAtEnd}
 use Rattle.scale_wire.specs.declared.fault.WireFault.{WireFault}
 use Rattle.scale_wire.specs.declared.fault.Why.{Why}
@@ -40,7 +41,7 @@ Feeds left taken old new (Err other) = ⊥
 
 -- one read, of at most one piece
 abbrev pub FeedsMore : Option (List ℕ) → Option (List ℕ) → Place → Place → Result Bool Status → Type 0
-FeedsMore left now old new result = (taken : List ℕ) × LeftAfter left now taken × (length taken ≤ 65536) × Feeds left taken old new result
+FeedsMore left now old new result = (taken : List ℕ) × LeftAfter left now taken × (length taken ≤ PIECE) × Feeds left taken old new result
 
 -- a genesis is cut here: bytes of it are missing
 abbrev pub CutsGenesis : List ℕ → Type 0
@@ -48,7 +49,7 @@ CutsGenesis bytes = (at : ℕ) × genesis_form.bad bytes at Short
 
 -- without the last piece, bytes of the genesis are missing
 abbrev pub AwaitsGenesis : List ℕ → Type 0
-AwaitsGenesis taken = (earlier : List ℕ) × (last : List ℕ) × (taken ≡ earlier ++ last) × (length last ≤ 65536) × CutsGenesis earlier
+AwaitsGenesis taken = (earlier : List ℕ) × (last : List ℕ) × (taken ≡ earlier ++ last) × (length last ≤ PIECE) × CutsGenesis earlier
 
 -- The genesis of an input was read, or is refused whatever may follow; or a read failed where it is cut, or memory ran
 -- out.

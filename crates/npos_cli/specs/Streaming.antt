@@ -1,5 +1,6 @@
 -- How far a replay has come that reads piece by piece and writes block by block, and how it ends.
 use Rattle.std.specs.Prelude.{◌≡◌, ◌⊎◌, ⊤, ℕ, ◌-◌, ◌≤◌, Bool, false, List, [], ◌++◌, length, take, Option, Some, Result, Ok, Err}
+use Rattle.npos_cli.specs.declared.pieces.TheConstants.{PIECE}
 use Rattle.npos_base.specs.Outside.{Told, Appends}
 use Rattle.npos_runtime.specs.declared.chain.Chain.{Chain}
 use Rattle.npos_cli.specs.declared.job.Job.TheVariants as jobs
@@ -89,7 +90,7 @@ HaltedReading left now old new =
 
 -- what was written begins with the text of the whole blocks of all these bytes but the last 65,536
 abbrev pub HasWritten : List ℕ → List ℕ → Type 0
-HasWritten taken written = (text : List ℕ) → IsWhole npos_machine (take (length taken - 65536) taken) text → IsFront text written
+HasWritten taken written = (text : List ℕ) → IsWhole npos_machine (take (length taken - PIECE) taken) text → IsFront text written
 
 -- a write or the flush failed
 abbrev pub HaltedWriting : Option (List ℕ) → Option (List ℕ) → Option Told → Option Told → Type 0
@@ -108,5 +109,5 @@ pub record ReadsWhile (left now : Option (List ℕ)) : Type 0 where
   pub last : List ℕ
   pub text : List ℕ
   pub taken : LeftAfter left now (earlier ++ last)
-  pub one_piece : length last ≤ 65536
+  pub one_piece : length last ≤ PIECE
   pub unsure : IsUndecided npos_machine earlier text

@@ -1,5 +1,6 @@
 -- What the reader of a stream does at one place, and until the end.
 use Rattle.std.specs.Prelude.{◌≡◌, ◌⊎◌, ◌<◌, ⊤, ℕ, ◌+◌, ◌*◌, ◌^◌, ◌≤◌, Bool, true, false, List, [], ◌++◌, length, Option, None, Result, Ok, Err}
+use Rattle.npos_cli.specs.declared.pieces.TheConstants.{PIECE}
 use Rattle.scale_wire.specs.declared.fault.Why.TheVariants.{Short, Trailing}
 use Rattle.npos_base.specs.Outside.{Told, Appends}
 use Rattle.scale_wire.specs.Reading.{Place}
@@ -87,6 +88,6 @@ pub record KeepsUp {G B S E : Type 0} (m : Machine G B S E) (taken written : Lis
   pub last : List ℕ
   pub text : List ℕ
   pub split : taken ≡ earlier ++ last
-  pub one_piece : length last ≤ 65536
+  pub one_piece : length last ≤ PIECE
   pub unsure : IsUndecided m earlier text
   pub before : IsFront text written

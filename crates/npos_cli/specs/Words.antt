@@ -1,5 +1,6 @@
 -- The words of a call of the program: the job that they ask for, and what is written where they ask for none.
 use Rattle.std.specs.Prelude.{⊤, ℕ, ◌≤◌, List, ◌++◌, codes, Option, Some, None, option_map, IsSome}
+use Rattle.npos_base.specs.declared.limits.TheConstants.{MOST_SEATS, MOST_VOTERS}
 use Rattle.npos_words.specs.declared.command.Command.{Command}
 use Rattle.npos_words.specs.declared.command.Command.TheVariants as commands
 use Rattle.npos_words.specs.declared.command.Miner.{Miner as named_miner}
@@ -51,7 +52,8 @@ KeepsBounds None = ⊤
 KeepsBounds (Some jobs.Replay) = ⊤
 KeepsBounds (Some (jobs.OnBundle task)) = TaskHasRounds task
 KeepsBounds (Some (jobs.Rewrite way)) = ⊤
-KeepsBounds (Some (jobs.Demo seed voters seats)) = (1 ≤ voters) × (voters ≤ 16384) × (1 ≤ seats) × (seats ≤ 512)
+KeepsBounds (Some (jobs.Demo seed voters seats)) = (1 ≤ voters) × (voters ≤ MOST_VOTERS)
+    × (1 ≤ seats) × (seats ≤ MOST_SEATS)
 
 abbrev pub usage_line : List ℕ
 usage_line = codes "usage: npos replay|check|mine|pack|show|demo" ++ newline

@@ -1,5 +1,6 @@
 //! What `demo` makes of a generated election.
 ghost use Rattle.std.specs.Prelude.{◌≡◌, ◌++◌, ◌≤◌, ℕ, None, Result as result_of, List as list, IfOk, OnOk};
+ghost use Rattle.npos_base.specs.declared.limits.TheConstants.{MOST_SEATS, MOST_VOTERS};
 ghost use Rattle.compact_solution.specs.Solution.{Entry as entry};
 ghost use Rattle.weight_book.specs.Weights.{IsFeasible};
 ghost use Rattle.election_check.specs.Packed.{expand_fault};
@@ -81,9 +82,9 @@ fn tell_election(alloc: Global, text: &mut Vec<u8>, snapshot: Snapshot) -> Resul
 /// The text on the election that a seed generates.
 pub fn demo_text(alloc: Global, seed: u64, voters: u32, seats: u32) -> Result<Vec<u8>, NoMemory>
     requires some_voters { 1 ≤ voters }
-    requires few_voters { voters ≤ 16384 }
+    requires few_voters { voters ≤ MOST_VOTERS }
     requires some_seats { 1 ≤ seats }
-    requires few_seats { seats ≤ 512 }
+    requires few_seats { seats ≤ MOST_SEATS }
     ensures { IfOk result (λ text. text.items ≡ (demo_report seed voters seats).text) }
 {
     let snapshot = generated(alloc, seed, voters, seats)?;

@@ -1,5 +1,6 @@
 //! An input that is read by pieces.
 ghost use Rattle.std.specs.Prelude.{◌≡◌, ◌+◌, ◌<◌, ◌≤◌, ◌^◌, false, length, vec_len, IfOk};
+ghost use Rattle.npos_cli.specs.declared.pieces.TheConstants.{PIECE};
 ghost use Rattle.npos_cli.specs.Owed.{HaltsWell, TakesMore};
 ghost use Rattle.npos_cli.specs.Ahead.{FeedsMore};
 
@@ -53,8 +54,8 @@ pub fn read_piece<S: Source>(
     reader: &mut StreamReader,
 ) -> Result<bool, Status>
     requires some { 0 < length piece.old }
-    requires one_piece { length piece.old ≤ 65536 }
-    requires room { reader.old.at + length reader.old.rest + 65536 < 2 ^ 64 }
+    requires one_piece { length piece.old ≤ PIECE }
+    requires room { reader.old.at + length reader.old.rest + PIECE < 2 ^ 64 }
     ensures feeds { FeedsMore (S.left source.old) (S.left source.new) reader.old reader.new result }
     ensures further { IfOk result (λ ended. ended ≡ false
         → length reader.old.rest < length reader.new.rest) }

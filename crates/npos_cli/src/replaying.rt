@@ -1,6 +1,7 @@
 //! The replay of a stream: a genesis, and then a turn for each block until one is the last. It reads
 //! piece by piece, and writes the lines of each block before it reads again.
 ghost use Rattle.std.specs.Prelude.{◌≡◌, ◌+◌, ◌<◌, ◌≤◌, ℕ, List, Some, Ok, [], ◌∷◌, true, false, length, IfOk, IsTrue, ◌↔◌};
+ghost use Rattle.npos_cli.specs.declared.pieces.TheConstants.{PIECE};
 ghost use Rattle.stake_ledger.specs.Ledger.{totals_of};
 ghost use Rattle.npos_base.specs.Outside.{Appends};
 ghost use Rattle.npos_cli.specs.declared.job.Job.TheVariants as jobs;
@@ -133,7 +134,7 @@ fn take_all<S: Source, K: Sink>(
 ) -> Result<bool, Status>
     requires unspent { runtime.old.spent ≡ false }
     requires some { 0 < length piece.old }
-    requires one_piece { length piece.old ≤ 65536 }
+    requires one_piece { length piece.old ≤ PIECE }
     requires near { IsNear (spot reader.old runtime.old.state) }
     ensures runs { RunsOn (S.left source.old) (S.left source.new) (K.told sink.old)
         (K.told sink.new) (spot reader.old runtime.old.state) text.new.items result }
@@ -157,7 +158,7 @@ fn take_genesis<S: Source>(
 ) -> Result<Result<Genesis, WireFault>, Status>
     requires fresh { reader.old ≡ first_place [] }
     requires some { 0 < length piece.old }
-    requires one_piece { length piece.old ≤ 65536 }
+    requires one_piece { length piece.old ≤ PIECE }
     ensures begins { Begins (S.left source.old) (S.left source.new) reader.new result }
     ensures halts { HaltsWell (S.faults source.old) (S.faults source.new) result }
 {

@@ -1,6 +1,7 @@
 -- The snapshot of a round: who stands, who votes, and for whom, as roles, bags and active stakes are at that moment.
 use Rattle.std.specs.Prelude.{ℕ, Bool, List, [], ◌∷◌, map, filter, filter_map, take, length, Option, Some, None, nat_lt, ◌&&◌}
 use Rattle.npos_base.specs.declared.account.AccountId.{AccountId}
+use Rattle.npos_base.specs.declared.limits.TheConstants.{MOST_VOTERS}
 use Rattle.block_wire.specs.declared.genesis.Params.{Params}
 use Rattle.stake_ledger.specs.Ledger.{row_at}
 use Rattle.voter_lists.specs.declared.standing.Role.{Role}
@@ -33,7 +34,7 @@ is_eligible chain who = nat_lt 0 (active_of chain who) && nat_lt 0 (length (vote
 
 -- the first 16,384 eligible accounts of the walk over the bags
 abbrev pub electorate : Chain → List AccountId
-electorate chain = take 16384 (filter (is_eligible chain) (walk chain.bags.order))
+electorate chain = take MOST_VOTERS (filter (is_eligible chain) (walk chain.bags.order))
 
 abbrev pub voter_of : Chain → AccountId → Voter
 voter_of chain who = record { account = who; stake = active_of chain who; votes = votes_of chain.roles who }

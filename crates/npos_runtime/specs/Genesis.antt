@@ -3,6 +3,7 @@ use Rattle.std.specs.Prelude.{◌≡◌, ◌⊎◌, ℕ, ◌+◌, Bool, List, []
 use Rattle.std.specs.List.{list_any}
 use Rattle.std.specs.Option.{option_or}
 use Rattle.npos_base.specs.declared.account.AccountId.{AccountId}
+use Rattle.npos_base.specs.declared.limits.TheConstants.{MOST_PAST_ERAS, MOST_QUEUED, MOST_SEATS, MOST_SOLUTION_BYTES}
 use Rattle.npos_base.specs.Account.{same_account}
 use Rattle.block_wire.specs.declared.genesis.Endowment.{Endowment}
 use Rattle.block_wire.specs.declared.genesis.Params.{Params}
@@ -65,16 +66,16 @@ phases_fit params = nat_le 1 params.offset && nat_le 1 params.signed && nat_lt (
 
 abbrev pub numbers_fault : Params → Option GenesisFault
 numbers_fault params =
-    if not (is_within 1 512 params.seats) then Some (BadSeats params.seats)
+    if not (is_within 1 MOST_SEATS params.seats) then Some (BadSeats params.seats)
     else if not (phases_fit params) then Some (BadPhases params.era_blocks)
-    else if not (is_within 1 84 params.bonding_eras) then Some (BadBonding params.bonding_eras)
+    else if not (is_within 1 MOST_PAST_ERAS params.bonding_eras) then Some (BadBonding params.bonding_eras)
     else if params.least_bond == 0 then Some BadMinimum
     else None
 
 abbrev pub limits_fault : Params → Option GenesisFault
 limits_fault params =
-    if not (is_within 1 16 params.queue) then Some (BadQueue params.queue)
-    else if not (is_within 1 2097152 params.solution_max) then Some (BadSolutionMax params.solution_max)
+    if not (is_within 1 MOST_QUEUED params.queue) then Some (BadQueue params.queue)
+    else if not (is_within 1 MOST_SOLUTION_BYTES params.solution_max) then Some (BadSolutionMax params.solution_max)
     else None
 
 abbrev pub params_fault : Params → Option GenesisFault

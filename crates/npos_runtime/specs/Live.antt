@@ -1,7 +1,7 @@
 -- What holds of a chain, besides what its parts keep.
 use Rattle.std.specs.Prelude.{◌≡◌, ℕ, ◌+◌, ◌-◌, ◌*◌, ◌^◌, ◌≤◌, false, All, List, count_by, length, Option, Some, None}
 use Rattle.npos_base.specs.declared.account.AccountId.{AccountId}
-use Rattle.npos_base.specs.declared.limits.TheConstants.{WHOLE_FRACTION}
+use Rattle.npos_base.specs.declared.limits.TheConstants.{MOST_NOMINATIONS, WHOLE_FRACTION}
 use Rattle.block_wire.specs.declared.genesis.Params.{Params}
 use Rattle.stake_ledger.specs.Ledger.{row_at, IsBalanced}
 use Rattle.npos_runtime.specs.declared.chain.Chain.{Chain}
@@ -43,9 +43,9 @@ pub record IsListing (roles : RoleList) (listing : Listing) : Type 0 where
   pub once : IsOnce (walk listing.order)
   pub numbered : All (λ entry. entry.1 ≤ length listing.thresholds) listing.order
 
--- at most 16 targets, none of them twice
+-- as many targets as one may name at most, none of them twice
 pub record IsNomination (targets : List AccountId) : Type 0 where
-  pub few : length targets ≤ 16
+  pub few : length targets ≤ MOST_NOMINATIONS
   pub distinct : has_repeat targets ≡ false
 
 -- a round that is open has a well-formed snapshot

@@ -1,6 +1,7 @@
 -- The walk over the bags for a snapshot: what is there of it already, and what is ahead.
 use Rattle.std.specs.Prelude.{◌≡◌, ◌-◌, ◌≤◌, List, ◌++◌, map, filter, take, length, if◌then◌else◌}
 use Rattle.npos_base.specs.declared.account.AccountId.{AccountId}
+use Rattle.npos_base.specs.declared.limits.TheConstants.{MOST_VOTERS}
 use Rattle.voter_lists.specs.Roles.{validators_of}
 use Rattle.election_snapshot.specs.Draft.{Draft, accounts_of, with_voter}
 use Rattle.npos_runtime.specs.declared.chain.Chain.{Chain}
@@ -16,6 +17,6 @@ polled chain draft who =
 pub record IsPolled (chain : Chain) (draft : Draft) (ahead : List AccountId) : Type 0 where
   pub targets : draft.targets ≡ validators_of chain.roles
   pub voters : draft.voters ≡ map (voter_of chain) (accounts_of draft.voters)
-  pub few : length draft.voters ≤ 16384
+  pub few : length draft.voters ≤ MOST_VOTERS
   pub once : IsOnce (accounts_of draft.voters ++ ahead)
-  pub rest : accounts_of draft.voters ++ take (16384 - length draft.voters) (filter (is_eligible chain) ahead) ≡ electorate chain
+  pub rest : accounts_of draft.voters ++ take (MOST_VOTERS - length draft.voters) (filter (is_eligible chain) ahead) ≡ electorate chain

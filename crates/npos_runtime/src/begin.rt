@@ -1,5 +1,6 @@
 //! How a chain starts from a genesis.
 ghost use Rattle.std.specs.Prelude.{◌≡◌, ◌≤◌, List, [], length, None, Some, OnOk, IfOk, IfErr};
+ghost use Rattle.npos_base.specs.declared.limits.TheConstants.{MOST_ENDOWMENTS, MOST_THRESHOLDS};
 ghost use Rattle.stake_ledger.specs.Ledger.{empty_ledger};
 ghost use Rattle.stake_ledger.specs.Calls.{endowed};
 ghost use Rattle.npos_runtime.specs.Genesis.{genesis_fault, genesis_chain, endowment_fault, opening_fault, endowed_all, threshold_fault, numbers_fault, limits_fault, params_fault, phases_fit, is_within, fault_numbers, IsFault, endowments_of, thresholds_of};
@@ -11,7 +12,9 @@ use crate::Chain;
 use crate::rules::places_of;
 use block_wire::{Endowment, Genesis, Params};
 use era_book::EraBook;
-use npos_base::{List, NoMemory};
+use npos_base::{
+    List, MOST_PAST_ERAS, MOST_QUEUED, MOST_SEATS, MOST_SOLUTION_BYTES, NoMemory,
+};
 use stake_ledger::{Book, LedgerRefusal};
 use std::alloc::Global;
 use submission_queue::Queue;
@@ -110,7 +113,7 @@ fn endow(book: &mut Book, place: u32, endowment: Endowment) -> Result<(), Genesi
 #[tactic(auto, using(crate::proofs::EndowLemmas::fault_ahead, crate::proofs::EndowLemmas::opened_more, crate::proofs::EndowLemmas::all_opened))]
 fn endow_all(book: &mut Book, endowments: &[Endowment]) -> Result<(), GenesisFault>
     requires unopened { book.old ≡ empty_ledger }
-    requires few { length endowments.now ≤ 65536 }
+    requires few { length endowments.now ≤ MOST_ENDOWMENTS }
     ensures ok { OnOk result ((endowment_fault [] endowments.now ≡ None)
         × (book.new ≡ endowed_all endowments.now book.old)) }
     ensures refused { IfErr result (IsFault (endowment_fault [] endowments.now)) }
@@ -123,7 +126,7 @@ fn endow_all(book: &mut Book, endowments: &[Endowment]) -> Result<(), GenesisFau
 
 /// Whether each threshold is above the one before it, and the first above 0.
 fn check_thresholds(thresholds: &[u64]) -> Result<(), GenesisFault>
-    requires { length thresholds.now ≤ 200 }
+    requires { length thresholds.now ≤ MOST_THRESHOLDS }
     ensures ok { OnOk result (threshold_fault 0 0 thresholds.now ≡ None) }
     ensures refused { IfErr result (λ fault. threshold_fault 0 0 thresholds.now ≡ Some fault) }
 {
@@ -151,13 +154,13 @@ fn check_numbers(params: &Params) -> Result<(), GenesisFault>
     ensures ok { OnOk result (numbers_fault params.now ≡ None) }
     ensures refused { IfErr result (λ fault. numbers_fault params.now ≡ Some fault) }
 {
-    if !(1..=512).contains(&params.seats) {
+    if !(1..=MOST_SEATS).contains(&params.seats) {
         return Err(GenesisFault::BadSeats(params.seats));
     }
     if !phases_fit(params) {
         return Err(GenesisFault::BadPhases(params.era_blocks));
     }
-    if !(1..=84).contains(&params.bonding_eras) {
+    if !(1..=MOST_PAST_ERAS).contains(&params.bonding_eras) {
         return Err(GenesisFault::BadBonding(params.bonding_eras));
     }
     if params.least_bond == 0 {
@@ -171,10 +174,10 @@ fn check_limits(params: &Params) -> Result<(), GenesisFault>
     ensures ok { OnOk result (limits_fault params.now ≡ None) }
     ensures refused { IfErr result (λ fault. limits_fault params.now ≡ Some fault) }
 {
-    if !(1..=16).contains(&params.queue) {
+    if !(1..=MOST_QUEUED).contains(&params.queue) {
         return Err(GenesisFault::BadQueue(params.queue));
     }
-    if !(1..=2_097_152).contains(&params.solution_max) {
+    if !(1..=MOST_SOLUTION_BYTES).contains(&params.solution_max) {
         return Err(GenesisFault::BadSolutionMax(params.solution_max));
     }
     Ok(())
@@ -182,7 +185,7 @@ fn check_limits(params: &Params) -> Result<(), GenesisFault>
 
 #[tactic(auto, using(crate::proofs::FaultLemmas::fault_first, crate::proofs::FaultLemmas::fault_then, crate::proofs::FaultLemmas::no_fault))]
 fn check_params(params: &Params) -> Result<(), GenesisFault>
-    requires { length params.now.thresholds ≤ 200 }
+    requires { length params.now.thresholds ≤ MOST_THRESHOLDS }
     ensures ok { OnOk result (params_fault params.now ≡ None) }
     ensures refused { IfErr result (λ fault. params_fault params.now ≡ Some fault) }
 {
@@ -207,7 +210,7 @@ fn copy_thresholds(alloc: Global, params: &Option<Params>) -> Result<List<u64>, 
 /// Bags with nobody in them, between the thresholds of the params.
 fn empty_bags(alloc: Global, params: &Option<Params>) -> Result<Bags, NoMemory>
     requires sound { AreSound params.now }
-    requires few { length (thresholds_in params.now) ≤ 200 }
+    requires few { length (thresholds_in params.now) ≤ MOST_THRESHOLDS }
     ensures { IfOk result (λ bags. bags
         ≡ record { thresholds = thresholds_in params.now; order = [] }) }
 {
@@ -218,8 +221,8 @@ fn empty_bags(alloc: Global, params: &Option<Params>) -> Result<Bags, NoMemory>
 /// The chain that starts from a genesis, or the first fault that the genesis has.
 #[tactic(auto, using(crate::proofs::FaultLemmas::is_first, crate::proofs::FaultLemmas::is_then, crate::proofs::FaultLemmas::no_fault))]
 pub fn begin(alloc: Global, genesis: Genesis) -> Result<Chain, GenesisFault>
-    requires few_endowments { length (endowments_of genesis) ≤ 65536 }
-    requires few_thresholds { length (thresholds_of genesis) ≤ 200 }
+    requires few_endowments { length (endowments_of genesis) ≤ MOST_ENDOWMENTS }
+    requires few_thresholds { length (thresholds_of genesis) ≤ MOST_THRESHOLDS }
     ensures ok { IfOk result (λ chain. (genesis_fault genesis ≡ None)
         × (chain ≡ genesis_chain genesis)) }
     ensures refused { IfErr result (IsFault (genesis_fault genesis)) }

@@ -1,5 +1,6 @@
 //! The chain as its users hold it.
 ghost use Rattle.std.specs.Prelude.{◌≡◌, ◌≢◌, ◌<◌, ◌≤◌, ◌^◌, true, false, length, None, Err, OnOk, IfOk, IfErr};
+ghost use Rattle.npos_base.specs.declared.limits.TheConstants.{MOST_ENDOWMENTS, MOST_THRESHOLDS};
 ghost use Rattle.stake_ledger.specs.Ledger.{IsBalanced, totals_of};
 ghost use Rattle.npos_runtime.specs.Genesis.{IsFault, endowments_of, genesis_chain, genesis_fault, thresholds_of};
 ghost use Rattle.std.specs.Option.{option_copied};
@@ -78,8 +79,8 @@ impl Runtime {
     /// The chain of a genesis, or the first fault that the genesis has.
     #[tactic(auto, using(crate::proofs::BeginLemmas::ready_begun))]
     pub fn start(alloc: Global, genesis: Genesis) -> Result<Runtime, GenesisFault>
-        requires few_endowments { length (endowments_of genesis) ≤ 65536 }
-        requires few_thresholds { length (thresholds_of genesis) ≤ 200 }
+        requires few_endowments { length (endowments_of genesis) ≤ MOST_ENDOWMENTS }
+        requires few_thresholds { length (thresholds_of genesis) ≤ MOST_THRESHOLDS }
         ensures ok { IfOk result (λ runtime. (genesis_fault genesis ≡ None)
             × (runtime ≡ record { state = genesis_chain genesis; spent = false })) }
         ensures refused { IfErr result (IsFault (genesis_fault genesis)) }

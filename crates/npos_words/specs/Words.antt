@@ -2,6 +2,7 @@
 use Rattle.std.specs.Prelude.{⊤, ℕ, ◌≤◌, Bool, false, not, ◌&&◌, ◌||◌, ◌^◌, ◌-◌, List, [], ◌∷◌, drop, codes, Option, Some, None, option_map, option_and_then, if◌then◌else◌}
 use Rattle.std.specs.List.{list_any}
 use Rattle.std.specs.Str.{bytes_eq}
+use Rattle.npos_base.specs.declared.limits.TheConstants.{MOST_SEATS, MOST_VOTERS}
 use Rattle.npos_words.specs.declared.command.Command.{Command}
 use Rattle.npos_words.specs.declared.command.Command.TheVariants as commands
 use Rattle.npos_words.specs.declared.command.Miner.{Miner}
@@ -39,7 +40,7 @@ mine_of values =
 abbrev pub demo_of : Values → Option Command
 demo_of values =
     option_and_then (λ seed. option_and_then (λ voters. option_map (commands.Demo seed voters)
-    (number_of values (codes "seats") 1 512)) (number_of values (codes "voters") 1 16384))
+    (number_of values (codes "seats") 1 MOST_SEATS)) (number_of values (codes "voters") 1 MOST_VOTERS))
     (number_of values (codes "seed") 0 (2 ^ 64 - 1))
 
 abbrev pub mine_names : List Text
@@ -105,6 +106,6 @@ has_verb words = begins_with_verb (drop 1 words) && not (list_any is_bare (drop 
 -- each number of a command is one that its option may have
 abbrev pub KeepsBounds : Option Command → Type 0
 KeepsBounds (Some (commands.Mine miner rounds)) = (1 ≤ rounds) × (rounds ≤ 100)
-KeepsBounds (Some (commands.Demo seed voters seats)) = (1 ≤ voters) × (voters ≤ 16384) × (1 ≤ seats)
-    × (seats ≤ 512)
+KeepsBounds (Some (commands.Demo seed voters seats)) = (1 ≤ voters) × (voters ≤ MOST_VOTERS)
+    × (1 ≤ seats) × (seats ≤ MOST_SEATS)
 KeepsBounds command = ⊤

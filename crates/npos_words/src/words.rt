@@ -8,7 +8,7 @@ use crate::numbers::number_within;
 use crate::options::options_of;
 use crate::{Command, Miner};
 use clap::ArgMatches;
-use npos_base::NoMemory;
+use npos_base::{MOST_SEATS, MOST_VOTERS, NoMemory};
 use std::alloc::Global;
 
 /// The rounds where none are given.
@@ -58,8 +58,8 @@ fn demo_of(options: &ArgMatches) -> Option<Command>
     ensures { result ≡ demo_of (first_value (found_of options.now)) }
 {
     let seed = number_of(options, "seed", 0, u64::MAX)?;
-    let voters = number_of(options, "voters", 1, 16_384)? as u32;
-    let seats = number_of(options, "seats", 1, 512)? as u32;
+    let voters = number_of(options, "voters", 1, MOST_VOTERS as u64)? as u32;
+    let seats = number_of(options, "seats", 1, u64::from(MOST_SEATS))? as u32;
     Some(Command::Demo {
         seed,
         voters,
