@@ -12,9 +12,7 @@ use crate::Chain;
 use crate::rules::places_of;
 use block_wire::{Endowment, Genesis, Params};
 use era_book::EraBook;
-use npos_base::{
-    List, MOST_PAST_ERAS, MOST_QUEUED, MOST_SEATS, MOST_SOLUTION_BYTES, NoMemory,
-};
+use npos_base::{List, MOST_PAST_ERAS, MOST_QUEUED, MOST_SEATS, MOST_SOLUTION_BYTES, NoMemory};
 use stake_ledger::{Book, LedgerRefusal};
 use std::alloc::Global;
 use submission_queue::Queue;
