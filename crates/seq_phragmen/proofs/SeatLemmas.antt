@@ -1,5 +1,5 @@
 -- One seat more: the tables tell the next pick, and what it raises makes the tables after it.
-use Rattle.std.proofs.Common.{◌≡◌, ℕ, suc, ◌+◌, ◌*◌, ◌^◌, ◌<◌, ◌≤◌, ◌⊎◌, Bool, true, false, not, cond, ◌||◌, nat_eq, nat_lt, List, [], ◌∷◌, ◌++◌, length, get_or, set, map, filter, reverse, Option, Some, None, inl, inr, refl, ap, ap₂, sym, subst, ◌∙◌, arith}
+use Rattle.std.proofs.Common.{◌≡◌, ℕ, suc, ◌+◌, ◌^◌, ◌<◌, ◌≤◌, ◌⊎◌, Bool, true, false, not, cond, ◌||◌, nat_eq, nat_lt, List, [], ◌∷◌, ◌++◌, length, get_or, set, map, filter, reverse, Option, Some, None, inl, inr, refl, ap, ap₂, sym, subst, ◌∙◌, arith}
 use Rattle.std.specs.List.{range_with_len, fold}
 use Rattle.std.proofs.lemmas.List.{length-set, get_or-set_same, get_or-set_other, reverse-append, reverse-reverse, length-reverse}
 use Rattle.std.proofs.lemmas.Bool.{cases_eq, cond_both, eq-eqb, ne_eqb}
@@ -9,7 +9,7 @@ use Rattle.weight_book.specs.Room.{WeightBook, KeepsRoom}
 use Rattle.seq_phragmen.specs.declared.race.Race.{Race}
 use Rattle.seq_phragmen.specs.declared.rise.Rise.{Rise}
 use Rattle.seq_phragmen.specs.Mined.{greatest_score, seat_load, shared_load, score, load_after, lighter, lightest, outside, next_pick, picked}
-use Rattle.seq_phragmen.specs.Kept.{says, lightest_by, rise_of, rises_after, with_next, AreBurdens, IsAfter, IsRunning}
+use Rattle.seq_phragmen.specs.Kept.{says, score_by, lightest_by, rise_of, rises_after, with_next, AreBurdens, IsAfter, IsRunning}
 use Rattle.seq_phragmen.proofs.InLemmas.{In, from_filter, from_range}
 use Rattle.seq_phragmen.proofs.PickLemmas.{few_picks, all_picks}
 use Rattle.seq_phragmen.proofs.LoadLemmas.{burden_fits, load_most}
@@ -43,61 +43,42 @@ module _ (snapshot : Snapshot) (picks : List ℕ) (race : Race) (after : IsAfter
   pub carried_fits : total_stake snapshot < 2 ^ 64 → (target : ℕ) → target < length snapshot.targets → seat_load snapshot + says race.burdens.items target < 2 ^ 128
   carried_fits total target h = omega (arith, total, after.burdens target h, burden_fits snapshot (says race.loads.items) none_too_great target)
 
-  module _ (scores : List ℕ) (size : length scores ≡ length race.scores.items) (are : (target : ℕ) → target < length race.scores.items
-      → says scores target ≡ shared_load (seat_load snapshot) (says race.burdens.items target) (says race.approvals.items target)) where
-    pub scores_are : (target : ℕ) → target < length snapshot.targets → says scores target ≡ score snapshot (load_after snapshot picks) target
-    scores_are target h = are target (omega (arith, h, after.scores_size))
-        ∙ ap₂ (λ b a. shared_load (seat_load snapshot) b a) (after.burdens target h) (after.approvals target h)
-        ∙ ap (λ (load : ℕ → ℕ). score snapshot load target) loads_are
+  pub scores_are : (target : ℕ) → target < length snapshot.targets → score_by (seat_load snapshot) race.burdens.items race.approvals.items target ≡ score snapshot (load_after snapshot picks) target
+  scores_are target h = ap₂ (λ b a. shared_load (seat_load snapshot) b a) (after.burdens target h) (after.approvals target h)
+      ∙ ap (λ (load : ℕ → ℕ). score snapshot load target) loads_are
 
-    pub lightest_is_next : lightest_by scores race.is_picked.items (length scores) ≡ next_pick snapshot picks
-    lightest_is_next =
-        ap (lightest_by scores race.is_picked.items) (size ∙ after.scores_size)
-        ∙ unfolded
-        ∙ lightest_agree (says scores) (score snapshot (load_after snapshot picks)) (outside snapshot picks) None tt (λ n i. scores_are n (in_targets n i))
-      where
-        unmarked : ℕ → Bool
-        unmarked n = not (get_or race.is_picked.items n false)
+  pub lightest_is_next : lightest_by (score_by (seat_load snapshot) race.burdens.items race.approvals.items) race.is_picked.items (length race.is_picked.items) ≡ next_pick snapshot picks
+  lightest_is_next =
+      ap (lightest_by value race.is_picked.items) after.marks_size
+      ∙ unfolded
+      ∙ lightest_agree value (score snapshot (load_after snapshot picks)) (outside snapshot picks) None tt (λ n i. scores_are n (in_targets n i))
+    where
+      value : ℕ → ℕ
+      value target = score_by (seat_load snapshot) race.burdens.items race.approvals.items target
 
-        unpicked : ℕ → Bool
-        unpicked n = not (has picks n)
+      unmarked : ℕ → Bool
+      unmarked n = not (get_or race.is_picked.items n false)
 
-        tests : unmarked ≡ unpicked
-        tests = λ i n. not (after.marks n i)
+      unpicked : ℕ → Bool
+      unpicked n = not (has picks n)
 
-        unfolded : lightest_by scores race.is_picked.items (length snapshot.targets) ≡ lightest (says scores) (outside snapshot picks)
-        unfolded = ap (λ (test : ℕ → Bool). lightest (says scores) (filter test (range_with_len 0 (length snapshot.targets)))) tests
+      tests : unmarked ≡ unpicked
+      tests = λ i n. not (after.marks n i)
 
-        in_targets : (n : ℕ) → In (outside snapshot picks) n → n < length snapshot.targets
-        in_targets n i = omega (arith, (from_range 0 (length snapshot.targets) n (from_filter (λ m. not (has picks m)) (range_with_len 0 (length snapshot.targets)) n i).0).1)
+      unfolded : lightest_by value race.is_picked.items (length snapshot.targets) ≡ lightest value (outside snapshot picks)
+      unfolded = ap (λ (test : ℕ → Bool). lightest value (filter test (range_with_len 0 (length snapshot.targets)))) tests
 
--- scores that are made from the tables
-pub scores_by : (burdens approvals old scores : List ℕ) (seat whole : ℕ) (race : Race) → burdens ≡ race.burdens.items → approvals ≡ race.approvals.items → old ≡ race.scores.items → seat * 1048576 ≡ whole
-    → ((target : ℕ) → target < length old → says scores target ≡ shared_load (seat * 1048576) (says burdens target) (says approvals target))
-    → (target : ℕ) → target < length race.scores.items → says scores target ≡ shared_load whole (says race.burdens.items target) (says race.approvals.items target)
-scores_by burdens approvals old scores seat whole race burdens_are approvals_are old_is whole_is are target h = are target (subst (λ ns. target < length ns) (sym old_is) h)
-    ∙ ap (λ n. shared_load n (says burdens target) (says approvals target)) whole_is
-    ∙ ap₂ (λ (b a : List ℕ). shared_load whole (says b target) (says a target)) burdens_are approvals_are
+      in_targets : (n : ℕ) → In (outside snapshot picks) n → n < length snapshot.targets
+      in_targets n i = omega (arith, (from_range 0 (length snapshot.targets) n (from_filter (λ m. not (has picks m)) (range_with_len 0 (length snapshot.targets)) n i).0).1)
 
--- only the scores are others
-pub rescored : (snapshot : Snapshot) (picks : List ℕ) (race next : Race) → IsAfter snapshot picks race
-    → next.loads ≡ race.loads → next.lasts ≡ race.lasts → next.approvals ≡ race.approvals → next.burdens ≡ race.burdens → next.is_picked ≡ race.is_picked → next.nominators ≡ race.nominators
-    → length next.scores.items ≡ length race.scores.items → IsAfter snapshot picks next
-rescored snapshot picks race next after loads lasts approvals burdens marks nominators size = record {
-  loads = λ voter. ap (λ v. says v.items voter) loads ∙ after.loads voter;
-  loads_size = ap (λ v. length v.items) loads ∙ after.loads_size;
-  lasts = λ voter. ap (λ v. says v.items voter) lasts ∙ after.lasts voter;
-  lasts_size = ap (λ v. length v.items) lasts ∙ after.lasts_size;
-  approvals = λ target h. ap (λ v. says v.items target) approvals ∙ after.approvals target h;
-  approvals_size = ap (λ v. length v.items) approvals ∙ after.approvals_size;
-  burdens = subst (λ v. AreBurdens snapshot v.items next.burdens.items) (sym loads) (subst (λ v. AreBurdens snapshot race.loads.items v.items) (sym burdens) after.burdens);
-  burdens_size = ap (λ v. length v.items) burdens ∙ after.burdens_size;
-  scores_size = size ∙ after.scores_size;
-  marks = λ number. ap (λ v. get_or v.items number false) marks ∙ after.marks number;
-  marks_size = ap (λ v. length v.items) marks ∙ after.marks_size;
-  nominators_are = λ target h. ap (λ v. get_or v.items target []) nominators ∙ after.nominators_are target h;
-  nominators_size = ap (λ v. length v.items) nominators ∙ after.nominators_size;
-}
+  -- what a search by equal tables finds
+  pub score_found : (burdens approvals : List ℕ) (seat : ℕ) → burdens ≡ race.burdens.items → approvals ≡ race.approvals.items → seat ≡ seat_load snapshot
+      → (target : ℕ) → target < length snapshot.targets → score_by seat burdens approvals target ≡ score snapshot (load_after snapshot picks) target
+  score_found burdens approvals seat burdens_are approvals_are whole target h = rw (burdens_are, approvals_are, whole) (scores_are target h)
+
+  pub next_found : (burdens approvals : List ℕ) (marks : List Bool) (seat : ℕ) → burdens ≡ race.burdens.items → approvals ≡ race.approvals.items → marks ≡ race.is_picked.items → seat ≡ seat_load snapshot
+      → lightest_by (score_by seat burdens approvals) marks (length marks) ≡ next_pick snapshot picks
+  next_found burdens approvals marks seat burdens_are approvals_are marks_are whole = rw (burdens_are, approvals_are, marks_are, whole) lightest_is_next
 
 -- ---- one seat more
 module _ (snapshot : Snapshot) (picks : List ℕ) (race : Race) (book : WeightBook) (rises : List Rise) (running : IsRunning snapshot picks race book rises)
@@ -123,7 +104,6 @@ module _ (snapshot : Snapshot) (picks : List ℕ) (race : Race) (book : WeightBo
       → length lasts_now ≡ length race.lasts.items
       → AreBurdens snapshot loads_now burdens_now
       → length burdens_now ≡ length race.burdens.items
-      → length next.scores.items ≡ length race.scores.items
       → next.approvals.items ≡ race.approvals.items
       → next.is_picked.items ≡ set race.is_picked.items target true
       → next.nominators.items ≡ race.nominators.items
@@ -132,7 +112,7 @@ module _ (snapshot : Snapshot) (picks : List ℕ) (race : Race) (book : WeightBo
       → KeepsRoom book new
       → more ≡ rises ++ map (rise_of (says race.loads.items) target height) (nominators snapshot target)
       → IsRunning snapshot (target ∷ picks) next new more
-  running_more next new more height loads_now lasts_now burdens_now height_is loads_is lasts_is burdens_is loads loads_size lasts lasts_size burdens burdens_size scores_size approvals_same marks nominators_same members edges room noted = record {
+  running_more next new more height loads_now lasts_now burdens_now height_is loads_is lasts_is burdens_is loads loads_size lasts lasts_size burdens burdens_size approvals_same marks nominators_same members edges room noted = record {
     after = record {
       loads = λ voter. ap (λ ns. says ns voter) loads_is ∙ loads voter ∙ ap₂ (λ a b. cond (nominates snapshot voter target) a b) height_is (running.after.loads voter);
       loads_size = ap length loads_is ∙ loads_size ∙ running.after.loads_size;
@@ -142,7 +122,6 @@ module _ (snapshot : Snapshot) (picks : List ℕ) (race : Race) (book : WeightBo
       approvals_size = ap length approvals_same ∙ running.after.approvals_size;
       burdens = subst (λ ns. AreBurdens snapshot ns next.burdens.items) (sym loads_is) (subst (λ ns. AreBurdens snapshot loads_now ns) (sym burdens_is) burdens);
       burdens_size = ap length burdens_is ∙ burdens_size ∙ running.after.burdens_size;
-      scores_size = scores_size ∙ running.after.scores_size;
       marks = λ number. ap (λ ms. get_or ms number false) marks ∙ marked number;
       marks_size = ap length marks ∙ length-set race.is_picked.items target true ∙ running.after.marks_size;
       nominators_are = λ other h. ap (λ lists. get_or lists other []) nominators_same ∙ running.after.nominators_are other h;

@@ -1,17 +1,17 @@
 -- Tables by target, changed at each of a voter's votes.
-use Rattle.std.proofs.Common.{◌≡◌, ℕ, zero, suc, ◌+◌, ◌<◌, ◌⊎◌, min, Bool, true, false, not, cond, ◌||◌, nat_eq, List, [], ◌∷◌, ◌++◌, length, take, get_or, set, filter, None, inl, inr, refl, ap, sym, subst, ◌∙◌, arith}
+use Rattle.std.proofs.Common.{◌≡◌, ℕ, ◌+◌, ◌<◌, ◌≤◌, ◌⊎◌, min, Bool, true, false, not, cond, ◌||◌, nat_eq, nat_lt, List, [], ◌∷◌, length, take, get_or, set, filter, Option, Some, None, is_none, IfSome, inl, inr, refl, ap, sym, subst, ◌∙◌, arith}
 use Rattle.std.specs.List.{IsDistinct, range_with_len, fold}
 use Rattle.std.proofs.lemmas.List.{length-take, get_or-take, get_or_default, get_or-set_same, get_or-set_other}
 use Rattle.std.proofs.lemmas.List.Elements.{filter-append}
 use Rattle.std.proofs.lemmas.List.Folds.{list_any_more, list_any_none}
 use Rattle.std.proofs.lemmas.List.Sums.{fold-append}
-use Rattle.std.proofs.lemmas.Bool.{cases_eq, cond-true, cond-false, eq-eqb, ne_eqb, or_right}
+use Rattle.std.proofs.lemmas.Bool.{cases_Bool, cases_eq, cond-true, cond-false, eq-eqb, ne_eqb, or_right, true≢false}
 use Rattle.std.proofs.lemmas.Bool.Decides.{Decides-eqb}
 use Rattle.std.proofs.lemmas.Map.Made.{AllPairs-from_IsDistinct}
 use Rattle.election_snapshot.specs.Snapshot.{has}
 use Rattle.weight_book.proofs.StakeLemmas.{range_more}
-use Rattle.seq_phragmen.specs.Mined.{lighter, lightest}
-use Rattle.seq_phragmen.specs.Kept.{says, lightest_by}
+use Rattle.seq_phragmen.specs.Mined.{greatest_score, lighter, lightest}
+use Rattle.seq_phragmen.specs.Kept.{lightest_by}
 
 or_false : (b : Bool) → (b || false) ≡ b
 or_false true = refl
@@ -62,25 +62,45 @@ module _ (votes : List ℕ) (distinct : IsDistinct nat_eq votes) (i d : ℕ) (h 
           ∙ so_far.0 target l
           ∙ ap (λ b. cond b (change (get_or old target none)) (get_or old target none)) (sym (still_there target differ))
 
--- lists that are all empty
-pub one_more_empty : (lists : List (List ℕ)) → ((k : ℕ) → get_or lists k [] ≡ []) → (k : ℕ) → get_or (lists ++ [] ∷ []) k [] ≡ []
-one_more_empty [] h zero = refl
-one_more_empty [] h (suc k) = refl
-one_more_empty (list ∷ lists) h zero = h zero
-one_more_empty (list ∷ lists) h (suc k) = one_more_empty lists (λ j. h (suc j)) k
-
 -- ---- a search for the lightest
-module _ (scores : List ℕ) (marks : List Bool) where
+module _ (value : ℕ → ℕ) (marks : List Bool) where
   abbrev free : ℕ → Bool
   free target = not (get_or marks target false)
 
-  one_more : (count : ℕ) → lightest_by scores marks (count + 1) ≡ fold (lighter (says scores)) (lightest_by scores marks count) (cond (free count) (count ∷ []) [])
-  one_more count = ap (λ ns. lightest (says scores) (filter free ns)) (range_more count)
-      ∙ ap (lightest (says scores)) (filter-append free (range_with_len 0 count) (count ∷ []))
-      ∙ fold-append (lighter (says scores)) None (filter free (range_with_len 0 count)) (filter free (count ∷ []))
+  one_more : (count : ℕ) → lightest_by value marks (count + 1) ≡ fold (lighter value) (lightest_by value marks count) (cond (free count) (count ∷ []) [])
+  one_more count = ap (λ ns. lightest value (filter free ns)) (range_more count)
+      ∙ ap (lightest value) (filter-append free (range_with_len 0 count) (count ∷ []))
+      ∙ fold-append (lighter value) None (filter free (range_with_len 0 count)) (filter free (count ∷ []))
 
-  pub lightest_taken : (count : ℕ) → get_or marks count false ≡ false → lighter (says scores) (lightest_by scores marks count) count ≡ lightest_by scores marks (count + 1)
-  lightest_taken count f = sym (one_more count ∙ ap (λ b. fold (lighter (says scores)) (lightest_by scores marks count) (cond (not b) (count ∷ []) [])) f)
+  lightest_taken : (count : ℕ) → get_or marks count false ≡ false → lighter value (lightest_by value marks count) count ≡ lightest_by value marks (count + 1)
+  lightest_taken count f = sym (one_more count ∙ ap (λ b. fold (lighter value) (lightest_by value marks count) (cond (not b) (count ∷ []) [])) f)
 
-  pub lightest_kept : (count : ℕ) → get_or marks count false ≡ true → lightest_by scores marks count ≡ lightest_by scores marks (count + 1)
-  lightest_kept count t = sym (one_more count ∙ ap (λ b. fold (lighter (says scores)) (lightest_by scores marks count) (cond (not b) (count ∷ []) [])) t)
+  lightest_kept : (count : ℕ) → get_or marks count false ≡ true → lightest_by value marks count ≡ lightest_by value marks (count + 1)
+  lightest_kept count t = sym (one_more count ∙ ap (λ b. fold (lighter value) (lightest_by value marks count) (cond (not b) (count ∷ []) [])) t)
+
+  -- the lightest of the targets so far, and its value
+  abbrev pub IsLightestSoFar : ℕ → Option ℕ → ℕ → Type 0
+  IsLightestSoFar count best least = (best ≡ lightest_by value marks count)
+      × IfSome best (λ target. (target < length marks) × (least ≡ value target)) × (least ≤ greatest_score)
+
+  pub lighter_next : (count : ℕ) (best : Option ℕ) (least : ℕ) → count < length marks → value count ≤ greatest_score → IsLightestSoFar count best least
+      → get_or marks count false ≡ false → (is_none best || nat_lt (value count) least) ≡ true → IsLightestSoFar (count + 1) (Some count) (value count)
+  lighter_next count best least h most so_far f less = (lighter_is best so_far.1 less ∙ ap (λ o. lighter value o count) so_far.0 ∙ lightest_taken count f, (h, refl), most) where
+    lighter_is : (o : Option ℕ) → IfSome o (λ target. (target < length marks) × (least ≡ value target)) → (is_none o || nat_lt (value count) least) ≡ true
+        → Some count ≡ lighter value o count
+    lighter_is None is l = refl
+    lighter_is (Some b) is l = sym (ap (λ test. cond test (Some count) (Some b)) (ap (λ n. nat_lt (value count) n) (sym is.1) ∙ l))
+
+  pub lightest_stays : (count : ℕ) (best : Option ℕ) (least : ℕ) → IsLightestSoFar count best least
+      → ((is_none best || nat_lt (value count) least) ≡ false) ⊎ (get_or marks count false ≡ true) → IsLightestSoFar (count + 1) best least
+  lightest_stays count best least so_far test = at (cases_Bool (get_or marks count false)) test where
+    same : (o : Option ℕ) → IfSome o (λ target. (target < length marks) × (least ≡ value target)) → (is_none o || nat_lt (value count) least) ≡ false
+        → o ≡ lighter value o count
+    same None is m = absurd (true≢false m)
+    same (Some b) is m = sym (ap (λ test. cond test (Some count) (Some b)) (ap (λ n. nat_lt (value count) n) (sym is.1) ∙ m))
+
+    at : (get_or marks count false ≡ true) ⊎ (get_or marks count false ≡ false)
+        → ((is_none best || nat_lt (value count) least) ≡ false) ⊎ (get_or marks count false ≡ true) → IsLightestSoFar (count + 1) best least
+    at (inl t) _ = (so_far.0 ∙ lightest_kept count t, so_far.1, so_far.2)
+    at (inr f) (inl no_less) = (same best so_far.1 no_less ∙ ap (λ o. lighter value o count) so_far.0 ∙ lightest_taken count f, so_far.1, so_far.2)
+    at (inr f) (inr t) = absurd (true≢false (sym t ∙ f))

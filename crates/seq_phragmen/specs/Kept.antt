@@ -7,7 +7,7 @@ use Rattle.weight_book.specs.Passing.{nominators}
 use Rattle.weight_book.specs.Room.{WeightBook, HasRoom}
 use Rattle.seq_phragmen.specs.declared.race.Race.{Race}
 use Rattle.seq_phragmen.specs.declared.rise.Rise.{Rise}
-use Rattle.seq_phragmen.specs.Mined.{approval, burden, score, load_after, part, edge_along, lightest, next_pick}
+use Rattle.seq_phragmen.specs.Mined.{approval, burden, shared_load, score, load_after, part, edge_along, lightest, next_pick}
 
 -- ## Tables
 
@@ -34,10 +34,14 @@ AreNominators snapshot lists = (target : ℕ) → target < length snapshot.targe
 abbrev pub AreMarks : List Bool → List ℕ → Type 0
 AreMarks marks numbers = (number : ℕ) → slice_index_or marks number false ≡ has numbers number
 
--- by the tables, the first with the least score of those that are not marked
-abbrev pub lightest_by : List ℕ → List Bool → ℕ → Option ℕ
-lightest_by scores marks count =
-    lightest (says scores) (filter (λ target. not (slice_index_or marks target false)) (range_with_len 0 count))
+-- by the tables, the load that the target's nominators would share, if it joined
+abbrev pub score_by : ℕ → List ℕ → List ℕ → ℕ → ℕ
+score_by seat burdens approvals target = shared_load seat (says burdens target) (says approvals target)
+
+-- the first with the least value of those that are not marked
+abbrev pub lightest_by : (ℕ → ℕ) → List Bool → ℕ → Option ℕ
+lightest_by value marks count =
+    lightest value (filter (λ target. not (slice_index_or marks target false)) (range_with_len 0 count))
 
 -- the last of these picks that a voter nominates, 0 before any
 abbrev pub last_after : Snapshot → List ℕ → ℕ → ℕ
@@ -55,7 +59,6 @@ pub record IsAfter (snapshot : Snapshot) (picks : List ℕ) (race : Race) : Type
   pub approvals_size : length race.approvals.items ≡ length snapshot.targets
   pub burdens : AreBurdens snapshot race.loads.items race.burdens.items
   pub burdens_size : length race.burdens.items ≡ length snapshot.targets
-  pub scores_size : length race.scores.items ≡ length snapshot.targets
   pub marks : AreMarks race.is_picked.items picks
   pub marks_size : length race.is_picked.items ≡ length snapshot.targets
   pub nominators_are : AreNominators snapshot race.nominators.items

@@ -5,7 +5,7 @@ ghost use Rattle.weight_book.specs.Room.{HasRoom, KeepsRoom};
 ghost use Rattle.seq_phragmen.specs.Mined.{mined, picked};
 ghost use Rattle.seq_phragmen.specs.Kept.{gifts_after, rises_after, with_next, IsAfter, IsRunning};
 
-use crate::picking::{lightest_outside, raise_loads, score_all};
+use crate::picking::{Candidate, lightest_outside, raise_loads};
 use crate::race::Race;
 use crate::rise::Rise;
 use crate::splitting::{list_edges, take_parts};
@@ -57,8 +57,8 @@ fn take_seat(
         weights.new rises.new.items) }
 {
     let seat = u128::from(snapshot.total()) * 1_048_576;
-    score_all(seat, &race.burdens, &race.approvals, &mut race.scores);
-    let Some(target) = lightest_outside(&race.scores, &race.is_picked) else {
+    let next = lightest_outside(seat, &race.burdens, &race.approvals, &race.is_picked);
+    let Some(Candidate { target, score }) = next else {
         return Ok(());
     };
     race.is_picked[usize::from(target)] = true;
@@ -66,7 +66,7 @@ fn take_seat(
     raise_loads(
         snapshot,
         target,
-        race.scores[usize::from(target)],
+        score,
         race.nominators[usize::from(target)].as_slice(),
         &mut race.loads,
         &mut race.lasts,

@@ -1,10 +1,10 @@
 //! One pick: the target that joins, and what its nominators carry from then on.
-ghost use Rattle.std.specs.Prelude.{◌≡◌, ℕ, ◌+◌, ◌-◌, ◌*◌, ◌/◌, ◌^◌, ◌<◌, ◌≤◌, ◌∷◌, [], ◌++◌, if◌then◌else◌, length, map, nat_eq, slice_set, All, IfSome, OnOk};
+ghost use Rattle.std.specs.Prelude.{◌≡◌, ℕ, ◌+◌, ◌-◌, ◌*◌, ◌/◌, ◌^◌, ◌<◌, ◌≤◌, ◌∷◌, [], ◌++◌, if◌then◌else◌, length, map, nat_eq, nat_lt, slice_set, is_none, option_map, ◌||◌, All, IfSome, OnOk};
 ghost use Rattle.std.specs.List.{IsDistinct};
 ghost use Rattle.election_snapshot.specs.Snapshot.{has, nominates, total_stake};
 ghost use Rattle.weight_book.specs.Passing.{nominators};
-ghost use Rattle.seq_phragmen.specs.Mined.{greatest_score, shared_load, lighter};
-ghost use Rattle.seq_phragmen.specs.Kept.{says, lightest_by, rise_of, AreBurdens};
+ghost use Rattle.seq_phragmen.specs.Mined.{greatest_score, shared_load};
+ghost use Rattle.seq_phragmen.specs.Kept.{says, score_by, lightest_by, rise_of, AreBurdens};
 
 use crate::rise::Rise;
 use election_snapshot::Snapshot;
@@ -13,17 +13,59 @@ use npos_base::NoMemory;
 /// No score is greater.
 const GREATEST_SCORE: u64 = i64::MAX as u64;
 
-/// By target, the load that its nominators would have if it joined.
-pub(crate) fn score_all(seat: u128, burdens: &[u128], approvals: &[u64], scores: &mut [u64])
-    requires approvals { length approvals.now ≡ length scores.old }
-    requires burdens { length burdens.now ≡ length scores.old }
-    requires fits { (target : ℕ) → target < length scores.old
+/// A target that could join, and the load that its nominators would have then.
+#[derive(Clone, Copy)]
+pub(crate) struct Candidate {
+    pub(crate) target: u16,
+    pub(crate) score: u64,
+}
+
+/// The lowest of the targets that are not picked with the least score, if one is not picked.
+pub(crate) fn lightest_outside(
+    seat: u128,
+    burdens: &[u128],
+    approvals: &[u64],
+    is_picked: &[bool],
+) -> Option<Candidate>
+    requires burdens_size { length burdens.now ≡ length is_picked.now }
+    requires approvals_size { length approvals.now ≡ length is_picked.now }
+    requires few { length is_picked.now ≤ 2048 }
+    requires fits { (target : ℕ) → target < length is_picked.now
         → seat + says burdens.now target < 2 ^ 128 }
-    ensures { (target : ℕ) → target < length scores.old → says scores.new target
-        ≡ shared_load seat (says burdens.now target) (says approvals.now target) }
+    ensures lightest { option_map (λ candidate. candidate.target) result
+        ≡ lightest_by (score_by seat burdens.now approvals.now)
+        is_picked.now (length is_picked.now) }
+    ensures score { IfSome result (λ candidate. candidate.score
+        ≡ score_by seat burdens.now approvals.now candidate.target) }
+    ensures in_range { IfSome result (λ candidate. candidate.target < length is_picked.now) }
 {
-    for target in 0..scores.len() {
-        scores[target] = share_load(seat, burdens[target], approvals[target]);
+    let mut best = None;
+    let mut least = 0;
+    for target in 0..is_picked.len() {
+        if is_ahead(best, least, seat, burdens[target], approvals[target]) && !is_picked[target] {
+            best = Some(target as u16);
+            least = share_load(seat, burdens[target], approvals[target]);
+        }
+    }
+    match best {
+        Some(target) => Some(Candidate {
+            target,
+            score: least,
+        }),
+        None => None,
+    }
+}
+
+/// Whether the load that some voters would share is less than the least so far, or the first one.
+/// It is told with no division, which takes as long as many products.
+fn is_ahead(best: Option<u16>, least: u64, seat: u128, carried: u128, stake: u64) -> bool
+    requires fits { seat + carried < 2 ^ 128 }
+    requires most { least ≤ greatest_score }
+    ensures { result ≡ (is_none best || nat_lt (shared_load seat carried stake) least) }
+{
+    match best {
+        Some(_) => seat + carried < u128::from(least) * u128::from(stake),
+        None => true,
     }
 }
 
@@ -38,35 +80,6 @@ fn share_load(seat: u128, carried: u128, stake: u64) -> u64
     }
     let load = (seat + carried) / u128::from(stake);
     load.min(u128::from(GREATEST_SCORE)) as u64
-}
-
-/// The lowest of the targets that are not picked with the least score, if one is not picked.
-pub(crate) fn lightest_outside(scores: &[u64], is_picked: &[bool]) -> Option<u16>
-    requires same { length is_picked.now ≡ length scores.now }
-    requires few { length scores.now ≤ 2048 }
-    ensures lightest { result ≡ lightest_by scores.now is_picked.now (length scores.now) }
-    ensures in_range { IfSome result (λ target. target < length scores.now) }
-{
-    let mut best = None;
-    for target in 0..scores.len() {
-        if !is_picked[target] {
-            best = lighter_of(scores, best, target as u16);
-        }
-    }
-    best
-}
-
-/// The target, where it has a lower score than the best before it.
-fn lighter_of(scores: &[u64], best: Option<u16>, target: u16) -> Option<u16>
-    requires best { IfSome best (λ other. other < length scores.now) }
-    requires target { target < length scores.now }
-    ensures lighter { result ≡ lighter (says scores.now) best target }
-    ensures in_range { IfSome result (λ other. other < length scores.now) }
-{
-    match best {
-        Some(best) if scores[usize::from(best)] <= scores[usize::from(target)] => Some(best),
-        _ => Some(target),
-    }
 }
 
 /// Raises the loads of the target's nominators to the score, notes by how much, and marks the

@@ -20,8 +20,6 @@ pub(crate) struct Race {
     pub(crate) approvals: Vec<u64>,
     /// By target, the sum of stake times load over its nominators.
     pub(crate) burdens: Vec<u128>,
-    /// By target, its score when the last pick was sought.
-    pub(crate) scores: Vec<u64>,
     /// By target, whether it was picked.
     pub(crate) is_picked: Vec<bool>,
     /// By target, its nominators in rising order.
@@ -38,7 +36,6 @@ impl Race {
         let lasts = no_lasts(alloc, snapshot.voter_count())?;
         let approvals = approvals_of(alloc, snapshot)?;
         let burdens = no_burdens(alloc, targets)?;
-        let scores = zeros(alloc, targets)?;
         let is_picked = no_marks(alloc, targets)?;
         let nominators = nominators_of(alloc, snapshot)?;
         Ok(Race {
@@ -46,7 +43,6 @@ impl Race {
             lasts,
             approvals,
             burdens,
-            scores,
             is_picked,
             nominators,
         })

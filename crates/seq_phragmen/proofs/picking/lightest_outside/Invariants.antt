@@ -1,7 +1,7 @@
-use Rattle.std.proofs.Common.{◌≡◌, ◌<◌, length, IfSome}
-use Rattle.seq_phragmen.specs.Kept.{lightest_by}
+use Rattle.seq_phragmen.specs.Kept.{score_by}
+use Rattle.seq_phragmen.proofs.TableLemmas.{IsLightestSoFar}
 use Rattle.seq_phragmen.proofs.picking.lightest_outside.Given as goal
 
--- the lightest of the targets so far
+-- the lightest of the targets so far, and its score
 abbrev pub invariant-loop-target : goal.invariant-loop-target
-invariant-loop-target l = (l.best ≡ lightest_by l.scores l.is_picked l.target) × IfSome l.best (λ target. target < length l.scores)
+invariant-loop-target l = IsLightestSoFar (score_by l.seat l.burdens l.approvals) l.is_picked l.target l.best l.least

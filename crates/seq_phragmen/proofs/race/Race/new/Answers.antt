@@ -13,7 +13,6 @@ returns c = record {
   approvals_size = c.in_ok-approvals.ensures.count;
   burdens = λ target h. c.in_ok-burdens.ensures.zero target ∙ sym (no_burden c.args.snapshot.now (says c.in_ok-loads.loads.items) c.in_ok-loads.ensures.zero target);
   burdens_size = c.in_ok-burdens.ensures.count ∙ c.target_count-targets.ensures.count;
-  scores_size = c.in_ok-scores.ensures.count ∙ c.target_count-targets.ensures.count;
   marks = c.in_ok-is_picked.ensures.none;
   marks_size = c.in_ok-is_picked.ensures.count ∙ c.target_count-targets.ensures.count;
   nominators_are = c.in_ok-nominators.ensures.nominators;
