@@ -127,21 +127,43 @@ fn nominators_of(alloc: Global, snapshot: &Snapshot) -> Result<Vec<List<u32>>, N
     ensures count { IfOk result (λ lists. length lists.items ≡ length snapshot.now.targets) }
     ensures nominators { IfOk result (λ lists. AreNominators snapshot.now lists.items) }
 {
-    let mut lists = empty_lists(alloc, snapshot.target_count())?;
+    let mut counts = vec![in alloc; 0; snapshot.target_count()]?;
+    count_nominators(snapshot, &mut counts);
+    let mut lists = empty_lists(alloc, &counts)?;
     list_nominators(snapshot, &mut lists)?;
     Ok(lists)
 }
 
-/// As many empty lists.
-fn empty_lists(alloc: Global, count: usize) -> Result<Vec<List<u32>>, NoMemory>
-    ensures count { IfOk result (λ lists. length lists.items ≡ count) }
+/// By target, how many voters nominate it: the room that its list takes. Another number would cost
+/// time alone, so nothing is said of it.
+fn count_nominators(snapshot: &Snapshot, counts: &mut [u64])
+    requires { length counts.old ≡ length snapshot.now.targets }
+    ensures { length counts.new ≡ length snapshot.now.targets }
+{
+    counts.fill(0);
+    for voter in 0..snapshot.voter_count() {
+        add_stake(snapshot.votes(voter as u32), 1, counts);
+    }
+}
+
+/// As many empty lists, each with this room.
+fn empty_lists(alloc: Global, rooms: &[u64]) -> Result<Vec<List<u32>>, NoMemory>
+    ensures count { IfOk result (λ lists. length lists.items ≡ length rooms.now) }
     ensures empty { IfOk result (λ lists. (k : ℕ) → slice_index_or lists.items k [] ≡ []) }
 {
-    let mut lists = Vec::with_capacity(alloc, count)?;
-    for _ in 0..count {
-        lists.push(List::new(alloc))?;
+    let mut lists = Vec::with_capacity(alloc, rooms.len())?;
+    for room in rooms {
+        lists.push(empty_list(alloc, *room as usize)?)?;
     }
     Ok(lists)
+}
+
+/// An empty list with this room.
+fn empty_list(alloc: Global, room: usize) -> Result<List<u32>, NoMemory>
+    ensures { IfOk result (λ list. list ≡ []) }
+{
+    let items = Vec::with_capacity(alloc, room)?;
+    Ok(List::from_vec(items))
 }
 
 /// By target, the voters that nominate it, in rising order.
