@@ -1,11 +1,11 @@
 -- Tables by target, changed at each of a voter's votes.
-use Rattle.std.proofs.Common.{◌≡◌, ℕ, zero, suc, ◌+◌, ◌<◌, ◌⊎◌, min, Bool, true, false, not, cond, ◌||◌, nat_eq, List, [], ◌∷◌, ◌++◌, length, take, get_or, set, filter, Option, Some, None, IfSome, is_none, nat_lt, inl, inr, refl, ap, sym, subst, ◌∙◌, arith}
+use Rattle.std.proofs.Common.{◌≡◌, ℕ, ◌+◌, ◌<◌, ◌⊎◌, min, Bool, true, false, not, cond, ◌||◌, nat_eq, List, [], ◌∷◌, length, take, get_or, set, filter, Option, Some, None, IfSome, is_none, nat_lt, inl, inr, refl, ap, sym, subst, ◌∙◌, arith}
 use Rattle.std.specs.List.{IsDistinct, range_with_len, fold}
 use Rattle.std.proofs.lemmas.List.{length-take, get_or-take, get_or_default, get_or-set_same, get_or-set_other}
 use Rattle.std.proofs.lemmas.List.Elements.{filter-append}
 use Rattle.std.proofs.lemmas.List.Folds.{list_any_more, list_any_none}
 use Rattle.std.proofs.lemmas.List.Sums.{fold-append}
-use Rattle.std.proofs.lemmas.Bool.{cases_eq, cond-true, cond-false, eq-eqb, ne_eqb, or_right, true≢false}
+use Rattle.std.proofs.lemmas.Bool.{cases_Bool, cases_eq, cond-true, cond-false, eq-eqb, ne_eqb, or_right, true≢false}
 use Rattle.std.proofs.lemmas.Bool.Decides.{Decides-eqb}
 use Rattle.std.proofs.lemmas.Map.Made.{AllPairs-from_IsDistinct}
 use Rattle.election_snapshot.specs.Snapshot.{has}
@@ -62,13 +62,6 @@ module _ (votes : List ℕ) (distinct : IsDistinct nat_eq votes) (i d : ℕ) (h 
           ∙ so_far.0 target l
           ∙ ap (λ b. cond b (change (get_or old target none)) (get_or old target none)) (sym (still_there target differ))
 
--- lists that are all empty
-pub one_more_empty : (lists : List (List ℕ)) → ((k : ℕ) → get_or lists k [] ≡ []) → (k : ℕ) → get_or (lists ++ [] ∷ []) k [] ≡ []
-one_more_empty [] h zero = refl
-one_more_empty [] h (suc k) = refl
-one_more_empty (list ∷ lists) h zero = h zero
-one_more_empty (list ∷ lists) h (suc k) = one_more_empty lists (λ j. h (suc j)) k
-
 -- ---- a search for the best
 module _ (backings : List ℕ) (marks : List Bool) where
   abbrev free : ℕ → Bool
@@ -99,10 +92,15 @@ module _ (backings : List ℕ) (marks : List Bool) where
     better_is (Some b) is m = sym (ap (λ test. cond test (Some count) (Some b)) (ap (λ n. nat_lt n (says backings count)) (sym is.1) ∙ m))
 
   pub best_stays : (count : ℕ) (best : Option ℕ) (most : ℕ) → IsBestSoFar count best most
-      → (get_or marks count false ≡ true) ⊎ ((get_or marks count false ≡ false) × ((is_none best || nat_lt most (says backings count)) ≡ false)) → IsBestSoFar (count + 1) best most
-  best_stays count best most so_far (inl t) = (so_far.0 ∙ best_kept count t, so_far.1)
-  best_stays count best most so_far (inr (f, no_more)) = (same best so_far.1 no_more ∙ ap (λ o. better (says backings) o count) so_far.0 ∙ best_taken count f, so_far.1) where
+      → ((is_none best || nat_lt most (says backings count)) ≡ false) ⊎ (get_or marks count false ≡ true) → IsBestSoFar (count + 1) best most
+  best_stays count best most so_far test = at (cases_Bool (get_or marks count false)) test where
     same : (o : Option ℕ) → IfSome o (λ target. (target < length backings) × (most ≡ says backings target)) → (is_none o || nat_lt most (says backings count)) ≡ false
         → o ≡ better (says backings) o count
     same None is m = absurd (true≢false m)
     same (Some b) is m = sym (ap (λ test. cond test (Some count) (Some b)) (ap (λ n. nat_lt n (says backings count)) (sym is.1) ∙ m))
+
+    at : (get_or marks count false ≡ true) ⊎ (get_or marks count false ≡ false)
+        → ((is_none best || nat_lt most (says backings count)) ≡ false) ⊎ (get_or marks count false ≡ true) → IsBestSoFar (count + 1) best most
+    at (inl t) _ = (so_far.0 ∙ best_kept count t, so_far.1)
+    at (inr f) (inl no_more) = (same best so_far.1 no_more ∙ ap (λ o. better (says backings) o count) so_far.0 ∙ best_taken count f, so_far.1)
+    at (inr f) (inr t) = absurd (true≢false (sym t ∙ f))

@@ -9,7 +9,8 @@ ghost use Rattle.quota_fill.specs.Kept.{says, best_by, draws_of, AreBackings};
 use election_snapshot::Snapshot;
 use npos_base::{Edge, NoMemory};
 
-/// The lowest of the targets that are not picked with the greatest backing, if one is not picked.
+/// The lowest of the targets that are not picked with the greatest backing, if one is not picked. A
+/// backing is seldom more than the most so far, so a mark is looked at only then.
 pub(crate) fn best_outside(backings: &[u64], is_picked: &[bool]) -> Option<u16>
     requires same { length is_picked.now ≡ length backings.now }
     requires few { length backings.now ≤ 2048 }
@@ -19,7 +20,7 @@ pub(crate) fn best_outside(backings: &[u64], is_picked: &[bool]) -> Option<u16>
     let mut best = None;
     let mut most = 0;
     for target in 0..backings.len() {
-        if !is_picked[target] && exceeds(best, most, backings[target]) {
+        if exceeds(best, most, backings[target]) && !is_picked[target] {
             best = Some(target as u16);
             most = backings[target];
         }

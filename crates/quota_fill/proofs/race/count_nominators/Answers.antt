@@ -1,4 +1,4 @@
-use Rattle.std.proofs.Common.{rules, arith, ◌≡◌, ℕ, ◌+◌, ◌<◌, ◌≤◌, Bool, true, false, cond, length}
+use Rattle.std.proofs.Common.{rules, arith, ◌≡◌, ℕ, ◌+◌, ◌≤◌, Bool, true, false, cond}
 use Rattle.election_snapshot.specs.Snapshot.{has}
 use Rattle.quota_fill.specs.Kept.{says}
 use Rattle.quota_fill.proofs.race.count_nominators.Goals as goal
