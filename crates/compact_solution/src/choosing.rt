@@ -2,7 +2,7 @@
 ghost use Rattle.std.specs.Prelude.{◌≡◌, ◌<◌, ◌≤◌, All, length, IfOk, OnOk};
 ghost use Rattle.std.specs.List.{insert};
 ghost use Rattle.compact_solution.specs.Packing.{chosen, placed, choices_of, kept_of, stake_at};
-ghost use Rattle.compact_solution.specs.Packing.{parts_in as parts_of_stake, greater as greater_of};
+ghost use Rattle.compact_solution.specs.Packing.{parts_in as parts_of_stake, has_part as gives_part, greater as greater_of};
 ghost use Rattle.compact_solution.specs.Choosing.{Fits, AllFit, no_choice, chosen_next, no_choices};
 
 use npos_base::{Edge, List, NoMemory};
@@ -44,7 +44,7 @@ impl Choice {
         requires { Fits stake edge }
         ensures { OnOk result (self.new ≡ chosen_next stake self.old edge) }
     {
-        if parts_in(stake, edge) > 0 {
+        if has_part(stake, edge) {
             place(&mut self.with_part, edge)?;
         }
         self.greatest = greater(self.greatest, edge);
@@ -74,6 +74,14 @@ pub(crate) fn parts_in(stake: u64, edge: Edge) -> u16
     ensures { result ≡ parts_of_stake stake edge }
 {
     (u128::from(edge.amount) * u128::from(PARTS) / u128::from(stake)) as u16
+}
+
+/// Whether the edge gives a part of its voter's stake at least.
+fn has_part(stake: u64, edge: Edge) -> bool
+    requires { Fits stake edge }
+    ensures { result ≡ gives_part stake edge }
+{
+    u128::from(stake) <= u128::from(edge.amount) * u128::from(PARTS)
 }
 
 /// Puts the edge before the first one with a higher target.
