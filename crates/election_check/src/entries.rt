@@ -1,5 +1,5 @@
 //! The steps of a check of a packed solution: its entries, their edges, the listed targets.
-ghost use Rattle.std.specs.Prelude.{◌≡◌, ◌≢◌, ◌<◌, ◌≤◌, ◌+◌, ◌*◌, ◌/◌, ◌++◌, [], ℕ, true, false, nat_lt, if◌then◌else◌, length, filter, find, not, nat_le, sum, take, slice_index_or, slice_set, IfNone, OnOk, All};
+ghost use Rattle.std.specs.Prelude.{◌≡◌, ◌≢◌, ◌<◌, ◌≤◌, ◌+◌, ◌*◌, ◌/◌, ◌++◌, [], ℕ, None, true, false, nat_lt, if◌then◌else◌, length, filter, find, not, nat_le, sum, take, slice_index_or, slice_set, IfNone, OnOk, All};
 ghost use Rattle.std.specs.List.{range_with_len};
 ghost use Rattle.election_snapshot.specs.Snapshot.{has, nominates};
 ghost use Rattle.weight_book.specs.Weights.{no_weights, IsFeasible};
@@ -7,7 +7,7 @@ ghost use Rattle.weight_book.specs.Room.{HasRoom, KeepsRoom};
 ghost use Rattle.compact_solution.specs.Solution.{targets_of, parts_of, entries_of};
 ghost use Rattle.election_check.specs.First.{answer_of};
 ghost use Rattle.election_check.specs.Packed.{expanded, expand_fault, entries_fault, entry_fault, first_repeat, has_bad_share, edges_of, whole_stake, score_fault};
-ghost use Rattle.election_check.specs.Taking.{AreTaken};
+ghost use Rattle.election_check.specs.Taking.{AreTaken, IsTaken};
 
 use crate::Verdict;
 use crate::prescores::check_size;
@@ -89,9 +89,83 @@ fn take_group(
     ensures room { KeepsRoom weights.old weights.new }
 {
     for entry in solution.group(place + 1) {
-        check_entry(snapshot, entry, has_entry, stamps)?;
-        push_edges(snapshot.stake(entry.voter()), entry, weights);
+        take_entry(snapshot, entry, has_entry, stamps, weights)?;
     }
+    Ok(())
+}
+
+/// Takes one entry behind those before it, or tells its first fault.
+fn take_entry(
+    snapshot: &Snapshot,
+    entry: &Entry,
+    has_entry: &mut [bool],
+    stamps: &mut [u32],
+    weights: &mut Weights,
+) -> Result<(), Verdict>
+    requires voters { length has_entry.old ≡ length snapshot.now.voters }
+    requires targets { length stamps.old ≡ length snapshot.now.targets }
+    requires own { (target : ℕ) → slice_index_or stamps.old target 0 ≡ entry.now.voter + 1
+        → slice_index_or has_entry.old entry.now.voter false ≡ true }
+    requires spare { entry_fault snapshot.now
+        (slice_index_or has_entry.old entry.now.voter false) entry.now ≡ None
+        → length (targets_of entry.now) ≤ weights.old.edge_spare }
+    ensures fault { result ≡ answer_of (entry_fault snapshot.now
+        (slice_index_or has_entry.old entry.now.voter false) entry.now) }
+    ensures taken { OnOk result (IsTaken snapshot.now entry.now
+        has_entry.old has_entry.new stamps.old stamps.new weights.old weights.new) }
+    ensures room { KeepsRoom weights.old weights.new }
+{
+    if entry.shares().is_empty() {
+        return take_single(snapshot, entry, has_entry, stamps, weights);
+    }
+    check_entry(snapshot, entry, has_entry, stamps)?;
+    push_edges(snapshot.stake(entry.voter()), entry, weights);
+    Ok(())
+}
+
+/// Takes an entry of a single target, as `take_entry` does: no target can stand twice in it, no
+/// share can be a bad one, and its one edge is the whole stake.
+fn take_single(
+    snapshot: &Snapshot,
+    entry: &Entry,
+    has_entry: &mut [bool],
+    stamps: &mut [u32],
+    weights: &mut Weights,
+) -> Result<(), Verdict>
+    requires single { entry.now.shares ≡ [] }
+    requires voters { length has_entry.old ≡ length snapshot.now.voters }
+    requires targets { length stamps.old ≡ length snapshot.now.targets }
+    requires spare { entry_fault snapshot.now
+        (slice_index_or has_entry.old entry.now.voter false) entry.now ≡ None
+        → 0 < weights.old.edge_spare }
+    ensures fault { result ≡ answer_of (entry_fault snapshot.now
+        (slice_index_or has_entry.old entry.now.voter false) entry.now) }
+    ensures taken { OnOk result (IsTaken snapshot.now entry.now
+        has_entry.old has_entry.new stamps.old stamps.new weights.old weights.new) }
+    ensures room { KeepsRoom weights.old weights.new }
+{
+    let voter = entry.voter();
+    let place = voter as usize;
+    let target = entry.last();
+    if place >= snapshot.voter_count() {
+        return Err(Verdict::NoVoter(voter));
+    }
+    if usize::from(target) >= snapshot.target_count() {
+        return Err(Verdict::NoTarget(target));
+    }
+    if has_entry[place] {
+        return Err(Verdict::VoterTwice(voter));
+    }
+    if !is_vote(snapshot.votes(voter), target) {
+        return Err(Verdict::NotNominated { voter, target });
+    }
+    has_entry[place] = true;
+    stamps[usize::from(target)] = voter + 1;
+    weights.push_edge(Edge {
+        voter,
+        target,
+        amount: snapshot.stake(voter),
+    });
     Ok(())
 }
 
