@@ -13,7 +13,7 @@ use crate::Verdict;
 use crate::prescores::check_size;
 use compact_solution::{Entry, GROUPS, Solution};
 use election_snapshot::Snapshot;
-use npos_base::{Edge, Score};
+use npos_base::{Edge, MOST_NOMINATIONS, Score};
 use weight_book::Weights;
 
 /// The parts that a whole stake is shared in.
@@ -276,9 +276,23 @@ fn first_unnominated(snapshot: &Snapshot, entry: &Entry) -> Option<u16>
     }
 }
 
+/// Whether the target is among the votes. Most voters have as many votes as there may be, and so
+/// many are gone through without counting.
+#[inline(always)]
+fn is_vote(votes: &[u16], target: u16) -> bool
+    ensures { result ≡ has votes.now target }
+{
+    if votes.len() == MOST_NOMINATIONS {
+        is_among(&votes[..MOST_NOMINATIONS], target)
+    } else {
+        is_among(votes, target)
+    }
+}
+
 /// Whether the target is among the votes. It goes through all of them, of which there are few:
 /// several are compared at once where the walk does not depend on what is found.
-fn is_vote(votes: &[u16], target: u16) -> bool
+#[inline(always)]
+fn is_among(votes: &[u16], target: u16) -> bool
     ensures { result ≡ has votes.now target }
 {
     let mut is_found = false;
