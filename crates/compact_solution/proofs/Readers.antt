@@ -6,7 +6,7 @@ use Rattle.scale_wire.specs.declared.fault.WireFault.{WireFault}
 use Rattle.scale_wire.specs.declared.fault.ReadFault.{ReadFault}
 use Rattle.scale_wire.specs.declared.fault.ReadFault.TheVariants.{Wire, NoMemory}
 use Rattle.scale_wire.specs.Form.{Form}
-use Rattle.scale_wire.specs.Composite.{pair, triple, row, row_bytes, IsRow, BadRow}
+use Rattle.scale_wire.specs.Composite.{pair, triple, items, row, row_bytes, IsRow, BadRow}
 use Rattle.scale_wire.specs.Reading.{Place, IsRead, IsFault, Reads}
 use Rattle.scale_wire.proofs.ReadLemmas.{behind_fault}
 
@@ -37,6 +37,10 @@ module _ {A B C : Type 0} (a : Form A) (b : Form B) (c : Form C) where
       subst (λ (o : Place). IsFault (triple a b c) o fault o) same
       (behind_fault a (λ _. (pair b c).bad) here mid mid first fault read
       (behind_fault b (λ _. c.bad) mid next new second fault more refused))
+
+-- nothing is read of no items
+pub none_read : {A : Type 0} (item : Form A) (place : Place) → IsRead (items item 0) place [] place
+none_read item place = record { in_range = (tt, refl); whole = refl; at_is = omega arith }
 
 -- ## Rows
 

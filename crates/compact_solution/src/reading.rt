@@ -28,9 +28,56 @@ pub(crate) fn read_group(
     Ok(entries)
 }
 
-// This many entries. Room is made at once for those that the bytes left can hold, at two bytes for
-// each target.
+// This many entries.
 fn read_entries(
+    alloc: Global,
+    cursor: &mut Cursor<'_>,
+    shares: usize,
+    count: u32,
+) -> Result<List<Entry>, ReadFault>
+    requires { shares < GROUPS }
+    ensures { Reads (items_of (entry_form shares) count) cursor.old result cursor.new }
+{
+    if shares == 0 {
+        read_singles(alloc, cursor, count)
+    } else {
+        read_shared(alloc, cursor, shares, count)
+    }
+}
+
+// This many entries of a single target. Room is made at once for those that the bytes left can
+// hold, at a byte for each number.
+fn read_singles(
+    alloc: Global,
+    cursor: &mut Cursor<'_>,
+    count: u32,
+) -> Result<List<Entry>, ReadFault>
+    ensures { Reads (items_of (entry_form 0) count) cursor.old result cursor.new }
+{
+    let mut here = cursor.fork();
+    let room = here.rest().len() / 2;
+    let mut entries = Vec::with_capacity(alloc, room.min(count as usize))?;
+    for _ in 0..count {
+        entries.push(take_single(alloc, &mut here)?)?;
+    }
+    *cursor = here;
+    Ok(List::from_vec(entries))
+}
+
+// An entry of a single target, which takes no memory.
+fn take_single(alloc: Global, cursor: &mut Cursor<'_>) -> Result<Entry, WireFault>
+    ensures { Takes (entry_form 0) cursor.old result cursor.new }
+{
+    let mut here = cursor.fork();
+    let voter = here.take_compact_u32()?;
+    let target = here.take_compact_u16()?;
+    *cursor = here;
+    Ok(Entry::new(voter, List::new(alloc), target))
+}
+
+// This many entries with shares. Room is made at once for those that the bytes left can hold, at
+// two bytes for each target.
+fn read_shared(
     alloc: Global,
     cursor: &mut Cursor<'_>,
     shares: usize,

@@ -1,9 +1,9 @@
-use Rattle.std.proofs.lemmas.Result.{err_from_is_err_and}
-use Rattle.scale_wire.proofs.ListLemmas.{items_err}
+use Rattle.std.proofs.Common.{ℕ, sym, subst}
+use Rattle.scale_wire.specs.Composite.{items}
+use Rattle.scale_wire.specs.Reading.{Reads}
 use Rattle.compact_solution.specs.Solution.{entry_form}
 use Rattle.compact_solution.proofs.reading.read_entries.Goals as goal
 
-pub returns-in_err-read_entry : goal.returns-in_err-read_entry
-returns-in_err-read_entry c =
-    let p = err_from_is_err_and c.from_residual-in_err-read_entry.result c.from_residual-in_err-read_entry.ensures.1 in
-    rw (p.1, p.2) (items_err (entry_form c.args.shares) c.args.count c.loop.counter c.args.cursor.now c.fork-here.result c.loop.here c.read_entry.new.cursor c.loop.entries.items c.in_err-read_entry.field-0.0 c.fork-here.ensures c.loop-test.true c.loop.invariant c.in_err-read_entry.ensures)
+pub returns-then-shares-eq0 : goal.returns-then-shares-eq0
+returns-then-shares-eq0 c =
+    subst (λ (n : ℕ). Reads (items (entry_form n) c.args.count) c.args.cursor.now c.read_singles.result c.read_singles.new.cursor) (sym c.if-shares-eq0.true) c.read_singles.ensures

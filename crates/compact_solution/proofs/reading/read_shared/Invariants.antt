@@ -1,7 +1,7 @@
 use Rattle.scale_wire.specs.Composite.{items}
 use Rattle.scale_wire.specs.Reading.{IsRead}
 use Rattle.compact_solution.specs.Solution.{entry_form}
-use Rattle.compact_solution.proofs.reading.read_entries.Given as goal
+use Rattle.compact_solution.proofs.reading.read_shared.Given as goal
 
 -- as many entries as iterations were read
 abbrev pub invariant-loop : goal.invariant-loop
