@@ -46,7 +46,8 @@ fn read_entries(
 }
 
 // This many entries of a single target. Room is made at once for those that the bytes left can
-// hold, at a byte for each number.
+// hold, at a byte for each number. A function by itself keeps what its loop needs in registers.
+#[inline(never)]
 fn read_singles(
     alloc: Global,
     cursor: &mut Cursor<'_>,

@@ -67,7 +67,9 @@ fn take_entries(
     Ok(())
 }
 
-/// Takes the entries of one group behind those of the groups before it.
+/// Takes the entries of one group behind those of the groups before it. A function by itself keeps
+/// what its loop needs in registers.
+#[inline(never)]
 fn take_group(
     snapshot: &Snapshot,
     solution: &Solution,
