@@ -1,14 +1,21 @@
 -- What the readers of a solution answer, where one part stands behind another.
-use Rattle.std.proofs.Common.{◌≡◌, ℕ, zero, suc, ◌+◌, ◌<◌, List, [], ◌∷◌, ◌++◌, length, get_or, refl, sym, ◌∙◌, ap, subst, inl, inr, arith, append_assoc, length-append, append-nil, zero-add}
+use Rattle.std.proofs.Common.{◌≡◌, ℕ, zero, suc, ◌+◌, ◌^◌, ◌<◌, ◌≤◌, List, [], ◌∷◌, ◌++◌, length, get_or, refl, sym, ◌∙◌, ap, subst, inl, inr, arith, append_assoc, length-append, append-nil, zero-add}
 use Rattle.std.specs.Prelude.{Err}
 use Rattle.scale_wire.specs.declared.fault.Why.{Why}
 use Rattle.scale_wire.specs.declared.fault.WireFault.{WireFault}
 use Rattle.scale_wire.specs.declared.fault.ReadFault.{ReadFault}
 use Rattle.scale_wire.specs.declared.fault.ReadFault.TheVariants.{Wire, NoMemory}
+use Rattle.std.specs.List.{AllByRecursion, flat_map}
+use Rattle.std.proofs.lemmas.Grind.{flat_map-append}
 use Rattle.scale_wire.specs.Form.{Form}
+use Rattle.scale_wire.specs.Compact.{compact_bytes}
+use Rattle.scale_wire.specs.CompactRange.{Suits}
+use Rattle.scale_wire.specs.CompactWritingLaws.{gives_back}
+use Rattle.scale_wire.specs.CompactLaws.{suits_u16, suits_u32}
 use Rattle.scale_wire.specs.Composite.{pair, triple, items, row, row_bytes, IsRow, BadRow}
 use Rattle.scale_wire.specs.Reading.{Place, IsRead, IsFault, Reads}
 use Rattle.scale_wire.proofs.ReadLemmas.{behind_fault}
+use Rattle.compact_solution.specs.Solution.{Entry, share_form, entry_form}
 
 -- the second of a pair was refused; `here` is a copy of the cursor as it was
 pub pair_fault : {A B : Type 0} (a : Form A) (b : Form B) (old here mid new : Place) (first : A) (fault : WireFault) → here ≡ old
@@ -41,6 +48,47 @@ module _ {A B C : Type 0} (a : Form A) (b : Form B) (c : Form C) where
 -- nothing is read of no items
 pub none_read : {A : Type 0} (item : Form A) (place : Place) → IsRead (items item 0) place [] place
 none_read item place = record { in_range = (tt, refl); whole = refl; at_is = omega arith }
+
+-- ## Entries of a single target
+
+compact_some : (most limit longest number : ℕ) → Suits most limit longest → number < limit → 1 ≤ length (compact_bytes number)
+compact_some most limit longest number suits fits =
+    omega (arith, (gives_back most limit longest number [] suits fits).kept.some, length-append {A = ℕ} (compact_bytes number) [])
+
+-- such an entry has two bytes or more
+pub single_long : (old new : Place) (entry : Entry) → IsRead (entry_form 0) old entry new → length new.rest + 2 ≤ length old.rest
+single_long old new entry read =
+    let shares : List ℕ = flat_map share_form.spelling entry.shares in
+    let voter : List ℕ = compact_bytes entry.voter in
+    let last : List ℕ = compact_bytes entry.last in
+    let whole : old.rest ≡ (voter ++ (shares ++ last)) ++ new.rest = read.whole in
+    omega (
+      arith,
+      ap length whole,
+      length-append (voter ++ (shares ++ last)) new.rest,
+      length-append voter (shares ++ last),
+      length-append shares last,
+      compact_some 4 (2 ^ 32) 5 entry.voter suits_u32 read.in_range.0,
+      compact_some 0 (2 ^ 16) 4 entry.last suits_u16 read.in_range.2,
+    )
+
+all_more : {A : Type 0} (P : A → Type 0) (xs : List A) (x : A) → AllByRecursion P xs → P x → AllByRecursion P (xs ++ x ∷ [])
+all_more P [] x all here = (here, tt)
+all_more P (y ∷ xs) x all here = (all.0, all_more P xs x all.1 here)
+
+-- one item more was read
+pub items_more : {A : Type 0} (item : Form A) (done : ℕ) (old mid new : Place) (xs : List A) (x : A) → IsRead (items item done) old xs mid
+    → IsRead item mid x new → IsRead (items item (done + 1)) old (xs ++ x ∷ []) new
+items_more item done old mid new xs x read more =
+    let front : List ℕ = flat_map item.spelling xs in
+    let spelled : flat_map item.spelling (xs ++ x ∷ []) ≡ front ++ item.spelling x =
+    flat_map-append item.spelling xs (x ∷ []) ∙ ap (λ (s : List ℕ). front ++ s) (append-nil (item.spelling x)) in
+    record {
+      in_range = (all_more item.in_range xs x read.in_range.0 more.in_range, omega (arith, length-append xs (x ∷ []), read.in_range.1));
+      whole = read.whole ∙ (ap (λ (s : List ℕ). front ++ s) more.whole
+          ∙ (sym (append_assoc front (item.spelling x) new.rest) ∙ ap (λ (s : List ℕ). s ++ new.rest) (sym spelled)));
+      at_is = omega (arith, read.at_is, more.at_is, ap length spelled, length-append front (item.spelling x));
+    }
 
 -- ## Rows
 

@@ -46,7 +46,8 @@ fn read_entries(
 }
 
 // This many entries of a single target. Room is made at once for those that the bytes left can
-// hold, at a byte for each number. A function by itself keeps what its loop needs in registers.
+// hold, at a byte for each number, so none is wanting. A function by itself keeps what its loop
+// needs in registers.
 #[inline(never)]
 fn read_singles(
     alloc: Global,
@@ -59,7 +60,7 @@ fn read_singles(
     let room = here.rest().len() / 2;
     let mut entries = Vec::with_capacity(alloc, room.min(count as usize))?;
     for _ in 0..count {
-        entries.push(take_single(alloc, &mut here)?)?;
+        entries.push_reserved(take_single(alloc, &mut here)?);
     }
     *cursor = here;
     Ok(List::from_vec(entries))
