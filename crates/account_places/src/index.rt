@@ -51,7 +51,7 @@ fn slot_of(who: AccountId, count: usize) -> usize
 }
 
 /// Whether the account stands at this place.
-fn stands_at(accounts: &[AccountId], place: usize, who: AccountId) -> bool
+pub(crate) fn stands_at(accounts: &[AccountId], place: usize, who: AccountId) -> bool
     ensures yes { result ≡ true → slice_get accounts.now place ≡ Some who }
     ensures no { slice_get accounts.now place ≡ Some who → result ≡ true }
 {

@@ -5,7 +5,7 @@ ghost use Rattle.npos_base.specs.Account.{account_cmp};
 ghost use Rattle.account_places.specs.Places.{place_in, by_account, Stand};
 ghost use Rattle.account_places.specs.Index.{Finds, IsApart};
 
-use crate::index::Index;
+use crate::index::{Index, stands_at};
 use npos_base::{AccountId, NoMemory};
 use std::alloc::Global;
 use std::marker::Model;
@@ -51,6 +51,18 @@ impl Places {
         ensures stand { Stand self.now (by_account self.now) }
     {
         self.index.find(self.accounts.as_slice(), who)
+    }
+
+    /// The place of the account, as `find` tells it. It need not be searched for where it is the one
+    /// that is guessed.
+    pub fn find_from(&self, guess: usize, who: AccountId) -> Option<usize>
+        ensures place { result ≡ place_in (by_account self.now) who }
+        ensures stand { Stand self.now (by_account self.now) }
+    {
+        if stands_at(self.accounts.as_slice(), guess, who) {
+            return Some(guess);
+        }
+        self.find(who)
     }
 
     /// How many accounts have a place.
