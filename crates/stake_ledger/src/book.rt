@@ -362,6 +362,14 @@ impl Book {
         self.rows.get(who).map_or(0, |row| row.active)
     }
 
+    /// What `active` tells, for accounts that are asked for in about the order in which they came:
+    /// the account may be found by the guess, which then is of the account that came next.
+    pub fn active_from(&self, guess: &mut usize, who: AccountId) -> u64
+        ensures { result ≡ (row_at self.now who).active }
+    {
+        self.rows.get_from(guess, who).map_or(0, |row| row.active)
+    }
+
     /// What the account has held as deposits; 0 where it is not known.
     pub fn held(&self, who: AccountId) -> u64
         ensures { result ≡ (row_at self.now who).held }

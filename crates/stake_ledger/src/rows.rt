@@ -64,6 +64,16 @@ impl Rows {
         Some(&self.rows[place])
     }
 
+    /// The row of an account, which may be the one at the guess. The next guess is the row behind it.
+    #[tactic(auto, using(crate::proofs::PlaceLemmas::row_placed, crate::proofs::PlaceLemmas::row_unplaced))]
+    pub fn get_from(&self, guess: &mut usize, who: AccountId) -> Option<&Row>
+        ensures { option_copied result ≡ row_of_entries who self.now }
+    {
+        let place = self.places.find_from(*guess, who)?;
+        *guess = place.wrapping_add(1);
+        Some(&self.rows[place])
+    }
+
     /// Opens the row of an account that has none, with the value free.
     #[tactic(auto, using(crate::proofs::PlaceLemmas::unplaced, crate::proofs::PlaceLemmas::row_in_unplaced, crate::proofs::PlaceLemmas::row_opened, crate::proofs::PlaceLemmas::placed_opened))]
     fn open(&mut self, who: AccountId, value: u64) -> Result<(), NoMemory>

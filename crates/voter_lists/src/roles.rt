@@ -1,12 +1,13 @@
 //! The roles of accounts, after Substrate's staking pallet.
 ghost use Rattle.std.specs.Prelude.{◌≡◌, ◌≢◌, ◌<◌, ◌≤◌, [], ◌∷◌, length, Some, slice_get, position, is_some};
+ghost use Rattle.std.specs.Option.{option_copied};
 ghost use Rattle.std.specs.List.{list_any};
 ghost use Rattle.std.specs.List.Sorted.{IsStrictlySortedBy};
 ghost use Rattle.npos_base.specs.Account.{account_cmp, same_account};
 ghost use Rattle.npos_base.specs.declared.limits.TheConstants.{MOST_VALIDATORS};
 ghost use Rattle.npos_base.specs.Refusal.{Meets, answer_of};
 ghost use Rattle.voter_lists.specs.declared.refusal.ListRefusal.TheVariants as refusals;
-ghost use Rattle.voter_lists.specs.Roles.{role_of, nominated_by, validators_of, is_validator, KeepsOthers, has_repeat, is_no_target, nominate_refusal, nominated, validate_refusal, validating, chill_refusal, without_role};
+ghost use Rattle.voter_lists.specs.Roles.{role_of, nominated_by, validators_of, is_validator, KeepsOthers, standing_of, has_repeat, is_no_target, nominate_refusal, nominated, validate_refusal, validating, chill_refusal, without_role};
 
 use crate::ListRefusal;
 use crate::ranks::{enter, leave};
@@ -103,6 +104,15 @@ impl Roles {
                 commission: *commission,
             },
         }
+    }
+
+    /// What is kept of an account that has a role, for accounts that are asked for in about the order
+    /// in which they first had one: the account may be found by the guess, which then is of the account
+    /// that came next.
+    pub fn standing_from(&self, guess: &mut usize, who: AccountId) -> Option<&Standing>
+        ensures { option_copied result ≡ standing_of self.now who }
+    {
+        self.standings.get_from(guess, who)
     }
 
     /// The targets of a nominator, in the order in which it named them. Nobody else has any.

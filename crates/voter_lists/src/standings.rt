@@ -50,6 +50,20 @@ impl Standings {
         }
     }
 
+    /// The standing of an account, which may be the one at the guess. The next guess is the standing
+    /// behind it.
+    pub(crate) fn get_from(&self, guess: &mut usize, who: AccountId) -> Option<&Standing>
+        ensures { option_copied result ≡ standing_of self.now who }
+    {
+        match self.places.find_from(*guess, who) {
+            Some(place) => {
+                *guess = place.wrapping_add(1);
+                self.standings[place].as_ref()
+            }
+            None => None,
+        }
+    }
+
     /// The account has this standing in place of any that it had.
     pub(crate) fn put(&mut self, who: AccountId, standing: Standing) -> Result<(), NoMemory>
         ensures ok { OnOk result (self.new ≡ with_standing self.old who standing) }
