@@ -7,11 +7,8 @@ use Rattle.std.specs.declared.cmp.Ordering.TheVariants.{Less}
 use Rattle.npos_base.specs.declared.account.AccountId.{AccountId}
 use Rattle.npos_base.specs.Account.{account_cmp}
 use Rattle.voter_lists.specs.Ranked.{AreRanked}
-use Rattle.voter_lists.specs.declared.standing.Standing.{Standing}
-use Rattle.voter_lists.specs.declared.standing.Standing.TheVariants as standings
-use Rattle.voter_lists.specs.Roles.{RoleList, standing_of, role_in, targets_in, nominated_by, validators_of}
+use Rattle.voter_lists.specs.Roles.{RoleList, validators_of}
 use Rattle.voter_lists.proofs.PlaceLemmas.{at_all, below_apart}
-use Rattle.npos_runtime.specs.Ballots.{choices_in, choices_of}
 use Rattle.voter_lists.proofs.ValidatorLemmas.{validators_rise}
 use Rattle.election_snapshot.specs.Draft.{Draft, stands_in, target_fault, with_target}
 
@@ -83,18 +80,3 @@ none_suc f (x ∷ xs) (suc i) d lt e = ap (cons_option (f x)) (none_suc f xs i d
 pub cast_none : {A B : Type 0} (f : A → Option B) (xs : List A) (i : ℕ) (d : A) → i < length xs → f (get_or xs i d) ≡ None
     → filter_map f (take i xs) ≡ filter_map f (take (i + 1) xs)
 cast_none f xs i d lt e = none_suc f xs i d lt e ∙ ap (λ n. filter_map f (take n xs)) (more_by_one i)
-
--- ## Choices
-
-named_in : (standing : Option Standing) (who : AccountId) → 0 < length (targets_in standing) → choices_in (role_in standing) who (targets_in standing) ≡ targets_in standing
-named_in None who some = absurd (omega (arith, some))
-named_in (Some (standings.Nominator targets)) who some = refl
-named_in (Some (standings.Validator commission)) who some = absurd (omega (arith, some))
-
--- who named targets chooses them
-pub named_choices : (roles : RoleList) (who : AccountId) → 0 < length (nominated_by roles who) → choices_of roles who ≡ nominated_by roles who
-named_choices roles who some = named_in (standing_of roles who) who some
-
-pub named_none : (targets : List AccountId) → length targets ≡ 0 → targets ≡ []
-named_none [] e = refl
-named_none (target ∷ targets) e = absurd (omega (arith, e))

@@ -16,7 +16,7 @@ use crate::{Chain, Line, Round};
 use election_snapshot::{SnapshotFault, SnapshotParts};
 use npos_base::{AccountId, List, MOST_VOTERS, NoMemory};
 use std::alloc::Global;
-use voter_lists::{Role, Roles};
+use voter_lists::{Role, Roles, Standing};
 
 /// Adds a target that has no fault.
 fn add_target(parts: &mut SnapshotParts, who: AccountId) -> Result<(), NoMemory>
@@ -64,22 +64,18 @@ fn cast(
 }
 
 /// Writes the votes of an account. Who named targets is a nominator.
-#[tactic(auto, using(crate::proofs::BallotLemmas::named_choices, crate::proofs::BallotLemmas::named_none))]
 fn find_votes(
     roles: &Roles,
-    guesses: &Guesses,
+    guesses: &mut Guesses,
     who: AccountId,
     votes: &mut Vec<u16>,
 ) -> Result<(), NoMemory>
     ensures { OnOk result (votes.new.items ≡ votes_of roles.now who) }
 {
-    let named = roles.targets_of(who);
-    if !named.is_empty() {
-        return cast(roles, guesses, named, votes);
-    }
-    match roles.role(who) {
-        Role::Validator { .. } => cast(roles, guesses, &[who], votes),
-        Role::Nominator | Role::Nobody => cast(roles, guesses, &[], votes),
+    match roles.standing_from(&mut guesses.in_roles, who) {
+        Some(Standing::Nominator(targets)) => cast(roles, guesses, targets.as_slice(), votes),
+        Some(Standing::Validator { .. }) => cast(roles, guesses, &[who], votes),
+        None => cast(roles, guesses, &[], votes),
     }
 }
 
@@ -87,7 +83,7 @@ fn find_votes(
 fn add_voter(
     parts: &mut SnapshotParts,
     chain: &Chain,
-    guesses: &Guesses,
+    guesses: &mut Guesses,
     who: AccountId,
     votes: &mut Vec<u16>,
 ) -> Result<bool, NoMemory>
@@ -97,7 +93,7 @@ fn add_voter(
     ensures answer { IfOk result (λ added. added ≡ is_eligible chain.now who) }
     ensures ok { OnOk result (parts.new ≡ polled chain.now parts.old who) }
 {
-    let stake = chain.book.active(who);
+    let stake = chain.book.active_from(&mut guesses.in_book, who);
     find_votes(&chain.roles, guesses, who, votes)?;
     if stake == 0 || votes.is_empty() {
         return Ok(false);
@@ -112,7 +108,7 @@ fn add_voters(alloc: Global, parts: &mut SnapshotParts, chain: &Chain) -> Result
     requires empty { parts.old ≡ record { targets = validators_of chain.now.roles; voters = [] } }
     ensures { OnOk result (parts.new ≡ ballot_of chain.now) }
 {
-    let guesses = Guesses::new(alloc, &chain.roles)?;
+    let mut guesses = Guesses::new(alloc, &chain.roles)?;
     let mut votes = Vec::new(alloc);
     let mut voters = 0;
     let mut walk = chain.bags.walk();
@@ -120,7 +116,7 @@ fn add_voters(alloc: Global, parts: &mut SnapshotParts, chain: &Chain) -> Result
         let Some(who) = walk.next() else {
             break;
         };
-        if add_voter(parts, chain, &guesses, who, &mut votes)? {
+        if add_voter(parts, chain, &mut guesses, who, &mut votes)? {
             voters += 1;
         }
     }

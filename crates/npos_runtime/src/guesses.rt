@@ -1,5 +1,5 @@
-//! Guesses of the ranks of validators. They save most searches for a rank, and nothing rests on
-//! them: whoever takes a guess looks who stands there.
+//! Guesses of the ranks of validators, and of where voters stand. They save most searches, and
+//! nothing rests on them: whoever takes a guess looks who stands there.
 ghost use Rattle.std.specs.Prelude.{◌≡◌, Some, IfSome};
 ghost use Rattle.voter_lists.specs.Roles.{validators_of};
 ghost use Rattle.election_snapshot.specs.Draft.{place_of};
@@ -11,10 +11,13 @@ use voter_lists::Roles;
 /// How many slots there are, a power of two: four for each validator that there may be.
 const SLOTS: usize = 8192;
 
-/// A rank in each slot, by the last bits of the validator that was noted there last.
+/// A rank in each slot, by the last bits of the validator that was noted there last. The next voter
+/// may stand behind the last one in the books, and so among the roles.
 #[derive(Drop)]
 pub(crate) struct Guesses {
     slots: Vec<u16>,
+    pub(crate) in_book: usize,
+    pub(crate) in_roles: usize,
 }
 
 /// The slot of an account.
@@ -32,7 +35,11 @@ impl Guesses {
                 *slot = rank as u16;
             }
         }
-        Ok(Guesses { slots })
+        Ok(Guesses {
+            slots,
+            in_book: 0,
+            in_roles: 0,
+        })
     }
 
     /// The rank of a validator, which is its place among the targets of a snapshot. A wrong guess

@@ -7,7 +7,7 @@ pub put_voter-requires : goal.put_voter-requires
 put_voter-requires c =
     let chain = c.args.chain.now in
     let who = c.args.who in
-    let stake : c.active-stake.result ≡ active_of chain who = search rules in
+    let stake : c.active_from-stake.result ≡ active_of chain who = search rules in
     let votes : c.as_slice.result.now ≡ votes_of chain.roles who = search rules in
     let staked : 0 < active_of chain who = search rules in
     let voting : 0 < length (votes_of chain.roles who) = search rules in
