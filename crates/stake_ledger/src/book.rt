@@ -11,7 +11,7 @@ ghost use Rattle.stake_ledger.specs.RowCalls.{IsTimely, MayAnswer, row_refusal, 
 use crate::call::RowCall;
 use crate::chunks::Chunk;
 use crate::refusal::LedgerRefusal;
-use crate::rows::Rows;
+use crate::rows::{NOBODY, Rows};
 use crate::totals::Totals;
 use npos_base::AccountId;
 use std::alloc::Global;
@@ -87,7 +87,7 @@ impl Book {
         if value > CAP - self.genesis {
             return Err(LedgerRefusal::IssuanceCap);
         }
-        self.rows.gain(who, value)?;
+        self.rows.gain(NOBODY, who, value)?;
         self.genesis += value;
         self.totals.free += value;
         self.totals.issuance += value;
@@ -225,7 +225,7 @@ impl Book {
         ensures others { OthersStay who self.old self.new }
     {
         if value == 0 {
-            self.rows.gain(who, 0)?;
+            self.rows.gain(NOBODY, who, 0)?;
             return Ok(());
         }
         self.call(who, RowCall::Hold { value })?;
@@ -290,6 +290,12 @@ impl Book {
         Ok(())
     }
 
+    /// A guess of where the account stands, for a call that takes one. It is right where the account is
+    /// known, and nothing rests on it.
+    pub fn guess(&self, who: AccountId) -> usize {
+        self.rows.guess(who)
+    }
+
     /// Makes the value, which is free for the account; its row is opened where it has none. It
     /// refuses with `IssuanceCap` where the value is above the room.
     pub fn mint(&mut self, who: AccountId, value: u64) -> Result<(), LedgerRefusal>
@@ -299,8 +305,24 @@ impl Book {
         ensures refused { IfErr result (IsDue refusals.NoMemory (mint_refusal self.old value)) }
         ensures others { OthersStay who self.old self.new }
     {
+        self.mint_from(NOBODY, who, value)
+    }
+
+    /// Does what `mint` does. The account may be found by the guess.
+    pub fn mint_from(
+        &mut self,
+        guess: usize,
+        who: AccountId,
+        value: u64,
+    ) -> Result<(), LedgerRefusal>
+        ensures ok { OnOk result ((mint_refusal self.old value ≡ None)
+            × (self.new ≡ minted_free who value self.old)) }
+        ensures err { OnErr result (self.new ≡ self.old) }
+        ensures refused { IfErr result (IsDue refusals.NoMemory (mint_refusal self.old value)) }
+        ensures others { OthersStay who self.old self.new }
+    {
         self.check_room(value)?;
-        self.rows.gain(who, value)?;
+        self.rows.gain(guess, who, value)?;
         self.totals.free += value;
         self.totals.minted += value;
         self.totals.issuance += value;

@@ -20,6 +20,9 @@ use npos_base::{AccountId, NoMemory};
 use std::alloc::Global;
 use std::marker::Model;
 
+/// A guess that is never right: no account has this place.
+pub const NOBODY: usize = usize::MAX;
+
 /// The rows by account, each at the account's place. Contracts see the accounts with their rows, by
 /// rising account.
 #[derive(Drop)]
@@ -91,14 +94,20 @@ impl Rows {
         }
     }
 
-    /// Gives the account the value; its row is made where it has none.
+    /// Where the row of an account stands, which is a guess for later. Of an account without a row
+    /// it is one of nobody.
+    pub fn guess(&self, who: AccountId) -> usize {
+        self.places.find(who).unwrap_or(NOBODY)
+    }
+
+    /// Gives the account the value; its row is made where it has none. It may be found by the guess.
     #[tactic(auto, using(crate::proofs::PlaceLemmas::row_in_unplaced, crate::proofs::PlaceLemmas::placed_changed))]
-    pub fn gain(&mut self, who: AccountId, value: u64) -> Result<(), NoMemory>
+    pub fn gain(&mut self, guess: usize, who: AccountId, value: u64) -> Result<(), NoMemory>
         requires { (row_in self.old who).free + value < 2 ^ 64 }
         ensures ok { OnOk result (self.new ≡ with_row who (gained value) self.old) }
         ensures err { OnErr result (self.new ≡ self.old) }
     {
-        match self.places.find(who) {
+        match self.places.find_from(guess, who) {
             Some(place) => {
                 self.rows[place].free += value;
                 Ok(())
@@ -160,7 +169,7 @@ impl Rows {
             (IsDue refusals.NoMemory (hold_refusal (row_in self.old from) value)) }
     {
         self.pay(from, value)?;
-        match self.gain(to, value) {
+        match self.gain(NOBODY, to, value) {
             Ok(()) => Ok(()),
             Err(NoMemory) => {
                 self.give(from, value);

@@ -3,7 +3,7 @@ use Rattle.stake_ledger.specs.Rows.{gained}
 use Rattle.stake_ledger.specs.Calls.{room_of}
 use Rattle.stake_ledger.proofs.KeepLemmas.{totals_within, worth_within, kept_minted}
 use Rattle.stake_ledger.proofs.LedgerLemmas.{others_by}
-use Rattle.stake_ledger.proofs.book.Book.mint.Goals as goal
+use Rattle.stake_ledger.proofs.book.Book.mint_from.Goals as goal
 
 pub gain-requires : goal.gain-requires
 gain-requires c = omega (arith, c.in_ok-check_room.ensures.within, ap room_of c.self.view_is, worth_within c.args.who _ _ c.self.invariant)
