@@ -34,28 +34,47 @@ pub fn points(chain: &mut Chain, who: AccountId, items: List<(AccountId, u32)>) 
 }
 
 /// Mints to an account. There is room for it, so this fails for want of memory alone.
-fn mint(book: &mut Book, who: AccountId, amount: u64) -> Result<(), NoMemory>
+fn mint(book: &mut Book, guess: usize, who: AccountId, amount: u64) -> Result<(), NoMemory>
     requires { amount ≤ room_of book.old }
     ensures { OnOk result (book.new ≡ minted_free who amount book.old) }
 {
-    match book.mint(who, amount) {
+    match book.mint_from(guess, who, amount) {
         Ok(()) => Ok(()),
         Err(_) => Err(NoMemory),
     }
 }
 
+/// Guesses of where the accounts stand in the books. Looked up in one go, they do not wait for memory
+/// one after the other.
+fn guesses(alloc: Global, book: &Book, backers: &[Backer]) -> Result<Vec<usize>, NoMemory> {
+    let mut guesses = Vec::with_capacity(alloc, backers.len())?;
+    for backer in backers {
+        guesses.push(book.guess(backer.who))?;
+    }
+    Ok(guesses)
+}
+
 /// Mints each line, and tells it.
-fn pay(book: &mut Book, more: &mut Vec<Line>, lines: List<Backer>) -> Result<(), NoMemory>
+fn pay(
+    alloc: Global,
+    book: &mut Book,
+    more: &mut Vec<Line>,
+    lines: List<Backer>,
+) -> Result<(), NoMemory>
     requires { amount_sum lines ≤ room_of book.old }
     ensures book { OnOk result (book.new ≡ all_minted lines book.old) }
     ensures told { OnOk result (more.new.items ≡ more.old.items ++ map paid_line lines) }
 {
+    let guesses = guesses(alloc, book, lines.as_slice())?;
+    let mut places = guesses.iter();
+    more.reserve(lines.len())?;
     'lines: for line in lines.into_vec() {
-        mint(book, line.who, line.amount)?;
-        more.push(Line::Paid {
+        let guess = places.next().copied().unwrap_or(0);
+        mint(book, guess, line.who, line.amount)?;
+        more.push_reserved(Line::Paid {
             who: line.who,
             amount: line.amount,
-        })?;
+        });
     }
     Ok(())
 }
@@ -79,7 +98,7 @@ pub fn payout(
     if payout.total > chain.book.room() {
         return Err(Stop::Refused(Refusal::Ledger(LedgerRefusal::IssuanceCap)));
     }
-    pay(&mut chain.book, more, payout.lines)?;
+    pay(alloc, &mut chain.book, more, payout.lines)?;
     chain.eras.mark_paid(era, validator);
     Ok(())
 }
