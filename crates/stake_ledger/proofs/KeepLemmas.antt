@@ -1,20 +1,21 @@
 -- The books stay balanced, and the running totals the sums.
-use Rattle.std.proofs.Common.{◌≡◌, ℕ, ◌+◌, ◌-◌, ◌≤◌, refl, ap, sym, ◌∙◌, subst, arith, None, []}
+use Rattle.std.proofs.Common.{◌≡◌, ℕ, ◌+◌, ◌-◌, ◌≤◌, min, refl, ap, sym, ◌∙◌, subst, arith, None, []}
 use Rattle.std.specs.Map.{values_of}
 use Rattle.std.specs.List.Sorted.{IsStrictlySortedBy}
 use Rattle.npos_base.specs.declared.account.AccountId.{AccountId}
 use Rattle.stake_ledger.specs.declared.row.Row.{Row}
 use Rattle.stake_ledger.specs.declared.totals.Totals.{Totals}
 use Rattle.stake_ledger.specs.declared.call.RowCall.{RowCall}
-use Rattle.stake_ledger.specs.declared.call.RowCall.TheVariants.{Bond, BondExtra, Unbond, Rebond, Withdraw, Hold, Return, Burn, Slash}
+use Rattle.stake_ledger.specs.declared.call.RowCall.TheVariants.{Bond, BondExtra, Unbond, Rebond, Withdraw, Hold, Return, Burn}
 use Rattle.stake_ledger.specs.Chunks.{chunk_sum}
-use Rattle.stake_ledger.specs.Rows.{empty_row, worth, gained, paid}
+use Rattle.stake_ledger.specs.Rows.{empty_row, worth, gained, paid, slashed_row}
 use Rattle.stake_ledger.specs.Parts.{parts_of, Covers, replaced}
 use Rattle.stake_ledger.specs.Ledger.{Ledger, row_at, changed, total, totals_of, IsBalanced, issuance_cap}
 use Rattle.stake_ledger.specs.Kept.{IsKept}
-use Rattle.stake_ledger.specs.Calls.{endowed, transferred, room_of, minted_free}
+use Rattle.stake_ledger.specs.Calls.{endowed, transferred, room_of, minted_free, slash_amount}
 use Rattle.stake_ledger.specs.RowCalls.{row_refusal, row_after, burned_by, called, IsTimely}
-use Rattle.stake_ledger.proofs.CallLemmas.{worth_after, schedule_after}
+use Rattle.stake_ledger.proofs.ScheduleLemmas.{sum_first}
+use Rattle.stake_ledger.proofs.CallLemmas.{worth_after, schedule_after, worth_slashed, schedule_slashed}
 use Rattle.stake_ledger.proofs.LedgerLemmas.{total-changed, part_within, ordered-changed, schedules-changed, schedule_at, total_worth}
 
 same_parts : (f g a b u v d e m n p q i j : ℕ) → f ≡ g → a ≡ b → u ≡ v → d ≡ e → m ≡ n → p ≡ q → i ≡ j
@@ -77,7 +78,6 @@ more_none ledger = let same : ledger.burned + 0 ≡ ledger.burned = omega arith 
 -- a call that burns nothing changes the account's row alone
 pub called_is : (who : AccountId) (call : RowCall) (ledger : Ledger) → record (changed who (row_after call) ledger) { burned = ledger.burned + burned_by call (row_at ledger who) } ≡ called who call ledger
 called_is who (Burn value) ledger = refl
-called_is who (Slash amount) ledger = refl
 called_is who (Bond value minimum) ledger = more_none (changed who (row_after (Bond value minimum)) ledger)
 called_is who (BondExtra value) ledger = more_none (changed who (row_after (BondExtra value)) ledger)
 called_is who (Unbond value release least) ledger = more_none (changed who (row_after (Unbond value release least)) ledger)
@@ -121,6 +121,63 @@ kept_called who call ledger totals burned kept timely allowed is =
           (sum_replaced (λ row. row.active) refl who (row_after call) ledger totals.active kept.balanced (ap (λ (t : Totals). t.active) kept.running))
           (sum_replaced (λ row. chunk_sum row.chunks) refl who (row_after call) ledger totals.unlocking kept.balanced (ap (λ (t : Totals). t.unlocking) kept.running))
           (sum_replaced (λ row. row.held) refl who (row_after call) ledger totals.deposits kept.balanced (ap (λ (t : Totals). t.deposits) kept.running))
+          (ap (λ (t : Totals). t.minted) kept.running)
+          (ap (λ (t : Totals). t.burned + burned) kept.running)
+          (omega (arith, ap (λ (t : Totals). t.issuance) kept.running));
+    }
+
+-- ---- a slash
+
+-- what a slash burns was issued
+pub slash_within : (who : AccountId) (amount : ℕ) (ledger : Ledger) (totals : Totals) → IsKept ledger totals → slash_amount (row_at ledger who) amount ≤ totals.issuance
+slash_within who amount ledger totals kept =
+    omega (
+      arith,
+      part_within worth refl who ledger kept.balanced.distinct,
+      kept.balanced.equation,
+      ap (λ (t : Totals). t.issuance) kept.running,
+    )
+
+pub balanced_slashed : (who : AccountId) (amount : ℕ) (ledger : Ledger) → IsBalanced ledger
+    → IsBalanced (record (changed who (slashed_row amount) ledger) { burned = ledger.burned + slash_amount (row_at ledger who) amount })
+balanced_slashed who amount ledger balanced = record {
+  distinct = ordered-changed who (slashed_row amount) ledger balanced.distinct;
+  schedules = schedules-changed who (slashed_row amount) ledger balanced.schedules (schedule_slashed amount (row_at ledger who) (schedule_at who ledger balanced.schedules));
+  equation = omega (arith, total-changed worth refl who (slashed_row amount) ledger balanced.distinct, worth_slashed amount (row_at ledger who), balanced.equation);
+  capped = balanced.capped;
+}
+
+-- a sum less what was taken of the account's part
+sum_lessened : (part : Row → ℕ) → part empty_row ≡ 0 → (who : AccountId) (change : Row → Row) (ledger : Ledger) (sum taken : ℕ) → IsBalanced ledger → sum ≡ total part ledger
+    → part (change (row_at ledger who)) + taken ≡ part (row_at ledger who) → sum - taken ≡ total part (changed who change ledger)
+sum_lessened part none who change ledger sum taken balanced is less =
+    omega (arith, total-changed part none who change ledger balanced.distinct, is, less)
+
+pub kept_slashed : (who : AccountId) (amount : ℕ) (ledger : Ledger) (totals : Totals) (burned : ℕ) → IsKept ledger totals → burned ≡ slash_amount (row_at ledger who) amount
+    → IsKept (record (changed who (slashed_row amount) ledger) { burned = ledger.burned + burned })
+    (record totals {
+      active = totals.active - min amount (row_at ledger who).active;
+      unlocking = totals.unlocking - min (amount - (row_at ledger who).active) (chunk_sum (row_at ledger who).chunks);
+      burned = totals.burned + burned;
+      issuance = totals.issuance - burned;
+    })
+kept_slashed who amount ledger totals burned kept is =
+    let row : Row = row_at ledger who in
+    let left : Totals = record totals {
+      active = totals.active - min amount row.active;
+      unlocking = totals.unlocking - min (amount - row.active) (chunk_sum row.chunks);
+      burned = totals.burned + burned;
+      issuance = totals.issuance - burned;
+    } in
+    let right : Ledger = record (changed who (slashed_row amount) ledger) { burned = ledger.burned + burned } in
+    record {
+      balanced = subst (λ n. IsBalanced (record (changed who (slashed_row amount) ledger) { burned = ledger.burned + n })) (sym is) (balanced_slashed who amount ledger kept.balanced);
+      running = totals_same left (totals_of right)
+          (omega (arith, total-changed (λ row. row.free) refl who (slashed_row amount) ledger kept.balanced.distinct, ap (λ (t : Totals). t.free) kept.running))
+          (sum_lessened (λ row. row.active) refl who (slashed_row amount) ledger totals.active (min amount row.active) kept.balanced (ap (λ (t : Totals). t.active) kept.running) (omega arith))
+          (sum_lessened (λ row. chunk_sum row.chunks) refl who (slashed_row amount) ledger totals.unlocking (min (amount - row.active) (chunk_sum row.chunks)) kept.balanced
+          (ap (λ (t : Totals). t.unlocking) kept.running) (sum_first (amount - row.active) row.chunks))
+          (omega (arith, total-changed (λ row. row.held) refl who (slashed_row amount) ledger kept.balanced.distinct, ap (λ (t : Totals). t.deposits) kept.running))
           (ap (λ (t : Totals). t.minted) kept.running)
           (ap (λ (t : Totals). t.burned + burned) kept.running)
           (omega (arith, ap (λ (t : Totals). t.issuance) kept.running));

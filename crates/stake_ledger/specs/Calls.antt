@@ -113,13 +113,10 @@ slashed who amount ledger =
       burned = ledger.burned + slash_amount (row_at ledger who) amount;
     }
 
--- why a deposit that is not 0, and a slash of what is bonded, would not be made
+-- why a deposit that is not 0 would not be made
 abbrev pub deposit_refusal : Row → ℕ → Option LedgerRefusal
 deposit_refusal row value = if value == 0 then Some ZeroValue else hold_refusal row value
 
 abbrev pub held_refusal : Row → ℕ → Option LedgerRefusal
 held_refusal row value =
     if value == 0 then Some ZeroValue else if nat_lt row.held value then Some LowFunds else None
-
-abbrev pub slash_refusal : Row → Option LedgerRefusal
-slash_refusal row = if not (is_bonded row) then Some NotBonded else None

@@ -1,9 +1,11 @@
 -- What an account has, part by part, and its place in the sums over all accounts.
-use Rattle.std.specs.Prelude.{◌+◌, ◌-◌, ◌≤◌}
+use Rattle.std.specs.Prelude.{ℕ, ◌+◌, ◌-◌, ◌≤◌, min}
 use Rattle.stake_ledger.specs.declared.row.Row.{Row}
 use Rattle.stake_ledger.specs.declared.parts.Parts.{Parts}
+use Rattle.stake_ledger.specs.declared.parts.Cut.{Cut}
 use Rattle.stake_ledger.specs.declared.totals.Totals.{Totals}
 use Rattle.stake_ledger.specs.Chunks.{chunk_sum}
+use Rattle.stake_ledger.specs.Rows.{is_bonded, slashed_row}
 
 abbrev pub parts_of : Row → Parts
 parts_of row = record {
@@ -27,4 +29,12 @@ replaced before after totals = record totals {
   active = totals.active - before.active + after.active;
   unlocking = totals.unlocking - before.unlocking + after.unlocking;
   deposits = totals.deposits - before.held + after.held;
+}
+
+-- what a slash takes of each part, and whether anything is bonded then
+abbrev pub cut_of : ℕ → Row → Cut
+cut_of amount row = record {
+  active = min amount row.active;
+  unlocking = min (amount - row.active) (chunk_sum row.chunks);
+  bonded = is_bonded (slashed_row amount row);
 }

@@ -8,12 +8,12 @@ use Rattle.stake_ledger.specs.declared.refusal.LedgerRefusal.{LedgerRefusal}
 use Rattle.stake_ledger.specs.declared.refusal.LedgerRefusal.TheVariants.{NoMemory}
 use Rattle.stake_ledger.specs.declared.row.Row.{Row}
 use Rattle.stake_ledger.specs.declared.call.RowCall.{RowCall}
-use Rattle.stake_ledger.specs.declared.call.RowCall.TheVariants.{Bond, BondExtra, Unbond, Rebond, Withdraw, Hold, Return, Burn, Slash}
+use Rattle.stake_ledger.specs.declared.call.RowCall.TheVariants.{Bond, BondExtra, Unbond, Rebond, Withdraw, Hold, Return, Burn}
 use Rattle.stake_ledger.specs.declared.parts.Done.{Done}
 use Rattle.stake_ledger.specs.Parts.{parts_of}
-use Rattle.stake_ledger.specs.Rows.{activated, unbonded, rebonded, withdrawn, deposited, returned, forfeited, slashed_row}
-use Rattle.stake_ledger.specs.Ledger.{Ledger, row_at, changed}
-use Rattle.stake_ledger.specs.Calls.{bond_refusal, bond_extra_refusal, unbond_refusal, unbond_amount, rebond_refusal, rebond_amount, withdraw_refusal, withdraw_amount, deposit_refusal, held_refusal, slash_refusal, slash_amount}
+use Rattle.stake_ledger.specs.Rows.{activated, unbonded, rebonded, withdrawn, deposited, returned, forfeited}
+use Rattle.stake_ledger.specs.Ledger.{Ledger, changed}
+use Rattle.stake_ledger.specs.Calls.{bond_refusal, bond_extra_refusal, unbond_refusal, unbond_amount, rebond_refusal, rebond_amount, withdraw_refusal, withdraw_amount, deposit_refusal, held_refusal}
 
 abbrev pub row_refusal : RowCall → Row → Option LedgerRefusal
 row_refusal (Bond value minimum) row = bond_refusal row value minimum
@@ -24,7 +24,6 @@ row_refusal (Withdraw era) row = withdraw_refusal row
 row_refusal (Hold value) row = deposit_refusal row value
 row_refusal (Return value) row = held_refusal row value
 row_refusal (Burn value) row = held_refusal row value
-row_refusal (Slash amount) row = slash_refusal row
 
 -- only an unbond may want memory, for a chunk
 abbrev pub MayAnswer : RowCall → Option LedgerRefusal → LedgerRefusal → Type 0
@@ -40,7 +39,6 @@ row_amount (Withdraw era) row = withdraw_amount row era
 row_amount (Hold value) row = value
 row_amount (Return value) row = value
 row_amount (Burn value) row = value
-row_amount (Slash amount) row = slash_amount row amount
 
 abbrev pub row_after : RowCall → Row → Row
 row_after (Bond value minimum) row = activated value row
@@ -51,7 +49,6 @@ row_after (Withdraw era) row = withdrawn era row
 row_after (Hold value) row = deposited value row
 row_after (Return value) row = returned value row
 row_after (Burn value) row = forfeited value row
-row_after (Slash amount) row = slashed_row amount row
 
 -- no chunk is released later than what an unbond puts last
 abbrev pub IsTimely : RowCall → Row → Type 0
@@ -61,7 +58,6 @@ IsTimely call row = Unit {0}
 -- what the call takes from all accounts together, of the amount that it moves
 abbrev pub burned_of : RowCall → ℕ → ℕ
 burned_of (Burn value) amount = amount
-burned_of (Slash most) amount = amount
 burned_of call amount = 0
 
 abbrev pub burned_by : RowCall → Row → ℕ
@@ -70,9 +66,6 @@ burned_by call row = burned_of call (row_amount call row)
 abbrev pub called : AccountId → RowCall → Ledger → Ledger
 called who (Burn value) ledger =
     record (changed who (forfeited value) ledger) { burned = ledger.burned + value }
-called who (Slash amount) ledger = record (changed who (slashed_row amount) ledger) {
-  burned = ledger.burned + slash_amount (row_at ledger who) amount;
-}
 called who call ledger = changed who (row_after call) ledger
 
 -- what a call on a row answers and leaves

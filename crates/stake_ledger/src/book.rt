@@ -20,6 +20,13 @@ use std::marker::Model;
 /// The most that may ever be issued, in units of stake.
 const CAP: u64 = 9_223_372_036_854_775_807;
 
+/// What a slash burned, and whether the account has anything bonded then.
+#[derive(Clone, Copy, Debug, PartialEq, Eq)]
+pub struct Loss {
+    pub burned: u64,
+    pub bonded: bool,
+}
+
 /// The books: a row for each account that was ever heard of, and the sums over them.
 #[derive(Drop)]
 pub struct Book {
@@ -336,10 +343,31 @@ impl Book {
         ensures after { self.new ≡ slashed who amount self.old }
         ensures others { OthersStay who self.old self.new }
     {
-        match self.call(who, RowCall::Slash { amount }) {
-            Ok(burned) => burned,
-            // Nothing is bonded.
-            Err(_) => 0,
+        self.slash_from(NOBODY, who, amount).burned
+    }
+
+    /// Does what `slash` does, and tells besides whether anything is bonded then. The account may be
+    /// found by the guess.
+    pub fn slash_from(&mut self, guess: usize, who: AccountId, amount: u64) -> Loss
+        ensures burned { result.burned ≡ slash_amount (row_at self.old who) amount }
+        ensures bonded { result.bonded ≡ is_bonded (row_at self.new who) }
+        ensures after { self.new ≡ slashed who amount self.old }
+        ensures others { OthersStay who self.old self.new }
+    {
+        let Some(cut) = self.rows.slash(guess, who, amount) else {
+            return Loss {
+                burned: 0,
+                bonded: false,
+            };
+        };
+        let burned = cut.active + cut.unlocking;
+        self.totals.active -= cut.active;
+        self.totals.unlocking -= cut.unlocking;
+        self.totals.burned += burned;
+        self.totals.issuance -= burned;
+        Loss {
+            burned,
+            bonded: cut.bonded,
         }
     }
 

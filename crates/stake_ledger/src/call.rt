@@ -40,10 +40,6 @@ pub enum RowCall {
     Burn {
         value: u64,
     },
-    /// Burns bonded units: active ones first, then those of the chunks in order.
-    Slash {
-        amount: u64,
-    },
 }
 
 impl RowCall {
@@ -52,7 +48,7 @@ impl RowCall {
         ensures { result ≡ burned_of self amount }
     {
         match self {
-            RowCall::Burn { .. } | RowCall::Slash { .. } => amount,
+            RowCall::Burn { .. } => amount,
             _ => 0,
         }
     }

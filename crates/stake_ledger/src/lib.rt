@@ -14,7 +14,7 @@ mod rows;
 mod tests;
 mod totals;
 
-pub use book::Book;
+pub use book::{Book, Loss};
 pub use chunks::Chunk;
 pub use refusal::LedgerRefusal;
 pub use totals::Totals;

@@ -16,3 +16,12 @@ pub struct Done {
     pub before: Parts,
     pub after: Parts,
 }
+
+/// What a slash takes of an account's active units and of its chunks, and whether anything is bonded
+/// then.
+#[derive(Clone, Copy)]
+pub struct Cut {
+    pub active: u64,
+    pub unlocking: u64,
+    pub bonded: bool,
+}

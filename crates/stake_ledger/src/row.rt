@@ -1,14 +1,14 @@
 //! What one account has.
-ghost use Rattle.std.specs.Prelude.{◌≡◌, ◌+◌, ◌^◌, ◌<◌, ◌≤◌, OnErr, OnOk, IfErr, IfOk, None, Some, length};
+ghost use Rattle.std.specs.Prelude.{◌≡◌, ◌+◌, ◌^◌, ◌<◌, ◌≤◌, OnErr, OnOk, OnSome, IfErr, IfOk, IfSome, IfNone, None, Some, length, true, false};
 ghost use Rattle.stake_ledger.specs.declared.call.RowCall.TheVariants as calls;
 ghost use Rattle.stake_ledger.specs.Calls.{hold_refusal};
-ghost use Rattle.stake_ledger.specs.Parts.{parts_of};
-ghost use Rattle.stake_ledger.specs.Rows.{empty_row, worth, is_bonded, paid};
+ghost use Rattle.stake_ledger.specs.Parts.{parts_of, cut_of};
+ghost use Rattle.stake_ledger.specs.Rows.{empty_row, worth, is_bonded, paid, slashed_row};
 ghost use Rattle.stake_ledger.specs.RowCalls.{Answers, MayAnswer, row_refusal, row_after, done_of};
 
 use crate::call::RowCall;
 use crate::chunks::Chunks;
-use crate::parts::{Done, Parts};
+use crate::parts::{Cut, Done, Parts};
 use crate::refusal::LedgerRefusal;
 use std::alloc::Global;
 
@@ -201,20 +201,30 @@ impl Row {
         Ok(value)
     }
 
-    /// Takes up to the amount: from active first, then from the chunks in order.
-    fn slash(&mut self, amount: u64) -> Result<u64, LedgerRefusal>
+    /// Takes up to the amount, where something is bonded: from active first, then from the chunks in
+    /// order.
+    #[tactic(auto, using(crate::proofs::ScheduleLemmas::sum_first))]
+    pub fn slash(&mut self, amount: u64) -> Option<Cut>
         requires { worth self.old < 2 ^ 64 }
-        ensures { Answers (calls.Slash amount) self.old self.new result }
+        ensures bonded { OnSome result (is_bonded self.old ≡ true) }
+        ensures some { OnSome result (self.new ≡ slashed_row amount self.old) }
+        ensures cut { IfSome result (λ cut. cut ≡ cut_of amount self.old) }
+        ensures unbonded { IfNone result (is_bonded self.old ≡ false) }
+        ensures none { IfNone result (self.new ≡ self.old) }
     {
         if !self.is_bonded() {
-            return Err(LedgerRefusal::NotBonded);
+            return None;
         }
         let from_active = amount.min(self.active);
         let left = amount - from_active;
         let from_chunks = left.min(self.chunks.sum());
         self.active -= from_active;
         self.chunks.take_first(left);
-        Ok(from_active + from_chunks)
+        Some(Cut {
+            active: from_active,
+            unlocking: from_chunks,
+            bonded: self.is_bonded(),
+        })
     }
 
     /// What the account has, part by part.
@@ -251,7 +261,6 @@ impl Row {
             RowCall::Hold { value } => self.hold(value),
             RowCall::Return { value } => self.give_back(value),
             RowCall::Burn { value } => self.burn(value),
-            RowCall::Slash { amount } => self.slash(amount),
         }
     }
 

@@ -1,5 +1,5 @@
 //! The rows of all accounts, and the change of one of them.
-ghost use Rattle.std.specs.Prelude.{◌≡◌, ◌≢◌, ◌+◌, ◌^◌, ◌<◌, ◌≤◌, [], None, Some, OnErr, OnOk, IfErr, IfOk, length};
+ghost use Rattle.std.specs.Prelude.{◌≡◌, ◌≢◌, ◌+◌, ◌^◌, ◌<◌, ◌≤◌, [], None, Some, OnErr, OnOk, OnSome, IfErr, IfOk, IfSome, IfNone, length, true, false};
 ghost use Rattle.std.specs.Option.{option_copied};
 ghost use Rattle.std.specs.List.Sorted.{IsStrictlySortedBy};
 ghost use Rattle.std.specs.Map.{keys_of};
@@ -7,12 +7,13 @@ ghost use Rattle.npos_base.specs.Account.{account_cmp};
 ghost use Rattle.stake_ledger.specs.declared.refusal.LedgerRefusal.TheVariants as refusals;
 ghost use Rattle.npos_base.specs.Refusal.{IsDue};
 ghost use Rattle.stake_ledger.specs.Calls.{hold_refusal};
-ghost use Rattle.stake_ledger.specs.Rows.{worth, gained, paid};
+ghost use Rattle.stake_ledger.specs.Rows.{worth, is_bonded, gained, paid, slashed_row};
+ghost use Rattle.stake_ledger.specs.Parts.{cut_of};
 ghost use Rattle.stake_ledger.specs.Ledger.{row_in, row_of_entries, with_row};
 ghost use Rattle.stake_ledger.specs.RowCalls.{MayAnswer, row_refusal, row_after, done_of};
 
 use crate::call::RowCall;
-use crate::parts::Done;
+use crate::parts::{Cut, Done};
 use crate::refusal::LedgerRefusal;
 use crate::row::Row;
 use account_places::Places;
@@ -175,6 +176,23 @@ impl Rows {
                 self.give(from, value);
                 Err(LedgerRefusal::NoMemory)
             }
+        }
+    }
+
+    /// Takes up to the amount of what the account has bonded, if anything. Its row may be found by the
+    /// guess.
+    #[tactic(auto, using(crate::proofs::PlaceLemmas::row_in_unplaced, crate::proofs::PlaceLemmas::placed_changed))]
+    pub fn slash(&mut self, guess: usize, who: AccountId, amount: u64) -> Option<Cut>
+        requires { worth (row_in self.old who) < 2 ^ 64 }
+        ensures bonded { OnSome result (is_bonded (row_in self.old who) ≡ true) }
+        ensures some { OnSome result (self.new ≡ with_row who (slashed_row amount) self.old) }
+        ensures cut { IfSome result (λ cut. cut ≡ cut_of amount (row_in self.old who)) }
+        ensures unbonded { IfNone result (is_bonded (row_in self.old who) ≡ false) }
+        ensures none { IfNone result (self.new ≡ self.old) }
+    {
+        match self.places.find_from(guess, who) {
+            Some(place) => self.rows[place].slash(amount),
+            None => None,
         }
     }
 
