@@ -1,5 +1,5 @@
 -- The books of a chain, while deposits are held, returned and burned.
-use Rattle.std.proofs.Common.{◌≡◌, ℕ, ◌+◌, ◌-◌, ◌≤◌, Bool, true, false, not, nat_lt, get_or, Some, None, is_some, All, List, [], ◌∷◌, ◌++◌, refl, sym, ◌∙◌, ap, subst, arith, ◌==◌, if◌then◌else◌, IsPermutation}
+use Rattle.std.proofs.Common.{◌≡◌, ℕ, ◌+◌, ◌-◌, ◌≤◌, Bool, true, false, not, nat_lt, get_or, is_some, All, List, [], ◌∷◌, ◌++◌, refl, sym, ◌∙◌, ap, subst, arith, ◌==◌, if◌then◌else◌, IsPermutation}
 use Rattle.std.proofs.lemmas.List.Sums.{sum_by-cons}
 use Rattle.std.proofs.lemmas.List.Elements.{All-cons, All-head, All-tail}
 use Rattle.std.proofs.lemmas.List.{append-nil, take-append-drop}
@@ -15,10 +15,8 @@ use Rattle.stake_ledger.specs.Ledger.{Ledger, row_at, row_of, changed, IsBalance
 use Rattle.stake_ledger.specs.Chunks.{without_first}
 use Rattle.stake_ledger.specs.Rows.{is_bonded}
 use Rattle.stake_ledger.specs.Calls.{deposit_held, deposit_returned, deposit_burned, minted_free, room_of, slashed, slash_amount}
-use Rattle.stake_ledger.specs.declared.call.RowCall.TheVariants as row_calls
-use Rattle.stake_ledger.specs.declared.refusal.LedgerRefusal.TheVariants.{NotBonded}
 use Rattle.stake_ledger.proofs.LedgerLemmas.{schedule_at, total-changed, ordered-changed, schedules-changed}
-use Rattle.stake_ledger.proofs.KeepLemmas.{balanced_minted, balanced_called}
+use Rattle.stake_ledger.proofs.KeepLemmas.{balanced_minted, balanced_slashed}
 use Rattle.stake_ledger.proofs.AccountLemmas.{row_at-changed, row_at-returned, row_at-burned, row_at-minted, row_at-slashed, known-slashed}
 use Rattle.submission_queue.specs.declared.submission.Submission.{Submission}
 use Rattle.election_snapshot.specs.Snapshot.{Snapshot}
@@ -179,7 +177,7 @@ module _ (release : ℕ) where
     balanced : (bonded : Bool) → is_bonded (row_at book who) ≡ bonded
         → IsBalanced (if not bonded then book else record (changed who (rows.slashed_row amount) book) { burned = book.burned + slash_amount (row_at book who) amount })
     balanced false e = are.balanced
-    balanced true e = balanced_called who (row_calls.Slash amount) book are.balanced tt (ap (λ (b : Bool). if not b then Some NotBonded else None) e)
+    balanced true e = balanced_slashed who amount book are.balanced
 
     first_by : (old new : Row) (b : Bool) → new ≡ (if b then rows.slashed_row amount old else old)
         → All (λ (chunk : Chunk). chunk.release ≤ release) old.chunks → All (λ (chunk : Chunk). chunk.release ≤ release) new.chunks

@@ -1,5 +1,7 @@
 //! Who has a role, and when a role ends.
 ghost use Rattle.std.specs.Prelude.{◌≡◌};
+ghost use Rattle.stake_ledger.specs.Rows.{is_bonded};
+ghost use Rattle.stake_ledger.specs.Ledger.{row_at};
 ghost use Rattle.npos_runtime.specs.Live.{IsJoined};
 ghost use Rattle.npos_runtime.specs.Lists.{has_role, is_role, retired};
 
@@ -30,7 +32,17 @@ pub fn retire(chain: &mut Chain, who: AccountId)
     requires { IsJoined chain.old.roles chain.old.bags }
     ensures { chain.new ≡ retired who chain.old }
 {
-    if !chain.book.bonded(who) && has_role(chain, who) {
+    let bonded = chain.book.bonded(who);
+    retire_unless(chain, who, bonded);
+}
+
+/// Does what `retire` does, where it is known whether anything is bonded.
+pub fn retire_unless(chain: &mut Chain, who: AccountId, bonded: bool)
+    requires joined { IsJoined chain.old.roles chain.old.bags }
+    requires known { bonded ≡ is_bonded (row_at chain.old.book who) }
+    ensures { chain.new ≡ retired who chain.old }
+{
+    if !bonded && has_role(chain, who) {
         let _ = chain.roles.chill(who);
         chain.bags.remove(who);
     }

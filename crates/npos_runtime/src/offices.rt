@@ -1,12 +1,13 @@
 //! Points, payouts and offences.
-ghost use Rattle.std.specs.Prelude.{◌≡◌, ◌≤◌, ◌++◌, map, OnOk};
+ghost use Rattle.std.specs.Prelude.{◌≡◌, ◌+◌, ◌<◌, ◌≤◌, ◌++◌, map, OnOk, vec_len};
+ghost use Rattle.std.specs.Vec.{vec_capacity};
 ghost use Rattle.stake_ledger.specs.Calls.{minted_free, room_of};
 ghost use Rattle.era_book.specs.Exposures.{amount_sum};
 ghost use Rattle.npos_runtime.specs.Outcome.{Goes, Meets, Untold};
 ghost use Rattle.npos_runtime.specs.Live.{IsLive};
 ghost use Rattle.npos_runtime.specs.Offices.{is_root, points_refusal, points_done, payout_refusal, payout_done, payout_told, all_minted, paid_line, offence_refusal, offence_done, offence_told, slash_outcome, slashes};
 
-use crate::lists::retire;
+use crate::lists::retire_unless;
 use crate::rules::{era_reward_of, root_of};
 use crate::stop::Stop;
 use crate::{Chain, Line, Refusal};
@@ -104,30 +105,40 @@ pub fn payout(
 }
 
 /// Takes what is due from an account, and tells it unless it is nothing. A role ends where nothing
-/// is bonded behind it any more.
-fn slash(chain: &mut Chain, more: &mut Vec<Line>, due: Backer) -> Result<(), NoMemory>
-    requires { IsLive chain.old }
-    ensures { OnOk result
-        (Goes (slash_outcome due chain.old) chain.new more.old.items more.new.items) }
+/// is bonded behind it any more. The account may be found by the guess.
+fn slash(chain: &mut Chain, more: &mut Vec<Line>, guess: usize, due: Backer)
+    requires live { IsLive chain.old }
+    requires room { vec_len more.old < vec_capacity more.old }
+    ensures goes { Goes (slash_outcome due chain.old) chain.new more.old.items more.new.items }
+    ensures len { vec_len more.new ≤ vec_len more.old + 1 }
+    ensures capacity { vec_capacity more.new ≡ vec_capacity more.old }
 {
-    let amount = chain.book.slash(due.who, due.amount);
-    retire(chain, due.who);
-    if amount > 0 {
-        more.push(Line::Slashed {
+    let loss = chain.book.slash_from(guess, due.who, due.amount);
+    retire_unless(chain, due.who, loss.bonded);
+    if loss.burned > 0 {
+        more.push_reserved(Line::Slashed {
             who: due.who,
-            amount,
-        })?;
+            amount: loss.burned,
+        });
     }
-    Ok(())
 }
 
 /// Slashes one account after the other.
-fn slash_all(chain: &mut Chain, more: &mut Vec<Line>, dues: List<Backer>) -> Result<(), NoMemory>
+fn slash_all(
+    alloc: Global,
+    chain: &mut Chain,
+    more: &mut Vec<Line>,
+    dues: List<Backer>,
+) -> Result<(), NoMemory>
     requires { IsLive chain.old }
     ensures { OnOk result (Goes (slashes dues chain.old) chain.new more.old.items more.new.items) }
 {
+    let guesses = guesses(alloc, &chain.book, dues.as_slice())?;
+    let mut places = guesses.iter();
+    more.reserve(dues.len())?;
     'dues: for due in dues.into_vec() {
-        slash(chain, more, due)?;
+        let guess = places.next().copied().unwrap_or(0);
+        slash(chain, more, guess, due);
     }
     Ok(())
 }
@@ -153,7 +164,7 @@ pub fn offence(
         return Err(Stop::Refused(Refusal::NotRoot));
     }
     let dues = chain.eras.slash_list(alloc, era, validator, fraction)?;
-    slash_all(chain, more, dues)?;
+    slash_all(alloc, chain, more, dues)?;
     chain.eras.mark_slashed(era, validator, fraction);
     Ok(())
 }

@@ -1,4 +1,4 @@
-use Rattle.std.proofs.Common.{◌≡◌, List, ◌∷◌, ap, sym, subst, ◌∙◌}
+use Rattle.std.proofs.Common.{◌≡◌, List, ◌∷◌, length, arith, ap, sym, subst, ◌∙◌}
 use Rattle.std.specs.Vec.Iter.{into_iter_items}
 use Rattle.era_book.specs.declared.exposure.Backer.{Backer}
 use Rattle.npos_runtime.specs.Outcome.{told_after}
@@ -10,10 +10,11 @@ use Rattle.npos_runtime.proofs.offices.slash_all.Goals as goal
 
 pub dues-preserved : goal.dues-preserved
 dues-preserved c =
-    let goes = c.in_ok-slash.ensures in
+    let goes = c.slash.ensures.goes in
     let left : into_iter_items c.dues.due-iterator ≡ c.in-Some.due ∷ into_iter_items c.next.new.self = c.in-Some.ensures.steps.0 in
     record {
       live = subst IsLive (sym goes.state) (slashed_live c.in-Some.due c.dues.chain c.dues.invariant.live);
+      room = omega (arith, ap length left, c.slash.ensures.len, c.slash.ensures.capacity, c.dues.invariant.room);
       told = told_more (slash_outcome c.in-Some.due c.dues.chain) (slashes (into_iter_items c.next.new.self)) c.slash.new.chain c.dues.more.items c.slash.new.more.items goes
           ∙ (ap (λ (dues : List Backer). told_after c.dues.more.items (slashes dues c.dues.chain)) (sym left) ∙ c.dues.invariant.told);
     }
