@@ -91,6 +91,24 @@ module _ (who : AccountId) where
     counted_once [] s valid = absurd (true≢false (sym valid))
     counted_once (row ∷ rows) s valid = counted_at row rows (account_cmp who row.0) refl s (counted_once rows s.1) valid
 
+  -- who is no validator is not among them
+  staying_at : (row : AccountId × Standing) (rows : RoleList) (r : Ordering) → account_cmp who row.0 ≡ r → IsStrictlySortedBy account_cmp (keys_of (row ∷ rows))
+      → (is_validator rows who ≡ false → remove_key (is_at (account_cmp who)) (validators_of rows) ≡ validators_of rows)
+      → is_validator_in (cond (is_eq r) (Some row.1) (lookup (is_at (account_cmp who)) rows)) ≡ false
+      → remove_key (is_at (account_cmp who)) (validators_of (row ∷ rows)) ≡ validators_of (row ∷ rows)
+  unfolding IsStrictlySortedBy
+  staying_at row rows Less is s rest none = absent (row ∷ rows) (is, all_below row.0 (keys_of rows) is s.0)
+  staying_at row rows Equal is s rest none = rw none (absent rows (all_same row.0 (keys_of rows) is s.0))
+  staying_at row rows Greater is s rest none = at (is_validator_standing row.1) where
+    at : (b : Bool) → remove_key (is_at (account_cmp who)) (if b then row.0 ∷ validators_of rows else validators_of rows) ≡ (if b then row.0 ∷ validators_of rows else validators_of rows)
+    at true = rw is (ap (λ vs. row.0 ∷ vs) (rest none))
+    at false = rest none
+
+  pub not_among : (rows : RoleList) → IsStrictlySortedBy account_cmp (keys_of rows) → is_validator rows who ≡ false → remove_key (is_at (account_cmp who)) (validators_of rows) ≡ validators_of rows
+  unfolding IsStrictlySortedBy
+  not_among [] s none = refl
+  not_among (row ∷ rows) s none = staying_at row rows (account_cmp who row.0) refl s (not_among rows s.1) none
+
   -- a nominator leaves the validators
   module _ (targets : List AccountId) where
     nominating_at : (row : AccountId × Standing) (rows : RoleList) (r : Ordering) → account_cmp who row.0 ≡ r → IsStrictlySortedBy account_cmp (keys_of (row ∷ rows))
@@ -172,6 +190,11 @@ length_inserted who (account ∷ accounts) = at (account_cmp who account) (lengt
   at Greater rest = omega (arith, rest)
 
 -- the validators that are kept beside the standings, after each change
+pub ranked_without : (who : AccountId) (rows : RoleList) (accounts : List AccountId) → AreRanked rows accounts → is_validator rows who ≡ false
+    → remove_key (is_at (account_cmp who)) accounts ≡ accounts
+ranked_without who rows accounts h none =
+    subst (λ xs. remove_key (is_at (account_cmp who)) xs ≡ xs) (sym h.ranked) (not_among who rows h.rising none)
+
 pub ranked_rise : (rows : RoleList) (accounts : List AccountId) → AreRanked rows accounts → IsStrictlySortedBy account_cmp accounts
 ranked_rise rows accounts h = subst (λ xs. IsStrictlySortedBy account_cmp xs) (sym h.ranked) (validators_rise rows h.rising)
 

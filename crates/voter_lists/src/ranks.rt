@@ -1,5 +1,5 @@
 //! Accounts in a vector, each once and by rising account, so that the one at a place is at hand.
-ghost use Rattle.std.specs.Prelude.{◌≡◌, ◌<◌, vec_len};
+ghost use Rattle.std.specs.Prelude.{◌≡◌, ◌<◌, false, vec_len};
 ghost use Rattle.std.specs.Vec.{vec_capacity};
 ghost use Rattle.std.specs.BTreeMap.{is_at};
 ghost use Rattle.std.specs.BTreeSet.{insert_key};
@@ -34,5 +34,18 @@ pub(crate) fn leave(accounts: &mut Vec<AccountId>, who: AccountId)
             let _ = accounts.remove(place);
         }
         Err(_) => {}
+    }
+}
+
+/// Takes the account out, where it is known to be there or not. Who is not there need not be searched
+/// for.
+pub(crate) fn leave_where(accounts: &mut Vec<AccountId>, who: AccountId, there: bool)
+    requires rising { IsStrictlySortedBy account_cmp accounts.old.items }
+    requires known { there ≡ false
+        → remove_key (is_at (account_cmp who)) accounts.old.items ≡ accounts.old.items }
+    ensures { accounts.new.items ≡ remove_key (is_at (account_cmp who)) accounts.old.items }
+{
+    if there {
+        leave(accounts, who);
     }
 }

@@ -10,7 +10,7 @@ ghost use Rattle.voter_lists.specs.declared.refusal.ListRefusal.TheVariants as r
 ghost use Rattle.voter_lists.specs.Roles.{role_of, nominated_by, validators_of, is_validator, KeepsOthers, standing_of, has_repeat, is_no_target, nominate_refusal, nominated, validate_refusal, validating, chill_refusal, without_role};
 
 use crate::ListRefusal;
-use crate::ranks::{enter, leave};
+use crate::ranks::{enter, leave, leave_where};
 use crate::standing::{Role, Standing};
 use crate::standings::Standings;
 use npos_base::{AccountId, List, MOST_NOMINATIONS, MOST_VALIDATORS, WHOLE_FRACTION};
@@ -55,8 +55,9 @@ impl Roles {
         ensures others { KeepsOthers self.old self.new who }
     {
         self.check_targets(who, targets.as_slice())?;
+        let validates = self.is_validator(who);
         self.standings.put(who, Standing::Nominator(targets))?;
-        leave(&mut self.validators, who);
+        leave_where(&mut self.validators, who, validates);
         Ok(())
     }
 
