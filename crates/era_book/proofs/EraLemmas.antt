@@ -11,10 +11,9 @@ use Rattle.npos_base.specs.declared.account.AccountId.{AccountId}
 use Rattle.npos_base.specs.declared.limits.TheConstants.{MOST_PAST_ERAS}
 use Rattle.npos_base.specs.Account.{account_cmp}
 use Rattle.era_book.specs.declared.exposure.Exposure.{Exposure}
-use Rattle.era_book.specs.declared.member.Member.{Member}
 use Rattle.era_book.specs.Exposures.{IsSound}
-use Rattle.era_book.specs.Members.{Members, member_of, members_with, with_member, gaining, with_points}
-use Rattle.era_book.specs.Eras.{Eras, started, is_unknown, era_of, members_in, member_in, with_member_in, AreMembers, AreKept}
+use Rattle.era_book.specs.Members.{Member, Members, member_of, members_with, with_member, gaining, with_points}
+use Rattle.era_book.specs.Eras.{Eras, started, begun_with, is_unknown, era_of, members_in, member_in, with_member_in, AreMembers, AreKept}
 use Rattle.era_book.proofs.MemberLemmas.{all_changed, all_with}
 
 -- a member of sound members is sound
@@ -53,14 +52,15 @@ kept_later current first other later n kept sound =
     }
 
 -- the next era begins
-pub kept_started : (eras : Eras) (exposures : List Exposure) → AreKept eras → All IsSound exposures → AreKept (started exposures eras)
-kept_started eras exposures kept sound =
+pub kept_begun : (eras : Eras) (members : Members) → AreKept eras → AreMembers members → AreKept (begun_with members eras)
+kept_begun eras members kept sound =
     record {
-      count = omega (arith, kept.count, length-take (MOST_PAST_ERAS + 1) (members_with exposures ∷ eras.kept));
-      sound =
-          All-take AreMembers (MOST_PAST_ERAS + 1) (members_with exposures ∷ eras.kept)
-          (All-cons AreMembers (members_with exposures) eras.kept (sound_newcomers exposures sound) kept.sound);
+      count = omega (arith, kept.count, length-take (MOST_PAST_ERAS + 1) (members ∷ eras.kept));
+      sound = All-take AreMembers (MOST_PAST_ERAS + 1) (members ∷ eras.kept) (All-cons AreMembers members eras.kept sound kept.sound);
     }
+
+pub kept_started : (eras : Eras) (exposures : List Exposure) → AreKept eras → All IsSound exposures → AreKept (started exposures eras)
+kept_started eras exposures kept sound = kept_begun eras (members_with exposures) kept (sound_newcomers exposures sound)
 
 -- ---- what is found at a place
 pub all_at : {X : Type 0} (P : X → Type 0) (xs : List X) (n : ℕ) → All P xs → IfSome (slice_get xs n) P

@@ -8,10 +8,9 @@ use Rattle.std.proofs.lemmas.List.Elements.{All-nil, All-set}
 use Rattle.npos_base.specs.declared.account.AccountId.{AccountId}
 use Rattle.npos_base.specs.declared.limits.TheConstants.{MOST_PAST_ERAS, WHOLE_FRACTION}
 use Rattle.era_book.specs.declared.exposure.Exposure.{Exposure}
-use Rattle.era_book.specs.declared.member.Member.{Member}
 use Rattle.era_book.specs.declared.refusal.EraRefusal.TheVariants.{BadFraction, UnknownEra, EraNotOver, AlreadyClaimed, NoPoints, NotGreater}
 use Rattle.era_book.specs.Exposures.{IsSound}
-use Rattle.era_book.specs.Members.{Members, members_with, with_member, gaining, with_points}
+use Rattle.era_book.specs.Members.{Member, Members, members_with, with_member, gaining, with_points}
 use Rattle.era_book.specs.Eras.{Eras, started, is_unknown, members_in, member_in, with_members, AreMembers, AreKept}
 use Rattle.era_book.specs.Calls.{payout_refusal, claim_refusal, claiming, slash_refusal, fraction_refusal, keeping}
 use Rattle.era_book.specs.Events.{Event, Started, Pointed, Paid, Reported, IsAccepted, after}

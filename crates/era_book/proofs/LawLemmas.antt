@@ -9,11 +9,10 @@ use Rattle.npos_base.specs.declared.limits.TheConstants.{MOST_PAST_ERAS, WHOLE_F
 use Rattle.npos_base.specs.Account.{same_account}
 use Rattle.era_book.specs.declared.exposure.Backer.{Backer}
 use Rattle.era_book.specs.declared.exposure.Exposure.{Exposure}
-use Rattle.era_book.specs.declared.member.Member.{Member}
 use Rattle.era_book.specs.Exposures.{amount_sum, amount_for, exposed_for, IsSound}
 use Rattle.era_book.specs.Payouts.{part, line, payout_lines}
 use Rattle.era_book.specs.Slashes.{due, slash_lines}
-use Rattle.era_book.specs.Members.{Members, member_of, members_with, total_points, with_member, gaining, with_points}
+use Rattle.era_book.specs.Members.{Member, Members, member_of, members_with, total_points, with_member, gaining, with_points}
 use Rattle.era_book.specs.Eras.{Eras, first_era, started, is_unknown, members_in, member_in, AreMembers, AreKept}
 use Rattle.era_book.specs.Calls.{claiming, keeping, paid_to, payout_in, due_behind, slash_in}
 use Rattle.era_book.specs.Events.{Event, Started, Pointed, Paid, Reported, IsAccepted, after, AreAccepted, given_by, pays, makes_due, begun}

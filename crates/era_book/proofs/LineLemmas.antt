@@ -1,5 +1,5 @@
 -- The lines of payouts and slashes, and what they are together.
-use Rattle.std.proofs.Common.{◌≡◌, ℕ, ◌+◌, ◌-◌, ◌<◌, ◌≤◌, Bool, true, false, cond, not, nat_lt, List, [], ◌∷◌, length, get_or, map, find, sum_by, Some, refl, ap, sym, ◌∙◌, arith}
+use Rattle.std.proofs.Common.{◌≡◌, ℕ, zero, suc, ◌+◌, ◌-◌, ◌<◌, ◌≤◌, Bool, true, false, cond, not, nat_lt, List, [], ◌∷◌, length, get_or, map, find, sum_by, Some, refl, ap, sym, ◌∙◌, arith}
 use Rattle.std.specs.Option.{option_map_or}
 use Rattle.std.proofs.lemmas.Bool.Decides.{nat_tests}
 use Rattle.std.proofs.lemmas.List.Sums.{sum_by-cons, get_or-le-sum_by}
@@ -9,6 +9,9 @@ use Rattle.npos_base.specs.Account.{same_account}
 use Rattle.era_book.specs.declared.exposure.Backer.{Backer}
 use Rattle.era_book.specs.declared.exposure.Exposure.{Exposure}
 use Rattle.era_book.specs.Exposures.{amount_sum, IsSound}
+use Rattle.era_book.specs.declared.seat.Share.{Share}
+use Rattle.era_book.specs.Committee.{account_at}
+use Rattle.era_book.specs.Seats.{backer_seen, backers_seen}
 use Rattle.era_book.specs.Payouts.{part, line, kept_lines, own_part, others, commission_of, share, validator_line, backer_line, payout_lines}
 use Rattle.era_book.proofs.PartLemmas.{part_within, parts_within, two_parts}
 
@@ -82,3 +85,21 @@ payout_within exposure value sound =
 -- the lines of the others among some backers
 abbrev pub other_lines : AccountId → ℕ → ℕ → List Backer → List Backer
 other_lines v rest support bs = kept_lines (map (λ b. line b.who (part rest b.amount support)) (others v bs))
+
+-- ---- what shares hold, by the accounts that they name
+pub own_seen : (v : AccountId) (accounts : List AccountId) (shares : List Share)
+    → option_map_or (λ (share : Share). share.amount) (find (λ (share : Share). same_account (account_at accounts share.place) v) shares) 0 ≡ own_part v (backers_seen accounts shares)
+own_seen v accounts [] = refl
+own_seen v accounts (s ∷ ss) = at (same_account (account_at accounts s.place) v) (own_seen v accounts ss) where
+  at : (t : Bool)
+      → option_map_or (λ (share : Share). share.amount) (find (λ (share : Share). same_account (account_at accounts share.place) v) ss) 0 ≡ own_part v (backers_seen accounts ss)
+      → option_map_or (λ (share : Share). share.amount) (cond t (Some s) (find (λ (share : Share). same_account (account_at accounts share.place) v) ss)) 0
+      ≡ option_map_or (λ (l : Backer). l.amount) (cond t (Some (backer_seen accounts s)) (find (λ (l : Backer). same_account l.who v) (backers_seen accounts ss))) 0
+  at true rest = refl
+  at false rest = rest
+
+pub share_within : (accounts : List AccountId) (shares : List Share) (i : ℕ) (d : Share) → i < length shares → (get_or shares i d).amount ≤ amount_sum (backers_seen accounts shares)
+share_within accounts [] i d few = absurd (omega arith)
+share_within accounts (s ∷ ss) zero d few = omega (arith, sum_by-cons (λ (l : Backer). l.amount) (backer_seen accounts s) (backers_seen accounts ss))
+share_within accounts (s ∷ ss) (suc i) d few =
+    omega (arith, share_within accounts ss i d (omega (arith, few)), sum_by-cons (λ (l : Backer). l.amount) (backer_seen accounts s) (backers_seen accounts ss))

@@ -13,8 +13,7 @@ use Rattle.std.specs.declared.cmp.Ordering.TheVariants.{Less, Equal, Greater}
 use Rattle.npos_base.specs.declared.account.AccountId.{AccountId}
 use Rattle.npos_base.specs.Account.{account_cmp}
 use Rattle.era_book.specs.declared.exposure.Exposure.{Exposure}
-use Rattle.era_book.specs.declared.member.Member.{Member}
-use Rattle.era_book.specs.Members.{Members, IsCounted, member_of, newcomer, with_exposure, members_with, total_points, put_member, changed, with_member, gaining, with_points}
+use Rattle.era_book.specs.Members.{Member, Members, IsCounted, member_of, newcomer, with_exposure, members_with, total_points, put_member, changed, with_member, gaining, with_points}
 
 -- a sum over the members, after one of them changed
 pub sum_changed : (f : Member → ℕ) (who : AccountId) (change : Member → Member) (members : Members) (member : Member)

@@ -1,5 +1,5 @@
 -- What a change leaves as it was.
-use Rattle.std.proofs.Common.{◌≡◌, ◌≢◌, ℕ, ◌+◌, Bool, true, false, cond, nat_eq, List, [], ◌∷◌, map, get_or, fold, All, Option, Some, None, refl, ap, sym, ◌∙◌, true≢false}
+use Rattle.std.proofs.Common.{◌≡◌, ◌≢◌, ℕ, ◌+◌, Bool, true, false, cond, nat_eq, List, [], ◌∷◌, map, get_or, fold, All, Option, Some, None, refl, ap, sym, subst, ◌∙◌, true≢false}
 use Rattle.std.specs.BTreeMap.{is_at}
 use Rattle.std.specs.List.{IsDistinct, AllByRecursion}
 use Rattle.std.specs.Map.{set_value}
@@ -12,8 +12,7 @@ use Rattle.npos_base.specs.Account.{account_cmp, same_account}
 use Rattle.npos_base.proofs.AccountOrder.{account_total, account_exact, account_apart, same_itself}
 use Rattle.npos_base.proofs.EntryLemmas.{lookup_put, lookup_other}
 use Rattle.era_book.specs.declared.exposure.Exposure.{Exposure}
-use Rattle.era_book.specs.declared.member.Member.{Member}
-use Rattle.era_book.specs.Members.{Members, member_of, newcomer, with_exposure, put_member, changed, with_member}
+use Rattle.era_book.specs.Members.{Member, Members, member_of, newcomer, with_exposure, put_member, changed, with_member}
 use Rattle.era_book.specs.Eras.{Eras, started, is_unknown, members_in, member_in, with_member_in, OthersStay, EarlierStay, HasExposures, HasNoOther, AreKept}
 use Rattle.era_book.proofs.HistoryLemmas.{same_number, known_numbers, members_set, members_stay, members_enter}
 
@@ -90,3 +89,15 @@ none_else eras exposures = λ who apart.
 
 pub earlier_stay : (eras : Eras) (exposures : List Exposure) → EarlierStay eras (started exposures eras)
 earlier_stay eras exposures = λ era begun known. members_stay eras era exposures begun (known_numbers (started exposures eras) era known).1
+
+-- the same of the eras that are kept once an era has begun
+pub exposures_begun : (old new : Eras) (exposures : List Exposure) → IsDistinct same_account (map (λ exposure. exposure.validator) exposures)
+    → new ≡ started exposures old → HasExposures new new.current exposures
+exposures_begun old new exposures distinct is =
+    subst (λ (eras : Eras). HasExposures eras eras.current exposures) (sym is) (exposures_enter old exposures distinct)
+
+pub no_other_begun : (old new : Eras) (exposures : List Exposure) → new ≡ started exposures old → HasNoOther new new.current exposures
+no_other_begun old new exposures is = subst (λ (eras : Eras). HasNoOther eras eras.current exposures) (sym is) (none_else old exposures)
+
+pub earlier_begun : (old new : Eras) (exposures : List Exposure) → new ≡ started exposures old → EarlierStay old new
+earlier_begun old new exposures is = subst (λ (eras : Eras). EarlierStay old eras) (sym is) (earlier_stay old exposures)

@@ -1,5 +1,5 @@
 -- What is kept stands for the same members as the accounts of their era grow, and after one of them changed.
-use Rattle.std.proofs.Common.{◌≡◌, ℕ, suc, ◌+◌, ◌<◌, Bool, true, false, cond, List, [], ◌∷◌, ◌++◌, length, length-append, take, get_or, All, Option, Some, None, is_some, refl, ap, ap₂, sym, ◌∙◌, arith}
+use Rattle.std.proofs.Common.{◌≡◌, ℕ, suc, ◌+◌, ◌<◌, Bool, true, false, cond, ◌&&◌, List, [], ◌∷◌, ◌++◌, length, length-append, map, filter, take, get_or, All, Option, Some, None, is_some, refl, ap, ap₂, sym, ◌∙◌, arith}
 use Rattle.std.specs.BTreeMap.{is_at, insert_entry}
 use Rattle.std.specs.Map.{lookup, set_value, values_of}
 use Rattle.std.specs.Option.{option_map}
@@ -12,17 +12,17 @@ use Rattle.std.proofs.Math.Seq.{get_or-append_seam, take-suc}
 use Rattle.std.proofs.lemmas.Map.Made.{lookup-map_values}
 use Rattle.std.proofs.lemmas.Map.Views.{All-values-insert_entry}
 use Rattle.npos_base.specs.declared.account.AccountId.{AccountId}
+use Rattle.npos_base.specs.declared.figures.Edge.{Edge}
 use Rattle.npos_base.specs.Account.{account_cmp}
 use Rattle.era_book.specs.declared.exposure.Backer.{Backer}
 use Rattle.era_book.specs.declared.exposure.Exposure.{Exposure}
-use Rattle.era_book.specs.declared.member.Member.{Member}
 use Rattle.era_book.specs.declared.seat.Share.{Share}
 use Rattle.era_book.specs.declared.seat.Seat.{Seat}
 use Rattle.era_book.specs.Payouts.{line}
-use Rattle.era_book.specs.Committee.{account_at}
-use Rattle.era_book.specs.Members.{newcomer, with_exposure, put_member, changed, with_member, total_points}
-use Rattle.era_book.specs.Seats.{Grows, AreWithin, backer_seen, backers_seen, member_seen, members_seen}
-use Rattle.era_book.proofs.MemberLemmas.{total_rises}
+use Rattle.era_book.specs.Committee.{account_at, gives_to, backer_of, is_of, backers_of, exposure_of}
+use Rattle.era_book.specs.Members.{Members, Member, newcomer, with_exposure, members_with, put_member, changed, with_member, total_points}
+use Rattle.era_book.specs.Seats.{Grows, AreWithin, backer_seen, backers_seen, member_seen, members_seen, seat_of, share_of, shares_among, shares_of}
+use Rattle.era_book.proofs.MemberLemmas.{members_more, total_rises}
 
 -- ---- the accounts grow
 
@@ -174,3 +174,50 @@ pub seated_more : (old new : List AccountId) (seats : List (AccountId × Seat)) 
     → AreWithin new seat.shares → AreSeated new (insert_entry account_cmp seats who seat)
 seated_more old new seats who seat grows seated within =
     All-values-insert_entry account_cmp who seat (λ (s : Seat). AreWithin new s.shares) seats (seated_grown old new seats grows seated) within
+
+-- ---- the shares of a committee
+
+-- the shares of a target are its backers, by the places of the voters
+among_seen : (voters : List AccountId) (edges : List Edge) → backers_seen voters (map share_of edges) ≡ map (backer_of voters) edges
+among_seen voters [] = refl
+among_seen voters (e ∷ es) = ap (λ bs. backer_of voters e ∷ bs) (among_seen voters es)
+
+pub shares_seen : (targets voters : List AccountId) (edges : List Edge) (target : ℕ)
+    → backers_seen voters (shares_of targets voters edges target) ≡ backers_of targets voters edges target
+shares_seen targets voters edges target =
+    map-append (backer_seen voters) (shares_among true targets voters edges target) (shares_among false targets voters edges target)
+    ∙ ap₂ (λ own others. own ++ others)
+    (among_seen voters (filter (λ edge. gives_to target edge && is_of true targets voters edge) edges))
+    (among_seen voters (filter (λ edge. gives_to target edge && is_of false targets voters edge) edges))
+
+pub exposed_more : (exposed : ℕ → Exposure) (members : List ℕ) (i : ℕ) → i < length members
+    → map exposed (take (i + 1) members) ≡ map exposed (take i members) ++ exposed (get_or members i 0) ∷ []
+exposed_more exposed members i within =
+    let next : i + 1 ≡ suc i = omega arith in
+    ap (λ n. map exposed (take n members)) next ∙ (ap (map exposed) (take-suc members i 0 within) ∙ map-append exposed (take i members) (get_or members i 0 ∷ []))
+
+-- one more member is seated
+pub member_seated : (targets : List AccountId) (commissions supports : List ℕ) (voters : List AccountId) (edges : List Edge) (seats : List (AccountId × Seat)) (seat : Seat) (members : List ℕ) (i : ℕ)
+    → i < length members → seat ≡ seat_of (account_at targets (get_or members i 0)) (get_or commissions (get_or members i 0) 0) (get_or supports (get_or members i 0) 0) (shares_of targets voters edges (get_or members i 0))
+    → members_seen voters seats ≡ members_with (map (exposure_of targets commissions supports voters edges) (take i members))
+    → members_seen voters (insert_entry account_cmp seats (account_at targets (get_or members i 0)) seat) ≡ members_with (map (exposure_of targets commissions supports voters edges) (take (i + 1) members))
+member_seated targets commissions supports voters edges seats seat members i within is before =
+    members_inserted voters (account_at targets m) seat seats
+    ∙ (ap₂ (λ (rows : Members) (member : Member). insert_entry account_cmp rows (account_at targets m) member) before seen
+    ∙ (sym (members_more (map exposed (take i members)) (exposed m))
+    ∙ ap members_with (sym (exposed_more exposed members i within)))) where
+      m : ℕ
+      m = get_or members i 0
+
+      exposed : ℕ → Exposure
+      exposed = exposure_of targets commissions supports voters edges
+
+      seen : member_seen voters seat ≡ newcomer (exposed m)
+      seen =
+          ap (member_seen voters) is
+          ∙ ap (λ (backers : List Backer). newcomer (record {
+            validator = account_at targets m;
+            commission = get_or commissions m 0;
+            support = get_or supports m 0;
+            backers = backers;
+          })) (shares_seen targets voters edges m)

@@ -7,8 +7,8 @@ use Rattle.npos_base.specs.declared.figures.Edge.{Edge}
 use Rattle.npos_base.specs.declared.limits.TheConstants.{WHOLE_FRACTION}
 use Rattle.npos_base.specs.Account.{same_account}
 use Rattle.era_book.specs.declared.exposure.Exposure.{Exposure}
-use Rattle.era_book.specs.Exposures.{IsSound}
-use Rattle.era_book.specs.Committee.{account_at, exposure_of, given_to, same_pair, edges_by_voter, IsWithin, SoundLaw, OrderLaw}
+use Rattle.era_book.specs.Exposures.{IsSound, AreSound}
+use Rattle.era_book.specs.Committee.{account_at, exposure_of, given_to, same_pair, edges_by_voter, IsWithin, IsElected, SoundLaw, OrderLaw}
 use Rattle.era_book.proofs.CommitteeLemmas.{support_law}
 use Rattle.era_book.proofs.BackerLemmas.{apart_at, backers_law}
 use Rattle.era_book.proofs.OrderLemmas.{all_by_voter, pairs_by_voter, given_by_voter, spent_by_voter}
@@ -82,3 +82,11 @@ order_law targets voters commissions supports edges members elected = (
 ) where
   within : All (λ edge. edge.voter < length voters) edges
   within = voters_within targets voters edges elected.edges_within
+
+-- so the exposures by the edges in the order of the voters are sound
+pub elected_sound : (targets voters : List AccountId) (commissions supports : List ℕ) (edges : List Edge) (members : List ℕ)
+    → IsElected targets voters commissions supports edges members
+    → AreSound (map (exposure_of targets commissions supports voters (edges_by_voter (length voters) edges)) members)
+elected_sound targets voters commissions supports edges members elected =
+    sound_law targets voters commissions supports (edges_by_voter (length voters) edges) members
+    (order_law targets voters commissions supports edges members elected).0

@@ -4,13 +4,12 @@ use Rattle.std.specs.List.{list_all}
 use Rattle.npos_base.specs.declared.account.AccountId.{AccountId}
 use Rattle.npos_base.specs.declared.limits.TheConstants.{WHOLE_FRACTION}
 use Rattle.era_book.specs.declared.exposure.Backer.{Backer}
-use Rattle.era_book.specs.declared.member.Member.{Member}
 use Rattle.era_book.specs.declared.payout.Payout.{Payout}
 use Rattle.era_book.specs.declared.refusal.EraRefusal.{EraRefusal}
 use Rattle.era_book.specs.declared.refusal.EraRefusal.TheVariants.{BadFraction, UnknownEra, EraNotOver, NotExposed, AlreadyClaimed, NotGreater, NoPoints}
 use Rattle.era_book.specs.Payouts.{part, payout_of}
 use Rattle.era_book.specs.Slashes.{slash_lines}
-use Rattle.era_book.specs.Members.{Members, total_points, with_points}
+use Rattle.era_book.specs.Members.{Member, Members, total_points, with_points}
 use Rattle.era_book.specs.Eras.{Eras, is_unknown, members_in, member_in, with_members, with_member_in}
 
 -- points go to members of the current era alone

@@ -4,9 +4,8 @@ use Rattle.std.specs.Map.{values_of}
 use Rattle.npos_base.specs.declared.account.AccountId.{AccountId}
 use Rattle.npos_base.specs.declared.limits.TheConstants.{MOST_PAST_ERAS}
 use Rattle.era_book.specs.declared.exposure.Exposure.{Exposure}
-use Rattle.era_book.specs.declared.member.Member.{Member}
 use Rattle.era_book.specs.Exposures.{IsSound}
-use Rattle.era_book.specs.Members.{Members, member_of, newcomer, members_with, with_member}
+use Rattle.era_book.specs.Members.{Member, Members, member_of, newcomer, members_with, with_member}
 
 -- the number of the current era; and the members of the current era and of those before it, the
 -- latest first
@@ -24,6 +23,14 @@ started exposures eras =
     record {
       current = eras.current + 1;
       kept = take (MOST_PAST_ERAS + 1) (members_with exposures ∷ eras.kept);
+    }
+
+-- the next era begins with these members
+abbrev pub begun_with : Members → Eras → Eras
+begun_with members eras =
+    record {
+      current = eras.current + 1;
+      kept = take (MOST_PAST_ERAS + 1) (members ∷ eras.kept);
     }
 
 -- the era has not begun, or it stands more than 84 before the current one

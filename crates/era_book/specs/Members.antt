@@ -1,12 +1,19 @@
 -- The members of an era are a list of accounts, each with its exposure and what happened since, by
 -- rising account.
-use Rattle.std.specs.Prelude.{◌≡◌, ℕ, ◌+◌, ◌-◌, ◌^◌, ◌<◌, min, false, List, [], fold, sum_by, Option, Some, None, All}
+use Rattle.std.specs.Prelude.{◌≡◌, ℕ, ◌+◌, ◌-◌, ◌^◌, ◌<◌, min, Bool, false, List, [], fold, sum_by, Option, Some, None, All}
 use Rattle.std.specs.Map.{lookup, set_value, values_of}
 use Rattle.std.specs.BTreeMap.{is_at, insert_entry}
 use Rattle.npos_base.specs.declared.account.AccountId.{AccountId}
 use Rattle.npos_base.specs.Account.{account_cmp}
 use Rattle.era_book.specs.declared.exposure.Exposure.{Exposure}
-use Rattle.era_book.specs.declared.member.Member.{Member}
+
+-- one validator in one era: what stands behind it, its points, whether its part of the reward is
+-- claimed, and the greatest fraction that was reported, in billionths; 0 at first
+pub record Member : Type 0 where
+  pub exposure : Exposure
+  pub points : ℕ
+  pub claimed : Bool
+  pub fraction : ℕ
 
 abbrev pub Members : Type 0
 Members = List (AccountId × Member)

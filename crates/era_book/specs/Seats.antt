@@ -1,13 +1,13 @@
 -- How the members of an era are kept: each account once, and the backers by the places of theirs.
-use Rattle.std.specs.Prelude.{◌≡◌, ℕ, ◌<◌, ◌≤◌, List, length, map, All}
+use Rattle.std.specs.Prelude.{◌≡◌, ℕ, ◌<◌, ◌≤◌, Bool, true, false, ◌&&◌, List, ◌++◌, length, map, filter, All}
 use Rattle.npos_base.specs.declared.account.AccountId.{AccountId}
+use Rattle.npos_base.specs.declared.figures.Edge.{Edge}
 use Rattle.era_book.specs.declared.exposure.Backer.{Backer}
-use Rattle.era_book.specs.declared.member.Member.{Member}
 use Rattle.era_book.specs.declared.seat.Share.{Share}
 use Rattle.era_book.specs.declared.seat.Seat.{Seat}
 use Rattle.era_book.specs.Payouts.{line}
-use Rattle.era_book.specs.Committee.{account_at}
-use Rattle.era_book.specs.Members.{Members}
+use Rattle.era_book.specs.Committee.{account_at, gives_to, is_of}
+use Rattle.era_book.specs.Members.{Member, Members}
 
 abbrev pub backer_seen : List AccountId → Share → Backer
 backer_seen accounts share = line (account_at accounts share.place) share.amount
@@ -32,6 +32,33 @@ member_seen accounts seat =
 
 abbrev pub members_seen : List AccountId → List (AccountId × Seat) → Members
 members_seen accounts seats = map (λ entry. (entry.0, member_seen accounts entry.1)) seats
+
+-- a seat as its era begins
+abbrev pub seat_of : AccountId → ℕ → ℕ → List Share → Seat
+seat_of validator commission support shares =
+    record {
+      validator = validator;
+      commission = commission;
+      support = support;
+      shares = shares;
+      points = 0;
+      claimed = false;
+      fraction = 0;
+    }
+
+-- an edge as a share of its voter
+abbrev pub share_of : Edge → Share
+share_of edge = record { place = edge.voter; amount = edge.amount }
+
+-- the shares of a target in the order of the edges: the validator's own, or the others'
+abbrev pub shares_among : Bool → List AccountId → List AccountId → List Edge → ℕ → List Share
+shares_among own targets voters edges target =
+    map share_of (filter (λ edge. gives_to target edge && is_of own targets voters edge) edges)
+
+-- the validator's own share first, then the others
+abbrev pub shares_of : List AccountId → List AccountId → List Edge → ℕ → List Share
+shares_of targets voters edges target =
+    shares_among true targets voters edges target ++ shares_among false targets voters edges target
 
 -- each account stays at its place
 pub record Grows (old new : List AccountId) : Type 0 where

@@ -1,15 +1,16 @@
 //! The eras that are kept.
-ghost use Rattle.std.specs.Prelude.{◌≡◌, ◌≤◌, ◌<◌, ◌-◌, ◌^◌, None, is_none, IfSome, IfOk, OnOk, OnErr, IfErr};
+ghost use Rattle.std.specs.Prelude.{◌≡◌, ◌≤◌, ◌<◌, ◌-◌, ◌^◌, length, map, None, is_none, IfSome, IfOk, OnOk, OnErr, IfErr};
 ghost use Rattle.std.specs.Option.{option_copied};
 ghost use Rattle.npos_base.specs.Refusal.{IsDue, Meets, answer_of};
 ghost use Rattle.era_book.specs.declared.refusal.EraRefusal.TheVariants as refusals;
 ghost use Rattle.era_book.specs.Exposures.{amount_sum, AreSound};
-ghost use Rattle.era_book.specs.Eras.{first_era, started, member_in, era_of, is_unknown, OthersStay, EarlierStay, HasExposures, HasNoOther, AreMembers, AreKept};
+ghost use Rattle.era_book.specs.Committee.{IsElected, edges_by_voter, exposure_of};
+ghost use Rattle.era_book.specs.Eras.{first_era, started, begun_with, member_in, era_of, is_unknown, OthersStay, EarlierStay, HasExposures, HasNoOther, AreMembers, AreKept};
 ghost use Rattle.era_book.specs.Calls.{points_refusal, pointed, payout_refusal, payout_in, IsUnclaimed, paid, slash_refusal, slash_in, IsBelow, reported};
 
 use crate::era::Era;
 use crate::{Backer, EraRefusal, Exposure, Payout};
-use npos_base::{AccountId, List, MOST_PAST_ERAS, NoMemory, WHOLE_FRACTION};
+use npos_base::{AccountId, Edge, List, MOST_PAST_ERAS, NoMemory, WHOLE_FRACTION};
 use std::alloc::Global;
 use std::marker::Model;
 use std::mem;
@@ -75,6 +76,58 @@ impl EraBook {
         ensures earlier { OnOk result (EarlierStay self.old self.new) }
     {
         let era = Era::with_exposures(self.alloc, exposures)?;
+        self.begin(era)
+    }
+
+    /// The next era begins with an elected committee, its edges in whatever order: it is what
+    /// `start_era` does with the exposures that `exposures_of` gives by the edges in the order of
+    /// the voters, and takes less time and memory. Accounts, commissions in billionths and supports
+    /// stand by target, and accounts by voter, which are kept with the era.
+    pub fn start_elected(
+        &mut self,
+        targets: &[AccountId],
+        commissions: &[u32],
+        supports: &[u64],
+        voters: List<AccountId>,
+        members: &[u16],
+        edges: &[Edge],
+    ) -> Result<(), NoMemory>
+        requires more { self.old.current < 2 ^ 32 - 1 }
+        requires commissions { length commissions.now ≡ length targets.now }
+        requires supports { length supports.now ≡ length targets.now }
+        requires elected { IsElected targets.now voters commissions.now supports.now edges.now
+            members.now }
+        ensures ok { OnOk result (self.new ≡ started (map
+            (exposure_of targets.now commissions.now supports.now voters
+            (edges_by_voter (length voters) edges.now)) members.now) self.old) }
+        ensures err { OnErr result (self.new ≡ self.old) }
+        ensures newcomers { OnOk result (HasExposures self.new self.new.current (map
+            (exposure_of targets.now commissions.now supports.now voters
+            (edges_by_voter (length voters) edges.now)) members.now)) }
+        ensures nobody_else { OnOk result (HasNoOther self.new self.new.current (map
+            (exposure_of targets.now commissions.now supports.now voters
+            (edges_by_voter (length voters) edges.now)) members.now)) }
+        ensures earlier { OnOk result (EarlierStay self.old self.new) }
+    {
+        let era = Era::elected(
+            self.alloc,
+            targets,
+            commissions,
+            supports,
+            voters,
+            members,
+            edges,
+        )?;
+        self.begin(era)
+    }
+
+    /// The era begins, and is the current one. The eras older than 84 before it go.
+    fn begin(&mut self, era: Era) -> Result<(), NoMemory>
+        requires more { self.old.current < 2 ^ 32 - 1 }
+        requires sound { AreMembers era }
+        ensures ok { OnOk result (self.new ≡ begun_with era self.old) }
+        ensures err { OnErr result (self.new ≡ self.old) }
+    {
         self.earlier.reserve(1)?;
         let past = mem::replace(&mut self.latest, era);
         match self.earlier.insert(0, past) {
@@ -125,16 +178,16 @@ impl EraBook {
         if era == self.current {
             return Err(EraRefusal::EraNotOver);
         }
-        let Some(member) = members.get(alloc, validator)? else {
+        let Some(member) = members.get(validator) else {
             return Err(EraRefusal::NotExposed);
         };
-        if member.claimed {
+        if member.claimed() {
             return Err(EraRefusal::AlreadyClaimed);
         }
-        if member.points == 0 {
+        if member.points() == 0 {
             return Err(EraRefusal::NoPoints);
         }
-        let value = members.earned(member.points, era_reward);
+        let value = members.earned(member.points(), era_reward);
         let payout = member.payout(alloc, value)?;
         Ok(payout)
     }
@@ -175,10 +228,10 @@ impl EraBook {
         let Some(members) = self.era(era) else {
             return Err(EraRefusal::UnknownEra);
         };
-        let Some(member) = members.get(alloc, validator)? else {
+        let Some(member) = members.get(validator) else {
             return Err(EraRefusal::NotExposed);
         };
-        if fraction <= member.fraction {
+        if fraction <= member.fraction() {
             return Err(EraRefusal::NotGreater);
         }
         let lines = member.dues(alloc, fraction)?;

@@ -1,16 +1,18 @@
 //! The members of one era.
-ghost use Rattle.std.specs.Prelude.{◌≡◌, ◌<◌, ◌≤◌, [], fold, is_some, IfSome, IfOk};
+ghost use Rattle.std.specs.Prelude.{◌≡◌, ◌<◌, ◌≤◌, [], length, map, fold, is_some, IfSome, IfOk};
 ghost use Rattle.std.specs.List.{list_all};
 ghost use Rattle.era_book.specs.Payouts.{part};
 ghost use Rattle.era_book.specs.Members.{member_of, members_with, with_points, with_member, total_points};
+ghost use Rattle.era_book.specs.Committee.{IsElected, edges_by_voter, exposure_of};
 ghost use Rattle.era_book.specs.Calls.{claiming, keeping};
 
 use crate::Exposure;
+use crate::elected::seats_by_voter;
 use crate::member::Member;
 use crate::members::{claim, gain, keep};
 use crate::names::Names;
 use crate::seat::Seat;
-use npos_base::{AccountId, List, NoMemory};
+use npos_base::{AccountId, Edge, List, NoMemory};
 use std::alloc::Global;
 use std::collections::BTreeMap;
 use std::marker::Model;
@@ -70,19 +72,50 @@ impl Era {
         })
     }
 
-    /// The member with this account, which takes memory for its backers. It has at most the points
-    /// of all together.
-    pub fn get(&self, alloc: Global, who: AccountId) -> Result<Option<Member>, NoMemory>
-        ensures member { IfOk result (λ member. member ≡ member_of self.now who) }
-        ensures points { IfOk result (λ member. IfSome member
-            (λ member. member.points ≤ total_points self.now)) }
+    /// The members of an era that begins with an elected committee: who is exposed, and with what,
+    /// is as `exposures_of` tells by the edges in the order of the voters. The voters are kept as the
+    /// accounts of the backers.
+    pub fn elected(
+        alloc: Global,
+        targets: &[AccountId],
+        commissions: &[u32],
+        supports: &[u64],
+        voters: List<AccountId>,
+        members: &[u16],
+        edges: &[Edge],
+    ) -> Result<Era, NoMemory>
+        requires commissions { length commissions.now ≡ length targets.now }
+        requires supports { length supports.now ≡ length targets.now }
+        requires elected { IsElected targets.now voters commissions.now supports.now edges.now
+            members.now }
+        ensures { IfOk result (λ era. era ≡ members_with (map
+            (exposure_of targets.now commissions.now supports.now voters
+            (edges_by_voter (length voters) edges.now)) members.now)) }
+    {
+        let members = seats_by_voter(
+            alloc,
+            targets,
+            commissions,
+            supports,
+            voters.as_slice(),
+            members,
+            edges,
+        )?;
+        Ok(Era {
+            accounts: voters.into_vec(),
+            members,
+            points: 0,
+        })
+    }
+
+    /// The member with this account. It has at most the points of all together.
+    pub fn get(&self, who: AccountId) -> Option<Member<'_>>
+        ensures member { result ≡ member_of self.now who }
+        ensures points { IfSome result (λ member. member.points ≤ total_points self.now) }
     {
         match self.members.get(&who) {
-            Some(member) => {
-                let member = member.member(alloc, self.accounts.as_slice())?;
-                Ok(Some(member))
-            }
-            None => Ok(None),
+            Some(seat) => Some(Member::of(self.accounts.as_slice(), seat)),
+            None => None,
         }
     }
 

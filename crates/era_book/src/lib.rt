@@ -5,6 +5,7 @@
 
 mod book;
 mod committee;
+mod elected;
 mod era;
 mod exposure;
 pub mod laws;
@@ -14,9 +15,10 @@ mod names;
 mod payout;
 mod refusal;
 mod seat;
+mod shares;
 
 pub use book::EraBook;
-pub use committee::{exposures_by_voter, exposures_of};
+pub use committee::exposures_of;
 pub use exposure::{Backer, Exposure};
 pub use payout::Payout;
 pub use refusal::EraRefusal;

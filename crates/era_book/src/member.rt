@@ -6,24 +6,61 @@ ghost use Rattle.npos_base.specs.declared.limits.TheConstants.{WHOLE_FRACTION};
 ghost use Rattle.era_book.specs.Exposures.{amount_sum, IsSound};
 ghost use Rattle.era_book.specs.Payouts.{part, own_part, others, kept_lines, line, payout_lines, payout_of};
 ghost use Rattle.era_book.specs.Slashes.{slash_lines};
+ghost use Rattle.era_book.specs.Committee.{account_at};
+ghost use Rattle.era_book.specs.Seats.{backers_seen, member_seen};
 
-use crate::{Backer, Exposure, Payout};
+use crate::seat::{Seat, Share, account_at};
+use crate::{Backer, Payout};
 use npos_base::{AccountId, List, NoMemory, Room, WHOLE_FRACTION, part_of};
 use std::alloc::Global;
+use std::marker::Model;
 
-/// One validator in one era.
-#[derive(Debug, Drop)]
-pub struct Member {
-    pub exposure: Exposure,
-    /// At most 2^32 - 1, where they stay.
-    pub points: u32,
-    /// Whether its part of the era's reward is claimed.
-    pub claimed: bool,
-    /// The greatest fraction that was reported, in billionths; 0 at first.
-    pub fraction: u32,
+/// One validator in one era, as it is kept: its seat, with the accounts that the shares name.
+/// Contracts see the member. Looking at it takes no memory.
+#[derive(Drop)]
+pub struct Member<'a> {
+    accounts: &'a [AccountId],
+    seat: &'a Seat,
 }
 
-impl Member {
+impl<'a> Model for Member<'a> {
+    ghost use Rattle.era_book.specs.Members.{Member};
+    ghost use Rattle.era_book.specs.Seats.{member_seen};
+
+    ghost Value = { Member };
+
+    ghost view = { λ member. member_seen member.accounts.now member.seat.now };
+}
+
+impl<'a> Member<'a> {
+    /// The member of a seat, whose shares name these accounts.
+    pub fn of(accounts: &'a [AccountId], seat: &'a Seat) -> Member<'a>
+        ensures { result ≡ member_seen accounts.now seat.now }
+    {
+        Member { accounts, seat }
+    }
+
+    /// Its points, at most 2^32 - 1.
+    pub fn points(&self) -> u32
+        ensures { result ≡ self.now.points }
+    {
+        self.seat.points
+    }
+
+    /// Whether its part of the era's reward is claimed.
+    pub fn claimed(&self) -> bool
+        ensures { result ≡ self.now.claimed }
+    {
+        self.seat.claimed
+    }
+
+    /// The greatest fraction that was reported, in billionths; 0 at first.
+    pub fn fraction(&self) -> u32
+        ensures { result ≡ self.now.fraction }
+    {
+        self.seat.fraction
+    }
+
     /// What a value pays that is due to this member and its backers: the commission to the
     /// validator, and the rest by what each gives.
     #[tactic(auto, using(crate::proofs::LineLemmas::payout_within))]
@@ -32,7 +69,7 @@ impl Member {
         ensures payout { IfOk result (λ payout. payout ≡ payout_of self.now.exposure value) }
         ensures within { IfOk result (λ payout. payout.total ≤ value) }
     {
-        let lines = payout_lines(alloc, &self.exposure, value)?;
+        let lines = payout_lines(alloc, self.accounts, self.seat, value)?;
         let total = total_of(lines.as_slice());
         Ok(Payout { lines, total })
     }
@@ -44,14 +81,13 @@ impl Member {
         ensures { IfOk result (λ lines.
             lines ≡ slash_lines self.now.exposure.backers self.now.fraction fraction) }
     {
-        let backers = self.exposure.backers.as_slice();
-        let mut lines = Room::with_room(alloc, backers.len())?;
-        for backer in backers {
-            let due = billionths_of(backer.amount, fraction)
-                - billionths_of(backer.amount, self.fraction);
-            put_line(&mut lines, backer.who, due);
-        }
-        Ok(lines.into_list())
+        slash_lines(
+            alloc,
+            self.accounts,
+            self.seat.shares.as_slice(),
+            self.seat.fraction,
+            fraction,
+        )
     }
 }
 
@@ -67,7 +103,8 @@ fn billionths_of(value: u64, billionths: u32) -> u64
     value / whole * parts + value % whole * parts / whole
 }
 
-/// The part of the value that goes to one of the amounts that make up the support.
+/// The part of the value that goes to one of the amounts that make up the support. A product that
+/// fits 64 bits, as most do, is divided there, which is faster.
 fn share_of(value: u64, amount: u64, support: u64) -> u64
     requires { amount ≤ support }
     ensures part { result ≡ part value amount support }
@@ -76,25 +113,34 @@ fn share_of(value: u64, amount: u64, support: u64) -> u64
     if support == 0 {
         return 0;
     }
-    part_of(value, amount, support)
+    match value.checked_mul(amount) {
+        Some(product) => product / support,
+        None => part_of(value, amount, support),
+    }
 }
 
 /// What the validator backs itself with.
-fn own_part(validator: AccountId, backers: &[Backer]) -> u64
-    ensures { result ≡ own_part validator backers.now }
+fn own_part(accounts: &[AccountId], seat: &Seat) -> u64
+    ensures { result ≡ own_part seat.now.validator (backers_seen accounts.now seat.now.shares) }
 {
-    match own_backer(validator, backers) {
-        Some(backer) => backer.amount,
+    match own_share(seat.validator, accounts, seat.shares.as_slice()) {
+        Some(share) => share.amount,
         None => 0,
     }
 }
 
-/// The validator among those who back it.
-fn own_backer(validator: AccountId, backers: &[Backer]) -> Option<&Backer>
+/// The share that names the validator itself.
+fn own_share<'a>(
+    validator: AccountId,
+    accounts: &[AccountId],
+    shares: &'a [Share],
+) -> Option<&'a Share>
     ensures { option_copied result
-        ≡ find (λ backer. same_account backer.who validator) backers.now }
+        ≡ find (λ share. same_account (account_at accounts.now share.place) validator) shares.now }
 {
-    backers.iter().find(|backer| backer.who == validator)
+    shares
+        .iter()
+        .find(|share| account_at(accounts, share.place) == validator)
 }
 
 /// Appends the line, unless its amount is 0.
@@ -118,36 +164,60 @@ fn total_of(lines: &[Backer]) -> u64
 
 /// The lines of a value that is paid.
 #[tactic(auto, using(crate::proofs::LineLemmas::own_within))]
-fn payout_lines(alloc: Global, exposure: &Exposure, value: u64) -> Result<List<Backer>, NoMemory>
-    requires { IsSound exposure.now }
-    ensures { IfOk result (λ lines. lines ≡ payout_lines exposure.now value) }
+fn payout_lines(
+    alloc: Global,
+    accounts: &[AccountId],
+    seat: &Seat,
+    value: u64,
+) -> Result<List<Backer>, NoMemory>
+    requires { IsSound (member_seen accounts.now seat.now).exposure }
+    ensures { IfOk result
+        (λ lines. lines ≡ payout_lines (member_seen accounts.now seat.now).exposure value) }
 {
-    let backers = exposure.backers.as_slice();
-    let mut lines = Room::with_room(alloc, backers.len() + 1)?;
-    let commission = billionths_of(value, exposure.commission);
+    let shares = seat.shares.as_slice();
+    let mut lines = Room::with_room(alloc, shares.len() + 1)?;
+    let commission = billionths_of(value, seat.commission);
     let rest = value - commission;
-    let own = share_of(
-        rest,
-        own_part(exposure.validator, backers),
-        exposure.support,
-    );
-    put_line(&mut lines, exposure.validator, commission + own);
-    put_others(&mut lines, exposure, rest);
+    let own = share_of(rest, own_part(accounts, seat), seat.support);
+    put_line(&mut lines, seat.validator, commission + own);
+    put_others(&mut lines, accounts, seat, rest);
     Ok(lines.into_list())
 }
 
 /// Appends the lines of the backers other than the validator, who share the rest.
-fn put_others(lines: &mut Room<Backer>, exposure: &Exposure, rest: u64)
-    requires sound { IsSound exposure.now }
-    requires spare { length exposure.now.backers ≤ lines.old.spare }
+fn put_others(lines: &mut Room<Backer>, accounts: &[AccountId], seat: &Seat, rest: u64)
+    requires sound { IsSound (member_seen accounts.now seat.now).exposure }
+    requires spare { length seat.now.shares ≤ lines.old.spare }
     ensures { lines.new.items ≡ lines.old.items ++ kept_lines
-        (map (λ backer. line backer.who (part rest backer.amount exposure.now.support))
-        (others exposure.now.validator exposure.now.backers)) }
+        (map (λ backer. line backer.who (part rest backer.amount seat.now.support))
+        (others seat.now.validator (backers_seen accounts.now seat.now.shares))) }
 {
-    for backer in exposure.backers.as_slice() {
-        if backer.who != exposure.validator {
-            let share = share_of(rest, backer.amount, exposure.support);
-            put_line(lines, backer.who, share);
+    for share in seat.shares.as_slice() {
+        let who = account_at(accounts, share.place);
+        if who != seat.validator {
+            let amount = share_of(rest, share.amount, seat.support);
+            put_line(lines, who, amount);
         }
     }
+}
+
+/// The lines of a fraction that is reported after another one that is kept.
+fn slash_lines(
+    alloc: Global,
+    accounts: &[AccountId],
+    shares: &[Share],
+    kept: u32,
+    fraction: u32,
+) -> Result<List<Backer>, NoMemory>
+    requires greater { kept < fraction }
+    requires most { fraction ≤ WHOLE_FRACTION }
+    ensures { IfOk result (λ lines.
+        lines ≡ slash_lines (backers_seen accounts.now shares.now) kept fraction) }
+{
+    let mut lines = Room::with_room(alloc, shares.len())?;
+    for share in shares {
+        let due = billionths_of(share.amount, fraction) - billionths_of(share.amount, kept);
+        put_line(&mut lines, account_at(accounts, share.place), due);
+    }
+    Ok(lines.into_list())
 }

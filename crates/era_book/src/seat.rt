@@ -5,7 +5,6 @@ ghost use Rattle.era_book.specs.Committee.{account_at};
 ghost use Rattle.era_book.specs.Members.{newcomer, gaining};
 ghost use Rattle.era_book.specs.Seats.{Grows, AreWithin, backers_seen, member_seen};
 
-use crate::member::Member;
 use crate::names::Names;
 use crate::{Backer, Exposure};
 use npos_base::{AccountId, List, NoMemory, Room};
@@ -54,24 +53,6 @@ impl Seat {
         })
     }
 
-    /// The member, with the accounts of its backers.
-    pub fn member(&self, alloc: Global, accounts: &[AccountId]) -> Result<Member, NoMemory>
-        ensures { IfOk result (λ member. member ≡ member_seen accounts.now self.now) }
-    {
-        let backers = backers(alloc, accounts, self.shares.as_slice())?;
-        Ok(Member {
-            exposure: Exposure {
-                validator: self.validator,
-                commission: self.commission,
-                support: self.support,
-                backers,
-            },
-            points: self.points,
-            claimed: self.claimed,
-            fraction: self.fraction,
-        })
-    }
-
     /// Adds the points, up to the most that a member can have, and answers how many those were.
     pub fn gain(&mut self, points: u32) -> u32
         ensures member { (accounts : list AccountId) → member_seen accounts self.new
@@ -102,7 +83,7 @@ fn named(alloc: Global, names: &mut Names, backers: &[Backer]) -> Result<List<Sh
 }
 
 /// The backers with their accounts.
-fn backers(
+pub fn backers(
     alloc: Global,
     accounts: &[AccountId],
     shares: &[Share],
@@ -120,7 +101,7 @@ fn backers(
 }
 
 /// The account at the place.
-fn account_at(accounts: &[AccountId], place: u32) -> AccountId
+pub fn account_at(accounts: &[AccountId], place: u32) -> AccountId
     ensures { result ≡ account_at accounts.now place }
 {
     match accounts.get(place as usize) {

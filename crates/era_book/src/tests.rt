@@ -3,7 +3,7 @@
 ghost use Rattle.std.specs.Prelude.{◌≡◌, IfOk};
 ghost use Rattle.era_book.specs.Exposures.{AreSound};
 
-use crate::{Backer, EraBook, EraRefusal, Exposure, exposures_by_voter, exposures_of, laws};
+use crate::{Backer, EraBook, EraRefusal, Exposure, exposures_of, laws};
 use npos_base::{AccountId, Edge, List, NoMemory};
 use std::alloc::Global;
 use std::fmt::Write;
@@ -245,20 +245,18 @@ const MIXED: [Edge; 3] = [
 #[test]
 fn the_others_stand_in_the_order_of_the_voters(rt: HostRuntime) -> Result<(), Fail> {
     let alloc = rt.alloc();
-    let targets = [at(1), at(2)];
-    let voters = [at(3), at(1), at(4)];
-    let mut edges = MIXED;
-    let exposures = exposures_by_voter(
-        alloc,
-        &targets,
+    let mut book = EraBook::new(alloc);
+    book.start_elected(
+        &[at(1), at(2)],
         &[7, 8],
         &[95, 0],
-        &voters,
+        List::from_vec(vec![in alloc; at(3), at(1), at(4)]?),
         &[0, 1],
-        &mut edges,
+        &MIXED,
     )?;
-    let text = backers_of(alloc, exposures.as_slice())?;
-    assert_eq!(rt; text.as_str(), "1 7 95: 1 50, 3 40, 4 5,2 8 0:");
+    let told = reported(alloc, &mut book, 1, 1, 1_000_000_000)?;
+    assert_eq!(rt; told.as_str(), "1 50, 3 40, 4 5, ");
+    assert_eq!(rt; reported(alloc, &mut book, 1, 2, 1)?.as_str(), "");
     Ok(())
 }
 

@@ -5,7 +5,7 @@ use Rattle.npos_base.specs.declared.account.AccountId.{AccountId}
 use Rattle.stake_ledger.specs.Ledger.{Ledger}
 use Rattle.stake_ledger.specs.Calls.{minted_free, room_of}
 use Rattle.era_book.specs.declared.exposure.Backer.{Backer}
-use Rattle.era_book.specs.declared.member.Member.{Member}
+use Rattle.era_book.specs.Members.{Member}
 use Rattle.era_book.specs.Exposures.{amount_sum}
 use Rattle.era_book.specs.Eras.{Eras, members_in, member_in}
 use Rattle.era_book.specs.Calls.{paid_to, payout_in}

@@ -3,7 +3,7 @@ ghost use Rattle.std.specs.Prelude.{◌≡◌, ◌<◌, ◌-◌, ◌^◌, length
 ghost use Rattle.std.specs.List.{range_with_len};
 ghost use Rattle.election_snapshot.specs.Draft.{accounts_of};
 ghost use Rattle.weight_book.specs.Weights.{support};
-ghost use Rattle.era_book.specs.Exposures.{AreSound};
+ghost use Rattle.era_book.specs.Eras.{started};
 ghost use Rattle.npos_runtime.specs.Outcome.{Goes};
 ghost use Rattle.npos_runtime.specs.Exposed.{exposed, exposures_of};
 ghost use Rattle.npos_runtime.specs.Step.{era_phase};
@@ -13,7 +13,7 @@ use crate::rules::begun_era;
 use crate::{Chain, Line, Waiting};
 use election_check::Elected;
 use election_snapshot::Snapshot;
-use era_book::{Exposure, exposures_by_voter};
+use era_book::EraBook;
 use npos_base::{AccountId, List, NoMemory};
 use std::alloc::Global;
 
@@ -51,39 +51,36 @@ fn supports(alloc: Global, elected: &Elected) -> Result<Vec<u64>, NoMemory>
     Ok(supports)
 }
 
-/// The exposures of the members of a committee.
-fn exposures(alloc: Global, waiting: &Waiting) -> Result<List<Exposure>, NoMemory>
-    requires { AreNoted waiting.now.snapshot.targets waiting.now.commissions }
-    ensures value { IfOk result (λ exposures. exposures ≡ exposures_of waiting.now) }
-    ensures sound { IfOk result (λ exposures. AreSound exposures) }
+/// The next era begins, with the committee that waits.
+fn start(alloc: Global, eras: &mut EraBook, waiting: &Waiting) -> Result<(), NoMemory>
+    requires more { eras.old.current < 2 ^ 32 - 1 }
+    requires noted { AreNoted waiting.now.snapshot.targets waiting.now.commissions }
+    ensures { OnOk result (eras.new ≡ started (exposures_of waiting.now) eras.old) }
 {
     let elected = &waiting.elected;
     let _seats = elected.snapshot().seats();
     let targets = targets(alloc, elected.snapshot())?;
     let voters = voters(alloc, elected.snapshot())?;
     let supports = supports(alloc, elected)?;
-    let mut edges = Vec::from_slice(alloc, elected.edges())?;
-    let exposures = exposures_by_voter(
-        alloc,
+    eras.start_elected(
         targets.as_slice(),
         waiting.commissions.as_slice(),
         supports.as_slice(),
-        voters.as_slice(),
+        List::from_vec(voters),
         elected.committee(),
-        edges.as_mut_slice(),
-    )?;
-    Ok(exposures)
+        elected.edges(),
+    )
 }
 
-/// The exposures of who waits. Nobody is exposed where nobody does.
-fn exposed(alloc: Global, waiting: Option<Waiting>) -> Result<List<Exposure>, NoMemory>
-    requires { IsNotedCommittee waiting }
-    ensures value { IfOk result (λ exposures. exposures ≡ exposed waiting) }
-    ensures sound { IfOk result (λ exposures. AreSound exposures) }
+/// The next era begins, with who waits. Nobody is exposed where nobody does.
+fn next_era(alloc: Global, eras: &mut EraBook, waiting: Option<Waiting>) -> Result<(), NoMemory>
+    requires more { eras.old.current < 2 ^ 32 - 1 }
+    requires noted { IsNotedCommittee waiting }
+    ensures { OnOk result (eras.new ≡ started (exposed waiting) eras.old) }
 {
     match waiting {
-        Some(waiting) => exposures(alloc, &waiting),
-        None => Ok(List::new(alloc)),
+        Some(waiting) => start(alloc, eras, &waiting),
+        None => eras.start_era(List::new(alloc)),
     }
 }
 
@@ -96,8 +93,7 @@ pub fn begin_era(alloc: Global, chain: &mut Chain, lines: &mut Vec<Line>) -> Res
 {
     if let Some(era) = begun_era(&chain.params, chain.due) {
         lines.push(Line::Era { era })?;
-        let exposures = exposed(alloc, chain.waiting.take())?;
-        chain.eras.start_era(exposures)?;
+        next_era(alloc, &mut chain.eras, chain.waiting.take())?;
     }
     Ok(())
 }

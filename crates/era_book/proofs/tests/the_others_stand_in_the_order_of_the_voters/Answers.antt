@@ -44,8 +44,8 @@ elected = record {
       All-cons given 0 (1 ∷ []) refl (All-cons given 1 [] refl (All-nil given));
 }
 
-pub exposures_by_voter-requires-clause-elected : goal.exposures_by_voter-requires-clause-elected
-exposures_by_voter-requires-clause-elected c later =
+pub start_elected-requires-clause-elected : goal.start_elected-requires-clause-elected
+start_elected-requires-clause-elected c later =
     let same_targets : later.at.result ∷ later.at-2.result ∷ [] ≡ targets = search rules in
-    let same_voters : later.at-3.result ∷ later.at-4.result ∷ later.at-5.result ∷ [] ≡ voters = search rules in
+    let same_voters : later.from_vec.result ≡ voters = search rules in
     rw (same_targets, same_voters) elected

@@ -1,8 +1,7 @@
 -- All points fit, since each member's do and the members of a map are few.
 use Rattle.std.proofs.Common.{◌<◌, ◌^◌, All, length, sym, ◌∙◌, ap, subst, arith}
 use Rattle.std.specs.Map.{values_of}
-use Rattle.era_book.specs.declared.member.Member.{Member}
-use Rattle.era_book.specs.Members.{Members, gaining}
+use Rattle.era_book.specs.Members.{Member, Members, gaining}
 use Rattle.era_book.specs.Seats.{members_seen}
 use Rattle.era_book.proofs.MemberLemmas.{each_gaining, points_fit, length_changed}
 use Rattle.era_book.proofs.SeatLemmas.{as_many}

@@ -2,24 +2,23 @@ use Rattle.std.proofs.Common.{rules, ◌≡◌, Some, None, ap, sym, ◌∙◌}
 use Rattle.std.specs.BTreeMap.{is_at}
 use Rattle.std.specs.Map.{lookup}
 use Rattle.npos_base.specs.Account.{account_cmp}
-use Rattle.era_book.specs.declared.member.Member.{Member}
-use Rattle.era_book.specs.Members.{Members, member_of}
+use Rattle.era_book.specs.Members.{Member, Members, member_of}
 use Rattle.era_book.specs.Seats.{member_seen}
 use Rattle.era_book.proofs.MemberLemmas.{points_within}
 use Rattle.era_book.proofs.SeatLemmas.{member_found}
 use Rattle.era_book.proofs.era.Era.get.Goals as goal
 
-pub returns-in_ok-member-in-Some-clause-member : goal.returns-in_ok-member-in-Some-clause-member
-returns-in_ok-member-in-Some-clause-member c =
-    let found : lookup (is_at (account_cmp c.args.who)) c.self.inside.members.entries ≡ Some c.in-Some.member.now = search rules in
-    let seen : c.in_ok-member-in-Some.member ≡ member_seen c.self.inside.accounts.items c.in-Some.member.now = search rules in
+pub returns-in-Some-clause-member : goal.returns-in-Some-clause-member
+returns-in-Some-clause-member c =
+    let found : lookup (is_at (account_cmp c.args.who)) c.self.inside.members.entries ≡ Some c.in-Some.seat.now = search rules in
+    let seen : c.of.result ≡ member_seen c.self.inside.accounts.items c.in-Some.seat.now = search rules in
     ap (λ (m : Member). Some m) seen
-    ∙ (sym (member_found c.self.inside.accounts.items c.args.who c.self.inside.members.entries (Some c.in-Some.member.now) found)
+    ∙ (sym (member_found c.self.inside.accounts.items c.args.who c.self.inside.members.entries (Some c.in-Some.seat.now) found)
     ∙ ap (λ (members : Members). member_of members c.args.who) c.self.view_is)
 
-pub returns-in_ok-member-in-Some-clause-points : goal.returns-in_ok-member-in-Some-clause-points
-returns-in_ok-member-in-Some-clause-points c =
-    points_within c.args.self.now c.args.who c.in_ok-member-in-Some.member (sym (returns-in_ok-member-in-Some-clause-member c))
+pub returns-in-Some-clause-points : goal.returns-in-Some-clause-points
+returns-in-Some-clause-points c =
+    points_within c.args.self.now c.args.who c.of.result (sym (returns-in-Some-clause-member c))
 
 pub returns-in-None-clause-member : goal.returns-in-None-clause-member
 returns-in-None-clause-member c =

@@ -1,5 +1,5 @@
 use Rattle.std.proofs.Common.{◌≡◌, length}
-use Rattle.era_book.proofs.committee.backer_counts.Given as goal
+use Rattle.era_book.proofs.shares.share_counts.Given as goal
 
 abbrev pub invariant-loop-edge : goal.invariant-loop-edge
 invariant-loop-edge l = length l.counts.items ≡ l.targets
