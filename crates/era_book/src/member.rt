@@ -91,8 +91,8 @@ impl<'a> Member<'a> {
     }
 }
 
-/// The part that so many billionths are of the value. Its whole billions and what is left over have
-/// their parts each, so that 64 bits are enough.
+/// The part that so many billionths are of the value. Where the product does not fit 64 bits, the
+/// value's whole billions and what is left over have their parts each, so that 64 bits are enough.
 fn billionths_of(value: u64, billionths: u32) -> u64
     requires { billionths ≤ WHOLE_FRACTION }
     ensures part { result ≡ part value billionths WHOLE_FRACTION }
@@ -100,7 +100,10 @@ fn billionths_of(value: u64, billionths: u32) -> u64
 {
     let whole = u64::from(WHOLE_FRACTION);
     let parts = u64::from(billionths);
-    value / whole * parts + value % whole * parts / whole
+    match value.checked_mul(parts) {
+        Some(product) => product / whole,
+        None => value / whole * parts + value % whole * parts / whole,
+    }
 }
 
 /// The part of the value that goes to one of the amounts that make up the support. A product that
