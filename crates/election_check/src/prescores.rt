@@ -1,6 +1,7 @@
 //! The last step of a check: what is left of the voters' stake, and whether it would pay for a seat
 //! outside.
 ghost use Rattle.std.specs.Prelude.{◌≡◌, ◌<◌, ◌≤◌, ◌+◌, ◌*◌, ◌/◌, ◌^◌, ℕ, min, cond, false, length, nat_eq, slice_index_or, All};
+ghost use Rattle.npos_base.specs.declared.limits.TheConstants.{MOST_TARGETS};
 ghost use Rattle.std.specs.List.{IsDistinct};
 ghost use Rattle.election_snapshot.specs.Snapshot.{has, stake_of};
 ghost use Rattle.weight_book.specs.Weights.{IsFeasible};
@@ -137,7 +138,7 @@ fn add_to_all(votes: &[u16], slack: u64, prescores: &mut [u64])
 /// Tells the lowest target that is not marked and whose prescore reaches the price of a seat.
 fn check_reached(price: u64, is_member: &[bool], prescores: &[u64]) -> Result<(), Verdict>
     requires same { length is_member.now ≡ length prescores.now }
-    requires few { length prescores.now ≤ 2048 }
+    requires few { length prescores.now ≤ MOST_TARGETS }
     ensures { result ≡ answer_of (reached price is_member.now prescores.now) }
 {
     for target in 0..prescores.len() {

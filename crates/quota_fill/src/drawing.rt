@@ -1,5 +1,6 @@
 //! One pick: the target that joins, and what it draws.
 ghost use Rattle.std.specs.Prelude.{◌≡◌, ℕ, ◌-◌, ◌<◌, ◌≤◌, ◌∷◌, [], ◌++◌, if◌then◌else◌, length, nat_eq, nat_lt, is_none, ◌||◌, slice_set, All, IsTrue, IfSome, OnOk};
+ghost use Rattle.npos_base.specs.declared.limits.TheConstants.{MOST_TARGETS};
 ghost use Rattle.std.specs.List.{IsDistinct};
 ghost use Rattle.election_snapshot.specs.Snapshot.{has};
 ghost use Rattle.weight_book.specs.Passing.{nominators};
@@ -13,7 +14,7 @@ use npos_base::{Edge, NoMemory};
 /// backing is seldom more than the most so far, so a mark is looked at only then.
 pub(crate) fn best_outside(backings: &[u64], is_picked: &[bool]) -> Option<u16>
     requires same { length is_picked.now ≡ length backings.now }
-    requires few { length backings.now ≤ 2048 }
+    requires few { length backings.now ≤ MOST_TARGETS }
     ensures best { result ≡ best_by backings.now is_picked.now (length backings.now) }
     ensures in_range { IfSome result (λ target. target < length backings.now) }
 {

@@ -1,5 +1,6 @@
 //! One pick: the target that joins, and what its nominators carry from then on.
 ghost use Rattle.std.specs.Prelude.{◌≡◌, ℕ, ◌+◌, ◌-◌, ◌*◌, ◌/◌, ◌^◌, ◌<◌, ◌≤◌, ◌∷◌, [], ◌++◌, if◌then◌else◌, length, map, nat_eq, nat_lt, slice_set, is_none, option_map, ◌||◌, All, IfSome, OnOk};
+ghost use Rattle.npos_base.specs.declared.limits.TheConstants.{MOST_TARGETS};
 ghost use Rattle.std.specs.List.{IsDistinct};
 ghost use Rattle.election_snapshot.specs.Snapshot.{has, nominates, total_stake};
 ghost use Rattle.weight_book.specs.Passing.{nominators};
@@ -30,7 +31,7 @@ pub(crate) fn lightest_outside(
 ) -> Option<Candidate>
     requires burdens_size { length burdens.now ≡ length is_picked.now }
     requires approvals_size { length approvals.now ≡ length is_picked.now }
-    requires few { length is_picked.now ≤ 2048 }
+    requires few { length is_picked.now ≤ MOST_TARGETS }
     requires fits { (target : ℕ) → target < length is_picked.now
         → seat + says burdens.now target < 2 ^ 128 }
     ensures lightest { option_map (λ candidate. candidate.target) result

@@ -1,5 +1,6 @@
 -- Stake on its way out, as Substrate's staking pallet keeps it: chunks by rising era of release.
 use Rattle.std.specs.Prelude.{ℕ, Bool, true, false, ◌+◌, ◌-◌, ◌<◌, ◌≤◌, List, Option, Some, None, [], ◌∷◌, length, sum_by, filter, All, nat_lt, nat_le, ◌==◌, ◌&&◌, if◌then◌else◌}
+use Rattle.stake_ledger.specs.declared.chunks.TheConstants.{MOST_CHUNKS}
 use Rattle.std.specs.List.{AllPairs}
 use Rattle.stake_ledger.specs.declared.chunks.Chunk.{Chunk}
 use Rattle.stake_ledger.specs.declared.refusal.LedgerRefusal.{LedgerRefusal}
@@ -12,7 +13,7 @@ chunk_sum chunks = sum_by (λ chunk. chunk.value) chunks
 -- no chunk is 0, at most 32 stand, and each is released later than those before it
 pub record IsSchedule (chunks : List Chunk) : Type 0 where
   pub whole : All (λ chunk. 0 < chunk.value) chunks
-  pub few : length chunks ≤ 32
+  pub few : length chunks ≤ MOST_CHUNKS
   pub rising : AllPairs (λ earlier later. earlier.release < later.release) chunks
 
 abbrev pub is_empty : List Chunk → Bool
@@ -30,7 +31,7 @@ with_chunk amount release (chunk ∷ later) =
 -- more than 32 chunks never stand
 abbrev pub chunk_refusal : ℕ → ℕ → List Chunk → Option LedgerRefusal
 chunk_refusal amount release chunks =
-    if nat_lt 32 (length (with_chunk amount release chunks)) then Some NoMoreChunks else None
+    if nat_lt MOST_CHUNKS (length (with_chunk amount release chunks)) then Some NoMoreChunks else None
 
 -- what is left of a chunk; an emptied one goes
 abbrev pub lessened : ℕ → Chunk → List Chunk

@@ -1,5 +1,6 @@
 //! Stake on its way out.
 ghost use Rattle.std.specs.Prelude.{◌≡◌, ◌+◌, ◌^◌, ◌<◌, ◌≤◌, ◌↔◌, [], length, IsTrue, OnErr, OnOk, IfErr};
+ghost use Rattle.stake_ledger.specs.declared.chunks.TheConstants.{MOST_CHUNKS};
 ghost use Rattle.npos_base.specs.Refusal.{IsDue};
 ghost use Rattle.stake_ledger.specs.declared.refusal.LedgerRefusal.TheVariants as refusals;
 ghost use Rattle.stake_ledger.specs.Chunks.{chunk_sum, chunk_refusal, is_empty, with_chunk, without_latest, without_first, released, unreleased};
@@ -10,7 +11,7 @@ use std::alloc::Global;
 use std::marker::Model;
 
 /// The most chunks that one account may have.
-const MOST_CHUNKS: usize = 32;
+pub const MOST_CHUNKS: usize = 32;
 
 /// Stake on its way out: `value` units that are free again from the era `release` on.
 #[derive(Clone, Copy, Debug, PartialEq, Eq)]
@@ -81,7 +82,7 @@ impl Chunks {
     #[tactic(auto, using(crate::proofs::ChunkLemmas::joined, crate::proofs::ChunkLemmas::put_last, crate::proofs::ChunkLemmas::nonempty, crate::proofs::ChunkLemmas::room_to_join, crate::proofs::ChunkLemmas::room_to_put, crate::proofs::ChunkLemmas::no_room))]
     pub fn add(&mut self, amount: u64, release: u32) -> Result<(), LedgerRefusal>
         requires sum { chunk_sum self.old + amount < 2 ^ 64 }
-        requires few { length self.old ≤ 32 }
+        requires few { length self.old ≤ MOST_CHUNKS }
         ensures ok { OnOk result ((chunk_refusal amount release self.old ≡ None)
             × (self.new ≡ with_chunk amount release self.old)) }
         ensures err { OnErr result (self.new ≡ self.old) }

@@ -1,5 +1,6 @@
 //! What one account has.
 ghost use Rattle.std.specs.Prelude.{◌≡◌, ◌+◌, ◌^◌, ◌<◌, ◌≤◌, OnErr, OnOk, OnSome, IfErr, IfOk, IfSome, IfNone, None, Some, length, true, false};
+ghost use Rattle.stake_ledger.specs.declared.chunks.TheConstants.{MOST_CHUNKS};
 ghost use Rattle.stake_ledger.specs.declared.call.RowCall.TheVariants as calls;
 ghost use Rattle.stake_ledger.specs.Calls.{hold_refusal};
 ghost use Rattle.stake_ledger.specs.Parts.{parts_of, cut_of};
@@ -100,7 +101,7 @@ impl Row {
     /// Moves up to the value from active to a chunk with this release.
     fn unbond(&mut self, value: u64, release: u32, least: u64) -> Result<u64, LedgerRefusal>
         requires fits { worth self.old < 2 ^ 64 }
-        requires few { length self.old.chunks ≤ 32 }
+        requires few { length self.old.chunks ≤ MOST_CHUNKS }
         ensures { Answers (calls.Unbond value release least) self.old self.new result }
     {
         if value == 0 {
@@ -245,7 +246,7 @@ impl Row {
     #[inline(always)]
     pub fn call(&mut self, call: RowCall) -> Result<u64, LedgerRefusal>
         requires fits { worth self.old < 2 ^ 64 }
-        requires few { length self.old.chunks ≤ 32 }
+        requires few { length self.old.chunks ≤ MOST_CHUNKS }
         ensures { Answers call self.old self.new result }
     {
         match call {
@@ -268,7 +269,7 @@ impl Row {
     #[inline(always)]
     pub fn done(&mut self, call: RowCall) -> Result<Done, LedgerRefusal>
         requires fits { worth self.old < 2 ^ 64 }
-        requires few { length self.old.chunks ≤ 32 }
+        requires few { length self.old.chunks ≤ MOST_CHUNKS }
         ensures ok { OnOk result ((row_refusal call self.old ≡ None)
             × (self.new ≡ row_after call self.old)) }
         ensures done { IfOk result (λ done. done ≡ done_of call self.old) }

@@ -1,5 +1,6 @@
 //! The rows of all accounts, and the change of one of them.
 ghost use Rattle.std.specs.Prelude.{◌≡◌, ◌≢◌, ◌+◌, ◌^◌, ◌<◌, ◌≤◌, [], None, Some, OnErr, OnOk, OnSome, IfErr, IfOk, IfSome, IfNone, length, true, false};
+ghost use Rattle.stake_ledger.specs.declared.chunks.TheConstants.{MOST_CHUNKS};
 ghost use Rattle.std.specs.Option.{option_copied};
 ghost use Rattle.std.specs.List.Sorted.{IsStrictlySortedBy};
 ghost use Rattle.std.specs.Map.{keys_of};
@@ -202,7 +203,7 @@ impl Rows {
     #[inline(always)]
     pub fn call(&mut self, who: AccountId, call: RowCall) -> Result<Done, LedgerRefusal>
         requires fits { worth (row_in self.old who) < 2 ^ 64 }
-        requires few { length (row_in self.old who).chunks ≤ 32 }
+        requires few { length (row_in self.old who).chunks ≤ MOST_CHUNKS }
         ensures accepted { OnOk result (row_refusal call (row_in self.old who) ≡ None) }
         ensures ok { OnOk result (self.new ≡ with_row who (row_after call) self.old) }
         ensures done { IfOk result (λ done. done ≡ done_of call (row_in self.old who)) }
