@@ -41,7 +41,8 @@ IsFound slots first crowd who place =
     ⊎ (AreTaken slots first (first + 4) × (place_in crowd who ≡ Some place))
 
 -- each account at a place below the limit is found, and who is in the crowd stands where it says
-pub record Finds (slots : List ℕ) (count : ℕ) (crowd : List (AccountId × ℕ)) (accounts : List AccountId) (limit : ℕ) : Type 0 where
+pub record Finds (slots : List ℕ) (count : ℕ) (crowd : List (AccountId × ℕ)) (accounts : List AccountId)
+    (limit : ℕ) : Type 0 where
   pub found : (who : AccountId) (place : ℕ) → place < limit → slice_get accounts place ≡ Some who
       → IsFound slots (slot_in count who) crowd who place
   pub standing : (who : AccountId) (place : ℕ) → place_in crowd who ≡ Some place

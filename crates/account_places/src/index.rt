@@ -99,8 +99,8 @@ impl Index {
         Ok(index)
     }
 
-    /// The mark of a slot. Beyond the slots it is that of the first place, which is looked at as any
-    /// other mark.
+    /// The mark of a slot. Beyond the slots it is that of the first place, which is looked at as
+    /// any other mark.
     fn mark(&self, slot: usize) -> usize
         ensures { result ≡ mark_at self.now.slots.items slot }
     {
@@ -131,7 +131,8 @@ impl Index {
         ensures ok { OnOk result ((accounts : List AccountId) → IsApart accounts
             → slice_get accounts place ≡ Some who
             → Finds self.old.slots.items self.old.count self.old.crowd.entries accounts place
-            → Finds self.new.slots.items self.new.count self.new.crowd.entries accounts (place + 1)) }
+            → Finds self.new.slots.items self.new.count self.new.crowd.entries accounts
+            (place + 1)) }
         ensures err { OnErr result ((self.new.slots.items ≡ self.old.slots.items)
             × (self.new.count ≡ self.old.count)
             × (self.new.crowd.entries ≡ self.old.crowd.entries)) }

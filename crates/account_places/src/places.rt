@@ -53,8 +53,8 @@ impl Places {
         self.index.find(self.accounts.as_slice(), who)
     }
 
-    /// The place of the account, as `find` tells it. It need not be searched for where it is the one
-    /// that is guessed.
+    /// The place of the account, as `find` tells it. It need not be searched for where it is the
+    /// one that is guessed.
     pub fn find_from(&self, guess: usize, who: AccountId) -> Option<usize>
         ensures place { result ≡ place_in (by_account self.now) who }
         ensures stand { Stand self.now (by_account self.now) }
@@ -101,8 +101,8 @@ impl Places {
     }
 }
 
-/// Notes all accounts anew in more slots, where the slots are few. They stay as they are where there
-/// is no memory for more: then more accounts are searched.
+/// Notes all accounts anew in more slots, where the slots are few. They stay as they are where
+/// there is no memory for more: then more accounts are searched.
 fn widen(alloc: Global, index: &mut Index, accounts: &[AccountId])
     requires apart { IsApart accounts.now }
     requires whole { Finds index.old.slots.items index.old.count index.old.crowd.entries

@@ -79,7 +79,8 @@ pub fn read_on<T: Wire>(
     ensures on { ReadsOn T.form items.old.items cursor.old items.new.items cursor.new }
     ensures few { vec_len items.new ≤ count }
     ensures stopped { MatchResult result (λ _. length items.new.items ≡ count)
-        (λ fault. (length items.new.items < count) × Reads T.form cursor.new (Err fault) cursor.new) }
+        (λ fault. (length items.new.items < count)
+        × Reads T.form cursor.new (Err fault) cursor.new) }
 {
     'items: while items.len() < count as usize {
         let mut here = cursor.fork();

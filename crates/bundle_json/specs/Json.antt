@@ -42,7 +42,8 @@ edge_json edge = array_of (whole_json edge.voter ∷ whole_json edge.target ∷ 
 
 -- the squares pass the numbers of JSON, so they are a text
 abbrev pub claim_json : Score → Data
-claim_json claim = array_of (whole_json claim.minimal ∷ whole_json claim.sum ∷ string (decimal claim.squares) ∷ [])
+claim_json claim =
+    array_of (whole_json claim.minimal ∷ whole_json claim.sum ∷ string (decimal claim.squares) ∷ [])
 
 -- ## Bundles
 
@@ -58,7 +59,8 @@ work_json Nothing = null
 work_json (Packed claim bytes) =
     object_of ((codes "claim", claim_json claim) ∷ (codes "solution", string (encode_lower bytes)) ∷ [])
 work_json (Plain committee edges) =
-    object_of ((codes "committee", list_json whole_json committee) ∷ (codes "edges", list_json edge_json edges) ∷ [])
+    object_of ((codes "committee", list_json whole_json committee)
+    ∷ (codes "edges", list_json edge_json edges) ∷ [])
 
 abbrev pub json_of : Bundle → Data
 json_of bundle = object_of (

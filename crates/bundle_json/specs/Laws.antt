@@ -14,11 +14,13 @@ StandsForItself = (bundle : Bundle) → bundle_form.in_range bundle → bundle_o
 
 -- what is written of a bundle reads as that value
 abbrev pub ReadsAsWritten : Type 0
-ReadsAsWritten = (bundle : Bundle) → bundle_form.in_range bundle → reading (compact_text (json_of bundle)) ≡ Some (json_of bundle)
+ReadsAsWritten = (bundle : Bundle) → bundle_form.in_range bundle
+    → reading (compact_text (json_of bundle)) ≡ Some (json_of bundle)
 
 -- the same line stands for the bundle with a line feed behind it
 abbrev pub LineStands : Type 0
-LineStands = (bundle : Bundle) → bundle_form.in_range bundle → bundle_in_text (compact_text (json_of bundle) ++ 10 ∷ []) ≡ Ok bundle
+LineStands = (bundle : Bundle) → bundle_form.in_range bundle
+    → bundle_in_text (compact_text (json_of bundle) ++ 10 ∷ []) ≡ Ok bundle
 
 -- a bundle that a value stands for is in range
 abbrev pub IsInRange : Type 0

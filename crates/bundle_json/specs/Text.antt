@@ -27,8 +27,8 @@ abbrev pub bundle_or_fault : Option Data → Result Bundle JsonFault
 bundle_or_fault (Some value) = bundle_or_shape (bundle_of value)
 bundle_or_fault None = Err Json
 
--- The bundle that a text of JSON stands for. One without a reading is refused as Json, and one whose value stands for no
--- bundle as Shape.
+-- The bundle that a text of JSON stands for. One without a reading is refused as Json, and one
+-- whose value stands for no bundle as Shape.
 abbrev pub bundle_in_text : List ℕ → Result Bundle JsonFault
 bundle_in_text text = bundle_or_fault (reading text)
 

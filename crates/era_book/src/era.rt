@@ -73,8 +73,8 @@ impl Era {
     }
 
     /// The members of an era that begins with an elected committee: who is exposed, and with what,
-    /// is as `exposures_of` tells by the edges in the order of the voters. The voters are kept as the
-    /// accounts of the backers.
+    /// is as `exposures_of` tells by the edges in the order of the voters. The voters are kept as
+    /// the accounts of the backers.
     pub fn elected(
         alloc: Global,
         targets: &[AccountId],

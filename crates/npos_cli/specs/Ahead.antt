@@ -21,8 +21,9 @@ first_place bytes = record { at = 0; rest = bytes }
 abbrev pub MayFollow : Bool → List ℕ → Type 0
 MayFollow ended more = ended ≡ true → more ≡ []
 
--- All of this was taken from what was left. Where the input has ended, it had ended before and nothing was read since,
--- or nothing is left now. Nothing is said of a source that does not tell its bytes.
+-- All of this was taken from what was left. Where the input has ended, it had ended before and
+-- nothing was read since, or nothing is left now. Nothing is said of a source that does not tell
+-- its bytes.
 pub record HasSeen (old now : Option (List ℕ)) (seen : List ℕ) (before ended : Bool) : Type 0 where
   pub taken : LeftAfter old now seen
   pub at_end : ended ≡ true → ((before ≡ true) × (now ≡ old)) ⊎ IsDrained old now
@@ -41,7 +42,8 @@ Feeds left taken old new (Err other) = ⊥
 
 -- one read, of at most one piece
 abbrev pub FeedsMore : Option (List ℕ) → Option (List ℕ) → Place → Place → Result Bool Status → Type 0
-FeedsMore left now old new result = (taken : List ℕ) × LeftAfter left now taken × (length taken ≤ PIECE) × Feeds left taken old new result
+FeedsMore left now old new result =
+    (taken : List ℕ) × LeftAfter left now taken × (length taken ≤ PIECE) × Feeds left taken old new result
 
 -- a genesis is cut here: bytes of it are missing
 abbrev pub CutsGenesis : List ℕ → Type 0
@@ -49,18 +51,23 @@ CutsGenesis bytes = (at : ℕ) × genesis_form.bad bytes at Short
 
 -- without the last piece, bytes of the genesis are missing
 abbrev pub AwaitsGenesis : List ℕ → Type 0
-AwaitsGenesis taken = (earlier : List ℕ) × (last : List ℕ) × (taken ≡ earlier ++ last) × (length last ≤ PIECE) × CutsGenesis earlier
+AwaitsGenesis taken = (earlier : List ℕ) × (last : List ℕ) × (taken ≡ earlier ++ last) × (length last ≤ PIECE)
+    × CutsGenesis earlier
 
--- The genesis of an input was read, or is refused whatever may follow; or a read failed where it is cut, or memory ran
--- out.
-abbrev pub BeginsBy : Option (List ℕ) → Option (List ℕ) → List ℕ → Place → Result (Result Genesis WireFault) Status → Type 0
+-- The genesis of an input was read, or is refused whatever may follow; or a read failed where it is
+-- cut, or memory ran out.
+abbrev pub BeginsBy : Option (List ℕ) → Option (List ℕ) → List ℕ → Place
+    → Result (Result Genesis WireFault) Status → Type 0
 BeginsBy left now taken place (Ok (Ok genesis)) = IsRead genesis_form (first_place taken) genesis place
 BeginsBy left now taken place (Ok (Err fault)) =
-    (ended : Bool) × HasSeen left now taken false ended × IsBytes taken × IsFault genesis_form (first_place taken) fault (first_place taken)
+    (ended : Bool) × HasSeen left now taken false ended × IsBytes taken
+    × IsFault genesis_form (first_place taken) fault (first_place taken)
     × IsSure ended fault.why
 BeginsBy left now taken place (Err statuses.ReadFault) = CutsGenesis taken
 BeginsBy left now taken place (Err statuses.NoMemory) = ⊤
 BeginsBy left now taken place (Err other) = ⊥
 
-abbrev pub Begins : Option (List ℕ) → Option (List ℕ) → Place → Result (Result Genesis WireFault) Status → Type 0
-Begins left now place result = (taken : List ℕ) × LeftAfter left now taken × AwaitsGenesis taken × BeginsBy left now taken place result
+abbrev pub Begins : Option (List ℕ) → Option (List ℕ) → Place → Result (Result Genesis WireFault) Status
+    → Type 0
+Begins left now place result =
+    (taken : List ℕ) × LeftAfter left now taken × AwaitsGenesis taken × BeginsBy left now taken place result

@@ -7,5 +7,6 @@ use Rattle.npos_cli.specs.Chain.{npos_machine}
 
 -- at every place that a replay of these bytes comes to, the books balance
 abbrev pub BooksBalance : List ℕ → Type 0
-BooksBalance bytes = (start place : Spot Chain) (text : List ℕ) → Starts npos_machine bytes start → Reaches npos_machine start place text
+BooksBalance bytes = (start place : Spot Chain) (text : List ℕ) → Starts npos_machine bytes start
+    → Reaches npos_machine start place text
     → IsBalanced place.state.book

@@ -43,7 +43,8 @@ judged verdict = told [] verdict
 abbrev pub work_report : ℕ → Snapshot → Work → Report
 work_report size snapshot Nothing = faulty (no_solution_line (size - 1))
 work_report size snapshot (Packed claim solution) = judged (verdict_packed snapshot claim solution)
-work_report size snapshot (Plain committee edges) = judged (verdict_plain snapshot (record { committee = committee; edges = edges }))
+work_report size snapshot (Plain committee edges) = judged
+    (verdict_plain snapshot (record { committee = committee; edges = edges }))
 
 -- ## The election
 

@@ -26,26 +26,35 @@ abbrev pub line_text : Line → List ℕ
 line_text (lines.Block number) = codes "block " ++ (decimal number ++ newline)
 line_text (lines.Era era) = codes "era " ++ (decimal era ++ newline)
 line_text (lines.Snapshot round targets voters total) =
-    codes "snapshot " ++ (decimal round ++ (codes " targets " ++ (decimal targets ++ (codes " voters " ++ (decimal voters ++ (codes " total " ++ (decimal total ++ newline)))))))
+    codes "snapshot " ++ (decimal round
+    ++ (codes " targets " ++ (decimal targets
+    ++ (codes " voters " ++ (decimal voters ++ (codes " total " ++ (decimal total ++ newline)))))))
 line_text (lines.VoidFew round) = codes "void " ++ (decimal round ++ codes " few\n")
 line_text (lines.VoidPoor round) = codes "void " ++ (decimal round ++ codes " poor\n")
 line_text (lines.Forfeit number deposit verdict) =
-    codes "forfeit " ++ (decimal number ++ (codes " " ++ (decimal deposit ++ (codes " " ++ verdict_line verdict))))
-line_text (lines.Returned number deposit) = codes "return " ++ (decimal number ++ (codes " " ++ (decimal deposit ++ newline)))
-line_text (lines.Reward number amount) = codes "reward " ++ (decimal number ++ (codes " " ++ (decimal amount ++ newline)))
-line_text (lines.SeatSigned round number) = codes "seat " ++ (decimal round ++ (codes " signed " ++ (decimal number ++ newline)))
+    codes "forfeit " ++ (decimal number
+    ++ (codes " " ++ (decimal deposit ++ (codes " " ++ verdict_line verdict))))
+line_text (lines.Returned number deposit) = codes "return "
+    ++ (decimal number ++ (codes " " ++ (decimal deposit ++ newline)))
+line_text (lines.Reward number amount) = codes "reward "
+    ++ (decimal number ++ (codes " " ++ (decimal amount ++ newline)))
+line_text (lines.SeatSigned round number) = codes "seat "
+    ++ (decimal round ++ (codes " signed " ++ (decimal number ++ newline)))
 line_text (lines.SeatFill round) = codes "seat " ++ (decimal round ++ codes " fill\n")
 line_text (lines.Member who support) = member_line who support
 line_text (lines.CallOk index) = codes "call " ++ (decimal index ++ codes " ok\n")
 line_text (lines.Paid who amount) = amount_line (codes "paid ") who amount
 line_text (lines.Slashed who amount) = amount_line (codes "slashed ") who amount
-line_text (lines.CallRefused index code) = codes "call " ++ (decimal index ++ (codes " refused " ++ (decimal code ++ newline)))
+line_text (lines.CallRefused index code) = codes "call "
+    ++ (decimal index ++ (codes " refused " ++ (decimal code ++ newline)))
 
 -- the last line of a replay that read its input to the end
 abbrev pub end_line : Totals → List ℕ
 end_line totals =
-    codes "end free " ++ (decimal totals.free ++ (codes " active " ++ (decimal totals.active ++ (codes " unlocking " ++ (decimal totals.unlocking
-    ++ (codes " deposits " ++ (decimal totals.deposits ++ (codes " minted " ++ (decimal totals.minted ++ (codes " burned " ++ (decimal totals.burned
+    codes "end free " ++ (decimal totals.free
+    ++ (codes " active " ++ (decimal totals.active ++ (codes " unlocking " ++ (decimal totals.unlocking
+    ++ (codes " deposits " ++ (decimal totals.deposits
+    ++ (codes " minted " ++ (decimal totals.minted ++ (codes " burned " ++ (decimal totals.burned
     ++ (codes " issuance " ++ (decimal totals.issuance ++ newline)))))))))))))
 
 -- the chain of a genesis, or the number and the detail of its first fault

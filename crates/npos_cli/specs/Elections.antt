@@ -1,4 +1,5 @@
--- The election of a bundle: its targets are added in their order, then its voters in theirs, and then it gets its seats.
+-- The election of a bundle: its targets are added in their order, then its voters in theirs, and
+-- then it gets its seats.
 use Rattle.std.specs.Prelude.{◌≡◌, ◌≢◌, List, [], ◌∷◌, Option, Some, None, Result, Ok, Err}
 use Rattle.npos_base.specs.declared.account.AccountId.{AccountId}
 use Rattle.block_wire.specs.declared.bundle.Bundle.{Bundle}
@@ -14,13 +15,15 @@ unless None value = Ok value
 unless (Some fault) value = Err fault
 
 -- goes on where there was no fault
-abbrev pub and_then : {A B : Type 0} → Result A SnapshotFault → (A → Result B SnapshotFault) → Result B SnapshotFault
+abbrev pub and_then : {A B : Type 0} → Result A SnapshotFault → (A → Result B SnapshotFault)
+    → Result B SnapshotFault
 and_then (Ok value) next = next value
 and_then (Err fault) next = Err fault
 
 abbrev pub with_targets : List AccountId → Draft → Result Draft SnapshotFault
 with_targets [] draft = Ok draft
-with_targets (who ∷ more) draft = and_then (unless (target_fault draft who) (with_target draft who)) (with_targets more)
+with_targets (who ∷ more) draft = and_then (unless (target_fault draft who) (with_target draft who))
+    (with_targets more)
 
 abbrev pub fault_of : Draft → BundleVoter → Option SnapshotFault
 fault_of draft voter = voter_fault draft voter.account voter.stake voter.votes
@@ -30,7 +33,8 @@ draft_with draft voter = with_voter draft voter.account voter.stake voter.votes
 
 abbrev pub with_voters : List BundleVoter → Draft → Result Draft SnapshotFault
 with_voters [] draft = Ok draft
-with_voters (voter ∷ more) draft = and_then (unless (fault_of draft voter) (draft_with draft voter)) (with_voters more)
+with_voters (voter ∷ more) draft = and_then (unless (fault_of draft voter) (draft_with draft voter))
+    (with_voters more)
 
 abbrev pub empty_draft : Draft
 empty_draft = record { targets = []; voters = [] }
@@ -40,7 +44,8 @@ draft_of bundle = and_then (with_targets bundle.targets empty_draft) (with_voter
 
 -- the snapshot of the election, or its first fault
 abbrev pub snapshot_of : Bundle → Result Snapshot SnapshotFault
-snapshot_of bundle = and_then (draft_of bundle) (λ draft. unless (finish_fault draft bundle.seats) (seated draft bundle.seats))
+snapshot_of bundle =
+    and_then (draft_of bundle) (λ draft. unless (finish_fault draft bundle.seats) (seated draft bundle.seats))
 
 -- want of memory is free, and any other answer is this one
 abbrev pub IsElection : {A : Type 0} → Result A SnapshotFault → Result A SnapshotFault → Type 0

@@ -9,13 +9,14 @@ use Rattle.npos_cli.specs.Chain.{npos_machine}
 use Rattle.npos_cli.specs.Books.{BooksBalance}
 use Rattle.npos_cli.specs.Owed.{Delivers}
 
--- Every committee that the replay of these bytes seats has a member for each seat, follows nominations, spends no voter
--- beyond its stake, and is proportional.
+-- Every committee that the replay of these bytes seats has a member for each seat, follows
+-- nominations, spends no voter beyond its stake, and is proportional.
 abbrev pub SeatsAreSound : List ℕ → Type 0
-SeatsAreSound bytes = (out : Outcome Chain Election) → IsReplay npos_machine bytes out → All IsSound out.seated
+SeatsAreSound bytes =
+    (out : Outcome Chain Election) → IsReplay npos_machine bytes out → All IsSound out.seated
 
--- The replay of these bytes was written whole, every committee that it seats is sound, and all holdings equal genesis
--- plus minted less burned, from the genesis on and after every block.
+-- The replay of these bytes was written whole, every committee that it seats is sound, and all
+-- holdings equal genesis plus minted less burned, from the genesis on and after every block.
 pub record IsPromised (bytes : List ℕ) (old new : Option Told) : Type 0 where
   pub replay : Outcome Chain Election
   pub is_replay : IsReplay npos_machine bytes replay

@@ -12,25 +12,31 @@ use Rattle.npos_cli.specs.Replay.{Machine, Spot, turn, Starts, Reaches, Outcome,
 
 -- words and bytes owe at most one text and one status
 abbrev pub OwesOnce : Type 0
-OwesOnce = (words : List (List ℕ)) (bytes text other : List ℕ) (status end : Status) → Owes words bytes text status → Owes words bytes other end
+OwesOnce = (words : List (List ℕ)) (bytes text other : List ℕ) (status end : Status)
+    → Owes words bytes text status → Owes words bytes other end
     → (text ≡ other) × (status ≡ end)
 
 -- words owe a text and a status for each list of bytes
 abbrev pub OwesAlways : Type 0
-OwesAlways = (words : List (List ℕ)) (bytes : List ℕ) → IsBytes bytes → (text : List ℕ) × (status : Status) × Owes words bytes text status
+OwesAlways = (words : List (List ℕ)) (bytes : List ℕ) → IsBytes bytes
+    → (text : List ℕ) × (status : Status) × Owes words bytes text status
 
--- What `pack` writes of a text that `show` wrote is what `show` read, unless the text is too long for a bundle.
+-- What `pack` writes of a text that `show` wrote is what `show` read, unless the text is too long
+-- for a bundle.
 abbrev pub PacksBack : Type 0
-PacksBack = (bytes text : List ℕ) → IsBytes bytes → JobOwes (Some (jobs.Rewrite ways.Show)) bytes text statuses.Done → length text ≤ most_bundle
+PacksBack = (bytes text : List ℕ) → IsBytes bytes
+    → JobOwes (Some (jobs.Rewrite ways.Show)) bytes text statuses.Done → length text ≤ most_bundle
     → JobOwes (Some (jobs.Rewrite ways.Pack)) text bytes statuses.Done
 
 -- each byte list has at most one replay
 abbrev pub IsReplayedOnce : {G B S E : Type 0} → Machine G B S E → Type 0
-IsReplayedOnce {G} {B} {S} {E} m = (bytes : List ℕ) (out other : Outcome S E) → IsReplay m bytes out → IsReplay m bytes other → out ≡ other
+IsReplayedOnce {G} {B} {S} {E} m =
+    (bytes : List ℕ) (out other : Outcome S E) → IsReplay m bytes out → IsReplay m bytes other → out ≡ other
 
 -- each list of bytes has a replay
 abbrev pub IsAlwaysReplayed : {G B S E : Type 0} → Machine G B S E → Type 0
-IsAlwaysReplayed {G} {B} {S} {E} m = (bytes : List ℕ) → IsBytes bytes → (out : Outcome S E) × IsReplay m bytes out
+IsAlwaysReplayed {G} {B} {S} {E} m =
+    (bytes : List ℕ) → IsBytes bytes → (out : Outcome S E) × IsReplay m bytes out
 
 -- the whole blocks of a byte list write one text
 abbrev pub IsWholeOnce : {G B S E : Type 0} → Machine G B S E → Type 0
@@ -42,18 +48,23 @@ IsAlwaysWhole m = (bytes : List ℕ) → IsBytes bytes → (text : List ℕ) × 
 
 -- the replay of a byte list begins with what its whole blocks write
 abbrev pub BeginsWithWhole : {G B S E : Type 0} → Machine G B S E → Type 0
-BeginsWithWhole {G} {B} {S} {E} m = (bytes text : List ℕ) (out : Outcome S E) → IsWhole m bytes text → IsReplay m bytes out → IsFront text out.text
+BeginsWithWhole {G} {B} {S} {E} m = (bytes text : List ℕ) (out : Outcome S E) → IsWhole m bytes text
+    → IsReplay m bytes out → IsFront text out.text
 
 -- More bytes leave what the whole blocks before them write: the text only grows.
 abbrev pub WholeGrows : {G B S E : Type 0} → Machine G B S E → Type 0
-WholeGrows m = (bytes more text longer : List ℕ) → IsWhole m bytes text → IsWhole m (bytes ++ more) longer → IsFront text longer
+WholeGrows m = (bytes more text longer : List ℕ) → IsWhole m bytes text → IsWhole m (bytes ++ more) longer
+    → IsFront text longer
 
--- bytes are missing: the input ends within its genesis, or where the next block or the None should stand whole
+-- bytes are missing: the input ends within its genesis, or where the next block or the None should
+-- stand whole
 pub data IsCut {G B S E : Type 0} (m : Machine G B S E) (bytes : List ℕ) : Type 0 where
   CutGenesis : (at : ℕ) → m.genesis.bad bytes at Short → IsCut m bytes
-  CutBlock : (p q : Spot S) (text : List ℕ) (at : ℕ) → Starts m bytes p → Reaches m p q text → (turn m).bad q.rest at Short → IsCut m bytes
+  CutBlock : (p q : Spot S) (text : List ℕ) (at : ℕ) → Starts m bytes p → Reaches m p q text
+      → (turn m).bad q.rest at Short → IsCut m bytes
 
 -- A replay that ends with a fault line stands whatever follows the bytes, unless some are missing.
 abbrev pub FaultsStand : {G B S E : Type 0} → Machine G B S E → Type 0
 FaultsStand {G} {B} {S} {E} m =
-    (bytes more : List ℕ) (out : Outcome S E) → IsBytes bytes → (IsCut m bytes → ⊥) → IsReplay m bytes out → out.faulty ≡ true → IsReplay m (bytes ++ more) out
+    (bytes more : List ℕ) (out : Outcome S E) → IsBytes bytes → (IsCut m bytes → ⊥) → IsReplay m bytes out
+    → out.faulty ≡ true → IsReplay m (bytes ++ more) out

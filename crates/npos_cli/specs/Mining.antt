@@ -20,8 +20,8 @@ use Rattle.npos_cli.specs.Bundles.{Report, told}
 
 -- ## Weights
 
--- the weights that a miner makes: the greedy fill, or those of the run of its rule; for PHRAGMMS, whose run is a
--- relation, it is said besides that they are feasible
+-- the weights that a miner makes: the greedy fill, or those of the run of its rule; for PHRAGMMS,
+-- whose run is a relation, it is said besides that they are feasible
 abbrev pub IsMined : Miner → Snapshot → Weights → Type 0
 IsMined miners.Fill snapshot weights = weights ≡ filled snapshot
 IsMined miners.Seq snapshot weights = weights ≡ mined snapshot
@@ -39,7 +39,8 @@ line_of snapshot weights member = member_line (target_at snapshot member) (suppo
 -- the members by rising position, whatever their order in the committee, and then the score
 abbrev pub weights_lines : Snapshot → Weights → List ℕ
 weights_lines snapshot weights =
-    flat_map (line_of snapshot weights) (filter (has weights.committee) (range_with_len 0 (length snapshot.targets)))
+    flat_map (line_of snapshot weights)
+    (filter (has weights.committee) (range_with_len 0 (length snapshot.targets)))
     ++ score_line (score_of weights)
 
 -- ## Reports
@@ -47,14 +48,17 @@ weights_lines snapshot weights =
 abbrev pub lost_report : ℕ → Report
 lost_report member = record { text = lost_line member; status = statuses.No }
 
--- the verdict on bytes that claim the score of these weights, behind the lines of the weights and of the bytes
+-- the verdict on bytes that claim the score of these weights, behind the lines of the weights and
+-- of the bytes
 abbrev pub bytes_report : Snapshot → Weights → List ℕ → Report
 bytes_report snapshot weights bytes =
-    told (weights_lines snapshot weights ++ solution_line bytes) (verdict_packed snapshot (score_of weights) bytes)
+    told (weights_lines snapshot weights ++ solution_line bytes)
+    (verdict_packed snapshot (score_of weights) bytes)
 
 -- of a solution its bytes are judged, and the weights are those that it expands to
 abbrev pub solution_report : Snapshot → List (List Entry) → Report
-solution_report snapshot solution = bytes_report snapshot (expanded snapshot solution) (solution_form.spelling solution)
+solution_report snapshot solution =
+    bytes_report snapshot (expanded snapshot solution) (solution_form.spelling solution)
 
 -- of packed weights the solution, or the lowest member that is lost
 abbrev pub packed_report : Snapshot → Result (List (List Entry)) ℕ → Report
@@ -63,19 +67,22 @@ packed_report snapshot (Err member) = lost_report member
 
 -- The weights of the fill are judged as they are. Those of the other miners are packed.
 abbrev pub mine_report : Miner → Snapshot → Weights → Report
-mine_report miners.Fill snapshot weights = told (weights_lines snapshot weights) (verdict_plain snapshot weights)
+mine_report miners.Fill snapshot weights =
+    told (weights_lines snapshot weights) (verdict_plain snapshot weights)
 mine_report miners.Seq snapshot weights = packed_report snapshot (packed_of snapshot weights)
 mine_report (miners.Mms rounds) snapshot weights = packed_report snapshot (packed_of snapshot weights)
 
 -- the report is that of the weights that the miner makes
 abbrev pub IsMineReport : Miner → Snapshot → Report → Type 0
-IsMineReport miner snapshot report = (weights : Weights) × IsMined miner snapshot weights × (report ≡ mine_report miner snapshot weights)
+IsMineReport miner snapshot report =
+    (weights : Weights) × IsMined miner snapshot weights × (report ≡ mine_report miner snapshot weights)
 
 -- ## What a verdict is on
 
 -- the weights that these ones expand to once they are packed
 abbrev pub IsExpanded : Snapshot → Weights → Weights → Type 0
-IsExpanded snapshot own weights = (solution : List (List Entry)) × (packed_of snapshot own ≡ Ok solution) × (weights ≡ expanded snapshot solution)
+IsExpanded snapshot own weights = (solution : List (List Entry)) × (packed_of snapshot own ≡ Ok solution)
+    × (weights ≡ expanded snapshot solution)
 
 -- the weights of a miner that are judged
 abbrev pub AreJudged : Miner → Snapshot → Weights → Weights → Type 0

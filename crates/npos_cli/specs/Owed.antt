@@ -18,7 +18,8 @@ Delivers old (Some now) text = (before : Told) × (old ≡ Some before)
 -- a front of the text was appended
 abbrev pub DeliversFront : Option Told → Option Told → List ℕ → Type 0
 DeliversFront old None text = ⊤
-DeliversFront old (Some now) text = (before : Told) × (n : ℕ) × (old ≡ Some before) × (now.written ≡ before.written ++ take n text)
+DeliversFront old (Some now) text = (before : Told) × (n : ℕ) × (old ≡ Some before)
+    × (now.written ≡ before.written ++ take n text)
 
 -- no more is flushed than was before; nothing is said of a sink that does not tell its bytes
 abbrev pub KeepsFlushed : Option Told → Option Told → Type 0
@@ -36,7 +37,8 @@ IsDrained None now = ⊤
 IsDrained (Some left) now = now ≡ Some []
 
 -- The replay of these bytes was delivered, which ends with a fault line or not.
-abbrev pub DeliversReplay : {G B S E : Type 0} → Machine G B S E → Bool → Option Told → Option Told → List ℕ → Type 0
+abbrev pub DeliversReplay : {G B S E : Type 0} → Machine G B S E → Bool → Option Told → Option Told → List ℕ
+    → Type 0
 DeliversReplay {G} {B} {S} {E} m faulty old new bytes =
     (out : Outcome S E) × IsReplay m bytes out × (out.faulty ≡ faulty) × Delivers old new out.text
 
@@ -45,11 +47,14 @@ abbrev pub Comes : Status → Status → Type 0 → Type 0
 Comes status answer rose = (answer ≡ status) ⊎ (answer ≡ statuses.NoMemory) ⊎ rose
 
 -- a front of the replay of these bytes was delivered
-abbrev pub DeliversReplayFront : {G B S E : Type 0} → Machine G B S E → Option Told → Option Told → List ℕ → Type 0
-DeliversReplayFront {G} {B} {S} {E} m old new bytes = (out : Outcome S E) → IsReplay m bytes out → DeliversFront old new out.text
+abbrev pub DeliversReplayFront : {G B S E : Type 0} → Machine G B S E → Option Told → Option Told → List ℕ
+    → Type 0
+DeliversReplayFront {G} {B} {S} {E} m old new bytes =
+    (out : Outcome S E) → IsReplay m bytes out → DeliversFront old new out.text
 
 -- the status comes wherever the replay of these bytes ends with a fault line, or wherever it does not
-abbrev pub ComesWith : {G B S E : Type 0} → Machine G B S E → List ℕ → Bool → Status → Status → Type 0 → Type 0
+abbrev pub ComesWith : {G B S E : Type 0} → Machine G B S E → List ℕ → Bool → Status → Status → Type 0
+    → Type 0
 ComesWith {G} {B} {S} {E} m bytes faulty status answer rose =
     (out : Outcome S E) → IsReplay m bytes out → out.faulty ≡ faulty → Comes status answer rose
 
@@ -61,12 +66,14 @@ HaltsWell before now (Err statuses.NoMemory) = now ≡ before
 HaltsWell before now (Err statuses.ReadFault) = Rose before now × (before ≤ now)
 HaltsWell before now (Err other) = ⊥
 
--- A part of a run that may end it over a source: a failed read has a fault as its cause, and all else leaves the count.
+-- A part of a run that may end it over a source: a failed read has a fault as its cause, and all
+-- else leaves the count.
 abbrev pub ReadsWell : {T : Type 0} → ℕ → ℕ → Result T Status → Type 0
 ReadsWell before now (Err statuses.ReadFault) = Rose before now × (before ≤ now)
 ReadsWell before now other = now ≡ before
 
--- A part of a run that may end it over a sink: a failed write has a fault as its cause, and all else leaves the count.
+-- A part of a run that may end it over a sink: a failed write has a fault as its cause, and all
+-- else leaves the count.
 abbrev pub WritesWell : {T : Type 0} → ℕ → ℕ → Result T Status → Type 0
 WritesWell before now (Err statuses.WriteFault) = Rose before now × (before ≤ now)
 WritesWell before now other = now ≡ before
@@ -100,20 +107,23 @@ LeftAfter (Some left) now bytes = (rest : List ℕ) × (now ≡ Some rest) × (l
 -- More bytes stand behind those before, taken from what was left. Where the input has ended there are none.
 abbrev pub TakesMore : Option (List ℕ) → Option (List ℕ) → List ℕ → List ℕ → Bool → Type 0
 TakesMore old new before after ended =
-    (taken : List ℕ) × (after ≡ before ++ taken) × LeftAfter old new taken × (ended ≡ true → (taken ≡ []) × IsAtEnd old)
+    (taken : List ℕ) × (after ≡ before ++ taken) × LeftAfter old new taken
+    × (ended ≡ true → (taken ≡ []) × IsAtEnd old)
 
 -- this text is the replay's, which ends with a fault line or not
 abbrev pub Replays : {G B S E : Type 0} → Machine G B S E → List ℕ → List ℕ → Bool → Type 0
-Replays {G} {B} {S} {E} m bytes text faulty = (seated : List E) × (last : Option S) × IsReplay m bytes (record { text = text; faulty = faulty; seated = seated; last = last })
+Replays {G} {B} {S} {E} m bytes text faulty = (seated : List E) × (last : Option S)
+    × IsReplay m bytes (record { text = text; faulty = faulty; seated = seated; last = last })
 
--- The text is that of the replay of all that was left; one that ends with its end line leaves nothing. For a source
--- that does not tell its bytes it is the replay of some bytes.
-abbrev pub FindsReplay : {G B S E : Type 0} → Machine G B S E → Option (List ℕ) → Option (List ℕ) → List ℕ → Bool → Type 0
+-- The text is that of the replay of all that was left; one that ends with its end line leaves
+-- nothing. For a source that does not tell its bytes it is the replay of some bytes.
+abbrev pub FindsReplay : {G B S E : Type 0} → Machine G B S E → Option (List ℕ) → Option (List ℕ) → List ℕ
+    → Bool → Type 0
 FindsReplay m old now text faulty =
     (bytes : List ℕ) × IsAll old bytes × Replays m bytes text faulty × (faulty ≡ false → IsDrained old now)
 
--- The text and the status are what is owed for all that was left in the source. For a source that does not tell its
--- bytes they are what is owed for some bytes.
+-- The text and the status are what is owed for all that was left in the source. For a source that
+-- does not tell its bytes they are what is owed for some bytes.
 abbrev pub FindsFor : Option Job → Option (List ℕ) → List ℕ → Status → Type 0
 FindsFor job left text status = (bytes : List ℕ) × IsAll left bytes × JobOwes job bytes text status
 
@@ -136,12 +146,14 @@ IsOwed words = IsOwedFor (job_of words)
 
 -- a front of what is owed was delivered
 abbrev pub BeginsFor : Option Job → Option (List ℕ) → Option Told → Option Told → Type 0
-BeginsFor job left old new = (text : List ℕ) (status : Status) → IsOwedFor job left text status → DeliversFront old new text
+BeginsFor job left old new =
+    (text : List ℕ) (status : Status) → IsOwedFor job left text status → DeliversFront old new text
 
 abbrev pub BeginsToAnswer : List (List ℕ) → Option (List ℕ) → Option Told → Option Told → Type 0
 BeginsToAnswer words = BeginsFor (job_of words)
 
--- These bytes were taken, at most one more than the limit. Where the limit was kept they are all that was left.
+-- These bytes were taken, at most one more than the limit. Where the limit was kept they are all
+-- that was left.
 pub record ReadsUpTo (most : ℕ) (old now : Option (List ℕ)) (bytes : List ℕ) : Type 0 where
   pub taken : LeftAfter old now bytes
   pub few : length bytes ≤ most + 1

@@ -15,9 +15,10 @@ use Rattle.npos_cli.specs.Owed.{AnswersFor, BeginsFor, IsDrained, TakesAtMost, D
 use Rattle.npos_cli.specs.Words.{usage_line}
 use Rattle.npos_cli.specs.Streaming.{HaltedReading, HaltedWriting, HaltedStarving, ReadsWhile}
 
--- `reads` and `writes` are the counts of faults before, `read` and `wrote` those after; `Unread` and `Unwritten` say that
--- the source and the sink are as they were.
-pub record Ran (job : Option Job) (left now : Option (List ℕ)) (old new : Option Told) (reads read writes wrote : ℕ)
+-- `reads` and `writes` are the counts of faults before, `read` and `wrote` those after; `Unread`
+-- and `Unwritten` say that the source and the sink are as they were.
+pub record Ran (job : Option Job) (left now : Option (List ℕ)) (old new : Option Told)
+    (reads read writes wrote : ℕ)
     (Unread Unwritten : Type 0) (status : Status) : Type 0 where
   pub answers : IsAnswer status → AnswersFor job left old new status
   pub front : BeginsFor job left old new
@@ -25,12 +26,14 @@ pub record Ran (job : Option Job) (left now : Option (List ℕ)) (old new : Opti
   pub read_fault_comes : reads < read → status ≡ statuses.ReadFault
   pub write_fault : status ≡ statuses.WriteFault → Rose writes wrote
   pub write_fault_comes : writes < wrote → status ≡ statuses.WriteFault
-  pub unwritten : (job ≡ Some jobs.Replay → ⊥) → (status ≡ statuses.ReadFault) ⊎ (status ≡ statuses.NoMemory) → Unwritten
+  pub unwritten : (job ≡ Some jobs.Replay → ⊥) → (status ≡ statuses.ReadFault) ⊎ (status ≡ statuses.NoMemory)
+      → Unwritten
   pub unflushed : (IsAnswer status → ⊥) → KeepsFlushed old new
   pub unread : (ReadsInput job → ⊥) → Unread
   pub drained : IsJudged status → ReadsInput job → IsDrained left now
   pub few : ReadsBundle job → IsAnswer status → TakesAtMost (most_bundle + 1) left now
-  pub accepted : (task : Task) → job ≡ Some (jobs.OnBundle task) → status ≡ statuses.Done → IfSome left (IsSound task)
+  pub accepted : (task : Task) → job ≡ Some (jobs.OnBundle task) → status ≡ statuses.Done
+      → IfSome left (IsSound task)
   pub passes : job ≡ Some (jobs.OnBundle (tasks.Mine miners.Fill)) → status ≢ statuses.No
   pub halted_reading : job ≡ Some jobs.Replay → status ≡ statuses.ReadFault → HaltedReading left now old new
   pub halted_writing : job ≡ Some jobs.Replay → status ≡ statuses.WriteFault → HaltedWriting left now old new

@@ -21,7 +21,8 @@ pub record Machine (G B S E : Type 0) : Type 1 where
   pub seats : S → B → List E
   pub ending : S → List ℕ
 
--- A place between two parts of a stream: how many bytes lie before it, the state there and the bytes behind it.
+-- A place between two parts of a stream: how many bytes lie before it, the state there and the
+-- bytes behind it.
 pub record Spot (S : Type 0) : Type 0 where
   pub at : ℕ
   pub state : S
@@ -33,7 +34,11 @@ turn m = optional m.block
 
 -- the place behind a block
 abbrev pub behind : {G B S E : Type 0} → Machine G B S E → Spot S → B → List ℕ → Spot S
-behind m p b rest = record { at = p.at + length ((turn m).spelling (Some b)); state = m.after p.state b; rest = rest }
+behind m p b rest = record {
+  at = p.at + length ((turn m).spelling (Some b));
+  state = m.after p.state b;
+  rest = rest;
+}
 
 -- here stands a block in range whose number is due, and then the rest
 pub record IsTurn {G B S E : Type 0} (m : Machine G B S E) (p : Spot S) (b : B) (rest : List ℕ) : Type 0 where
@@ -45,7 +50,8 @@ pub record IsTurn {G B S E : Type 0} (m : Machine G B S E) (p : Spot S) (b : B) 
 abbrev pub Passes : {G B S E : Type 0} → Machine G B S E → List B → Spot S → Spot S → List ℕ → Type 0
 Passes m [] p q text = (q ≡ p) × (text ≡ [])
 Passes m (b ∷ bs) p q text =
-    (rest : List ℕ) × IsTurn m p b rest × (more : List ℕ) × Passes m bs (behind m p b rest) q more × (text ≡ m.lines p.state b ++ more)
+    (rest : List ℕ) × IsTurn m p b rest × (more : List ℕ) × Passes m bs (behind m p b rest) q more
+    × (text ≡ m.lines p.state b ++ more)
 
 pub record Reaches {G B S E : Type 0} (m : Machine G B S E) (p q : Spot S) (text : List ℕ) : Type 0 where
   pub blocks : List B
@@ -64,10 +70,12 @@ abbrev pub IsEnd : {G B S E : Type 0} → Machine G B S E → Spot S → Type 0
 IsEnd {G} {B} {S} {E} m q = (b : B) (rest : List ℕ) → IsTurn m q b rest → ⊥
 
 -- A replay ends at q with this line: four ways, of which the last alone is no fault.
-pub data Stops {G B S E : Type 0} (m : Machine G B S E) (q : Spot S) (line : List ℕ) (faulty : Bool) : Type 0 where
+pub data Stops {G B S E : Type 0} (m : Machine G B S E) (q : Spot S) (line : List ℕ)
+    (faulty : Bool) : Type 0 where
   Refused : (at : ℕ) (why : Why) → (turn m).bad q.rest at why
       → line ≡ fault_line (q.at + at) why → faulty ≡ true → Stops m q line faulty
-  OtherNumber : (b : B) (rest : List ℕ) → m.block.in_range b → q.rest ≡ (turn m).spelling (Some b) ++ rest → m.number b ≢ m.due q.state
+  OtherNumber : (b : B) (rest : List ℕ) → m.block.in_range b → q.rest ≡ (turn m).spelling (Some b) ++ rest
+      → m.number b ≢ m.due q.state
       → line ≡ number_line (q.at + 1) (m.due q.state) (m.number b) → faulty ≡ true → Stops m q line faulty
   Followed : (rest : List ℕ) → q.rest ≡ (turn m).spelling None ++ rest → 0 < length rest
       → line ≡ fault_line (q.at + 1) Trailing → faulty ≡ true → Stops m q line faulty
@@ -90,14 +98,23 @@ pub record Outcome (S E : Type 0) : Type 0 where
 -- What `replay` makes of these bytes.
 pub data IsReplay {G B S E : Type 0} (m : Machine G B S E) (bytes : List ℕ) (out : Outcome S E) : Type 0 where
   BadGenesis : (at : ℕ) (why : Why) → m.genesis.bad bytes at why
-      → out ≡ record { text = fault_line at why; faulty = true; seated = []; last = None } → IsReplay m bytes out
-  FaultyGenesis : (g : G) (rest : List ℕ) (fault : ℕ × ℕ) → m.genesis.in_range g → bytes ≡ m.genesis.spelling g ++ rest → m.start g ≡ Err fault
-      → out ≡ record { text = genesis_line fault; faulty = true; seated = []; last = None } → IsReplay m bytes out
-  Replayed : (p q : Spot S) (text line : List ℕ) (faulty : Bool) → Starts m bytes p → (reaches : Reaches m p q text) → Stops m q line faulty
-      → out ≡ record { text = text ++ line; faulty = faulty; seated = all_seated m p.state reaches.blocks; last = Some q.state } → IsReplay m bytes out
+      → out ≡ record { text = fault_line at why; faulty = true; seated = []; last = None }
+      → IsReplay m bytes out
+  FaultyGenesis : (g : G) (rest : List ℕ) (fault : ℕ × ℕ) → m.genesis.in_range g
+      → bytes ≡ m.genesis.spelling g ++ rest → m.start g ≡ Err fault
+      → out ≡ record { text = genesis_line fault; faulty = true; seated = []; last = None }
+      → IsReplay m bytes out
+  Replayed : (p q : Spot S) (text line : List ℕ) (faulty : Bool) → Starts m bytes p
+      → (reaches : Reaches m p q text) → Stops m q line faulty
+      → out ≡ record {
+        text = text ++ line;
+        faulty = faulty;
+        seated = all_seated m p.state reaches.blocks;
+        last = Some q.state;
+      } → IsReplay m bytes out
 
--- What the whole blocks of these bytes write: those of the longest front of the bytes that is a genesis without a fault
--- and due blocks behind it. Where no front is one, this is nothing.
+-- What the whole blocks of these bytes write: those of the longest front of the bytes that is a
+-- genesis without a fault and due blocks behind it. Where no front is one, this is nothing.
 pub data IsWhole {G B S E : Type 0} (m : Machine G B S E) (bytes : List ℕ) (text : List ℕ) : Type 0 where
   NoStart : ((p : Spot S) → Starts m bytes p → ⊥) → text ≡ [] → IsWhole m bytes text
   Blocks : (p q : Spot S) → Starts m bytes p → Reaches m p q text → IsEnd m q → IsWhole m bytes text

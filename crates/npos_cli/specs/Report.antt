@@ -18,14 +18,19 @@ abbrev pub replay_status : Bool → Status
 replay_status true = statuses.BadInput
 replay_status false = statuses.Done
 
--- A row a job: what is owed for these bytes. Words that ask for no job owe the usage line, whatever the bytes are.
+-- A row a job: what is owed for these bytes. Words that ask for no job owe the usage line, whatever
+-- the bytes are.
 abbrev pub JobOwes : Option Job → List ℕ → List ℕ → Status → Type 0
 JobOwes None bytes text status = (text ≡ usage_line) × (status ≡ statuses.Usage)
 JobOwes (Some jobs.Replay) bytes text status =
-    (out : Outcome Chain Election) × IsReplay npos_machine bytes out × (text ≡ out.text) × (status ≡ replay_status out.faulty)
-JobOwes (Some (jobs.OnBundle task)) bytes text status = IsBundleReport task bytes (record { text = text; status = status })
-JobOwes (Some (jobs.Demo seed voters seats)) bytes text status = record { text = text; status = status } ≡ demo_report seed voters seats
-JobOwes (Some (jobs.Rewrite way)) bytes text status = record { text = text; status = status } ≡ rewrite_report way bytes
+    (out : Outcome Chain Election) × IsReplay npos_machine bytes out × (text ≡ out.text)
+    × (status ≡ replay_status out.faulty)
+JobOwes (Some (jobs.OnBundle task)) bytes text status = IsBundleReport task bytes
+    (record { text = text; status = status })
+JobOwes (Some (jobs.Demo seed voters seats)) bytes text status = record { text = text; status = status }
+    ≡ demo_report seed voters seats
+JobOwes (Some (jobs.Rewrite way)) bytes text status = record { text = text; status = status }
+    ≡ rewrite_report way bytes
 
 abbrev pub Owes : List (List ℕ) → List ℕ → List ℕ → Status → Type 0
 Owes words = JobOwes (job_of words)

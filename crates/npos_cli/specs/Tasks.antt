@@ -39,7 +39,8 @@ IsBundleReport task bytes report = IsReportOn task (length bytes) (election_in b
 abbrev pub IsWork : Snapshot → Work → Weights → Type 0
 IsWork snapshot Nothing weights = ⊥
 IsWork snapshot (Packed claim bytes) weights =
-    (solution : List (List Entry)) × (decoded bytes ≡ Ok solution) × (weights ≡ expanded snapshot solution) × (score_of weights ≡ claim)
+    (solution : List (List Entry)) × (decoded bytes ≡ Ok solution) × (weights ≡ expanded snapshot solution)
+    × (score_of weights ≡ claim)
 IsWork snapshot (Plain committee edges) weights = weights ≡ record { committee = committee; edges = edges }
 
 -- the weights that the verdict of the task is on

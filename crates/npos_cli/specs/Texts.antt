@@ -28,8 +28,10 @@ fault_line at why = codes "fault " ++ (decimal at ++ (codes " " ++ (word_of why 
 -- at this place stands the number of a block that is not the due one
 abbrev pub number_line : ℕ → ℕ → ℕ → List ℕ
 number_line at due found =
-    codes "fault " ++ (decimal at ++ (codes " number due " ++ (decimal due ++ (codes " found " ++ (decimal found ++ newline)))))
+    codes "fault " ++ (decimal at ++ (codes " number due "
+    ++ (decimal due ++ (codes " found " ++ (decimal found ++ newline)))))
 
 -- the genesis has the fault of this number, with this detail
 abbrev pub genesis_line : ℕ × ℕ → List ℕ
-genesis_line fault = codes "fault 0 genesis " ++ (decimal fault.0 ++ (codes " " ++ (decimal fault.1 ++ newline)))
+genesis_line fault =
+    codes "fault 0 genesis " ++ (decimal fault.0 ++ (codes " " ++ (decimal fault.1 ++ newline)))

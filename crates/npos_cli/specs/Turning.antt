@@ -21,8 +21,8 @@ use Rattle.npos_cli.specs.Replay.{Machine, Spot, turn, IsTurn, behind, Starts, R
 abbrev pub spot : Place → Chain → Spot Chain
 spot place chain = record { at = place.at; state = chain; rest = place.rest }
 
--- Behind a genesis, which has fewer than 2^23 bytes, stand blocks of fewer than 2^28 bytes each, whose numbers rise by
--- one and are below 2^32: so no place comes near 2^64.
+-- Behind a genesis, which has fewer than 2^23 bytes, stand blocks of fewer than 2^28 bytes each,
+-- whose numbers rise by one and are below 2^32: so no place comes near 2^64.
 abbrev pub IsNear : Spot Chain → Type 0
 IsNear p = (p.state.due ≤ 2 ^ 32) × (p.at ≤ 2 ^ 23 + 2 ^ 28 * p.state.due)
 
@@ -32,42 +32,51 @@ grown more p = record { at = p.at; state = p.state; rest = p.rest ++ more }
 
 -- a replay ends here, whatever may follow the bytes that are known
 abbrev pub StopsSurely : {G B S E : Type 0} → Machine G B S E → Bool → Spot S → List ℕ → Bool → Type 0
-StopsSurely m ended q line faulty = (more : List ℕ) → MayFollow ended more → Stops m (grown more q) line faulty
+StopsSurely m ended q line faulty =
+    (more : List ℕ) → MayFollow ended more → Stops m (grown more q) line faulty
 
 -- here the bytes end before a block or the None does, or behind the None
 abbrev pub IsCutHere : {G B S E : Type 0} → Machine G B S E → Spot S → Type 0
 IsCutHere m p = ((at : ℕ) × (turn m).bad p.rest at Short) ⊎ (p.rest ≡ (turn m).spelling None)
 
--- A block was taken, or the input may go on where the bytes are cut, and nothing was taken, or the replay ends here.
--- That a replay without a fault line has read the input to its end follows from the rest; it is told for its users.
+-- A block was taken, or the input may go on where the bytes are cut, and nothing was taken, or the
+-- replay ends here. That a replay without a fault line has read the input to its end follows from
+-- the rest; it is told for its users.
 abbrev pub Turns : {G B S E : Type 0} → Machine G B S E → Bool → Spot S → Spot S → List ℕ → Turn → Type 0
-Turns {G} {B} {S} {E} m ended p q told Taken = (block : B) × IsTurn m p block q.rest × (q ≡ behind m p block q.rest) × (told ≡ m.lines p.state block)
+Turns {G} {B} {S} {E} m ended p q told Taken =
+    (block : B) × IsTurn m p block q.rest × (q ≡ behind m p block q.rest) × (told ≡ m.lines p.state block)
 Turns m ended p q told (Stopped More) = (ended ≡ false) × IsCutHere m p × (q ≡ p) × (told ≡ [])
-Turns m ended p q told (Stopped (Last faulty)) = StopsSurely m ended p told faulty × (faulty ≡ false → ended ≡ true)
+Turns m ended p q told (Stopped (Last faulty)) = StopsSurely m ended p told faulty
+    × (faulty ≡ false → ended ≡ true)
 
 -- one turn of the reader, with what it appended
-abbrev pub TakesTurn : {G B S E : Type 0} → Machine G B S E → Bool → Spot S → Spot S → List ℕ → List ℕ → Turn → Type 0
+abbrev pub TakesTurn : {G B S E : Type 0} → Machine G B S E → Bool → Spot S → Spot S → List ℕ → List ℕ → Turn
+    → Type 0
 TakesTurn m ended p q old new turn = (told : List ℕ) × (new ≡ old ++ told) × Turns m ended p q told turn
 
--- Blocks lead from one place to another, and what they write was written. Then bytes are missing that may still come,
--- or the replay ends with a line that was not written yet; or memory ran out, or a write failed within what the blocks
--- write.
-abbrev pub WritesOn : {G B S E : Type 0} → Machine G B S E → Bool → Spot S → Spot S → Option Told → Option Told → List ℕ → Result Stop Status → Type 0
+-- Blocks lead from one place to another, and what they write was written. Then bytes are missing
+-- that may still come, or the replay ends with a line that was not written yet; or memory ran out,
+-- or a write failed within what the blocks write.
+abbrev pub WritesOn : {G B S E : Type 0} → Machine G B S E → Bool → Spot S → Spot S → Option Told
+    → Option Told → List ℕ → Result Stop Status → Type 0
 WritesOn m ended p q old new line (Ok More) =
     (ended ≡ false) × IsCutHere m q × ((written : List ℕ) × Reaches m p q written × Appends old new written)
 WritesOn {G} {B} {S} {E} m ended p q old new line (Ok (Last faulty)) =
-    (r : Spot S) × (written : List ℕ) × Reaches m p r written × StopsSurely m ended r line faulty × (faulty ≡ false → ended ≡ true)
+    (r : Spot S) × (written : List ℕ) × Reaches m p r written × StopsSurely m ended r line faulty
+    × (faulty ≡ false → ended ≡ true)
     × Appends old new written
 WritesOn {G} {B} {S} {E} m ended p q old new line (Err statuses.NoMemory) =
     (r : Spot S) × (written : List ℕ) × Reaches m p r written × Appends old new written
 WritesOn {G} {B} {S} {E} m ended p q old new line (Err statuses.WriteFault) =
-    (r : Spot S) × (written : List ℕ) × (put : List ℕ) × Reaches m p r written × IsFront put written × Appends old new put
+    (r : Spot S) × (written : List ℕ) × (put : List ℕ) × Reaches m p r written × IsFront put written
+    × Appends old new put
 WritesOn m ended p q old new line (Err other) = ⊥
 
 -- Behind the None that ends a stream: the line of the byte that follows, or the end line where none does.
 abbrev pub StopsHere : Place → Totals → List ℕ → List ℕ → Stop → Type 0
 StopsHere place totals old new More = ⊥
-StopsHere place totals old new (Last true) = (0 < length place.rest) × (new ≡ old ++ fault_line place.at Trailing)
+StopsHere place totals old new (Last true) = (0 < length place.rest)
+    × (new ≡ old ++ fault_line place.at Trailing)
 StopsHere place totals old new (Last false) = (place.rest ≡ []) × (new ≡ old ++ end_line totals)
 
 -- after this turn the reader goes on
@@ -76,13 +85,14 @@ IsGoing Taken = ⊤
 IsGoing (Stopped More) = ⊤
 IsGoing (Stopped (Last faulty)) = ⊥
 
--- The bytes leave the end of their replay open, and what their whole blocks write is the text: their genesis is cut, or
--- what stands behind their blocks is.
+-- The bytes leave the end of their replay open, and what their whole blocks write is the text:
+-- their genesis is cut, or what stands behind their blocks is.
 pub data IsUndecided {G B S E : Type 0} (m : Machine G B S E) (bytes text : List ℕ) : Type 0 where
   InGenesis : (at : ℕ) → m.genesis.bad bytes at Short → text ≡ [] → IsUndecided m bytes text
   Behind : (p q : Spot S) → Starts m bytes p → Reaches m p q text → IsCutHere m q → IsUndecided m bytes text
 
--- All bytes taken but those of the last piece leave the end open, and what the whole blocks in them write was written.
+-- All bytes taken but those of the last piece leave the end open, and what the whole blocks in them
+-- write was written.
 pub record KeepsUp {G B S E : Type 0} (m : Machine G B S E) (taken written : List ℕ) : Type 0 where
   pub earlier : List ℕ
   pub last : List ℕ

@@ -50,8 +50,9 @@ solution_line bytes = codes "solution " ++ (encode_lower bytes ++ newline)
 abbrev pub lost_line : ℕ → List ℕ
 lost_line member = numbers_line (codes "lost") (member ∷ [])
 
--- The number of the fault and its detail: both counts where one is too small for the other, and else the position of the
--- account, the one that an account too many would have had, or the seats. Want of memory has no line.
+-- The number of the fault and its detail: both counts where one is too small for the other, and
+-- else the position of the account, the one that an account too many would have had, or the seats.
+-- Want of memory has no line.
 abbrev pub fault_numbers : SnapshotFault → List ℕ
 fault_numbers (faults.Few targets seats) = 1 ∷ targets ∷ seats ∷ []
 fault_numbers (faults.Poor total seats) = 2 ∷ total ∷ seats ∷ []

@@ -36,8 +36,8 @@ pub fn replays_crowd_nothing_out()
 
 /// Whatever blocks a replay takes, what they pay of an era is at most its reward, and what they
 /// make due from an account for an era is at most the stake with which it voted in the one election
-/// of that era. Each payout is minted as it is told, and a slash takes the lesser of what is due and
-/// what is bonded.
+/// of that era. Each payout is minted as it is told, and a slash takes the lesser of what is due
+/// and what is bonded.
 pub fn replays_keep_the_bounds_of_eras()
     ensures { (bytes : List ℕ) → ErasAreKept bytes }
 {

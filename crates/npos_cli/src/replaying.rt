@@ -1,5 +1,5 @@
-//! The replay of a stream: a genesis, and then a turn for each block until one is the last. It reads
-//! piece by piece, and writes the lines of each block before it reads again.
+//! The replay of a stream: a genesis, and then a turn for each block until one is the last. It
+//! reads piece by piece, and writes the lines of each block before it reads again.
 ghost use Rattle.std.specs.Prelude.{◌≡◌, ◌+◌, ◌<◌, ◌≤◌, ℕ, List, Some, Ok, [], ◌∷◌, true, false, length, IfOk, IsTrue, ◌↔◌};
 ghost use Rattle.npos_cli.specs.declared.pieces.TheConstants.{PIECE};
 ghost use Rattle.stake_ledger.specs.Ledger.{totals_of};

@@ -1,4 +1,5 @@
--- The snapshot of a round: who stands, who votes, and for whom, as roles, bags and active stakes are at that moment.
+-- The snapshot of a round: who stands, who votes, and for whom, as roles, bags and active stakes
+-- are at that moment.
 use Rattle.std.specs.Prelude.{ℕ, Bool, List, [], ◌∷◌, map, filter, filter_map, take, length, Option, Some, None, nat_lt, ◌&&◌}
 use Rattle.npos_base.specs.declared.account.AccountId.{AccountId}
 use Rattle.npos_base.specs.declared.limits.TheConstants.{MOST_VOTERS}
@@ -41,7 +42,10 @@ voter_of chain who = record { account = who; stake = active_of chain who; votes 
 
 -- all validators by rising account are the targets
 abbrev pub ballot_of : Chain → Draft
-ballot_of chain = record { targets = validators_of chain.roles; voters = map (voter_of chain) (electorate chain) }
+ballot_of chain = record {
+  targets = validators_of chain.roles;
+  voters = map (voter_of chain) (electorate chain);
+}
 
 -- a genesis without params seats one
 abbrev pub seats_of : Option Params → ℕ

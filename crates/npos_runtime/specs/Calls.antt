@@ -36,13 +36,15 @@ abbrev pub transfer_done : Chain → AccountId → AccountId → ℕ → Chain
 transfer_done chain who to value = record chain { book = transferred who to value chain.book }
 
 abbrev pub bond_refusal : Chain → AccountId → ℕ → Option Refusal
-bond_refusal chain who value = option_map ByLedger (book_bond_refusal (row_at chain.book who) value (least_bond_of chain.params))
+bond_refusal chain who value =
+    option_map ByLedger (book_bond_refusal (row_at chain.book who) value (least_bond_of chain.params))
 
 abbrev pub bond_done : Chain → AccountId → ℕ → Chain
 bond_done chain who value = record chain { book = changed who (activated value) chain.book }
 
 abbrev pub bond_extra_refusal : Chain → AccountId → ℕ → Option Refusal
-bond_extra_refusal chain who value = option_map ByLedger (book_bond_extra_refusal (row_at chain.book who) value)
+bond_extra_refusal chain who value =
+    option_map ByLedger (book_bond_extra_refusal (row_at chain.book who) value)
 
 abbrev pub bond_extra_done : Chain → AccountId → ℕ → Chain
 bond_extra_done chain who value = with_stake chain who (changed who (activated value) chain.book)
@@ -52,11 +54,13 @@ abbrev pub least_active : Chain → AccountId → ℕ
 least_active chain who = if has_role chain.roles who then least_bond_of chain.params else 0
 
 abbrev pub unbond_refusal : Chain → AccountId → ℕ → Option Refusal
-unbond_refusal chain who value = option_map ByLedger (book_unbond_refusal (row_at chain.book who) value (release_now chain) (least_active chain who))
+unbond_refusal chain who value = option_map ByLedger
+    (book_unbond_refusal (row_at chain.book who) value (release_now chain) (least_active chain who))
 
 abbrev pub unbond_done : Chain → AccountId → ℕ → Chain
 unbond_done chain who value =
-    with_stake chain who (changed who (unbonded (unbond_amount (row_at chain.book who) value) (release_now chain)) chain.book)
+    with_stake chain who (changed who
+    (unbonded (unbond_amount (row_at chain.book who) value) (release_now chain)) chain.book)
 
 abbrev pub rebond_refusal : Chain → AccountId → ℕ → Option Refusal
 rebond_refusal chain who value = option_map ByLedger (book_rebond_refusal (row_at chain.book who) value)
@@ -69,7 +73,8 @@ abbrev pub withdraw_refusal : Chain → AccountId → Option Refusal
 withdraw_refusal chain who = option_map ByLedger (book_withdraw_refusal (row_at chain.book who))
 
 abbrev pub withdraw_done : Chain → AccountId → Chain
-withdraw_done chain who = retired who (record chain { book = changed who (withdrawn (era_now chain)) chain.book })
+withdraw_done chain who =
+    retired who (record chain { book = changed who (withdrawn (era_now chain)) chain.book })
 
 -- an account takes a role with at least the least bond active
 abbrev pub role_refusal : Chain → AccountId → Option LedgerRefusal
@@ -80,7 +85,8 @@ role_refusal chain who =
 
 abbrev pub nominate_refusal : Chain → AccountId → List AccountId → Option Refusal
 nominate_refusal chain who targets =
-    option_or (option_map ByLedger (role_refusal chain who)) (option_map ByList (list_nominate_refusal chain.roles who targets))
+    option_or (option_map ByLedger (role_refusal chain who))
+    (option_map ByList (list_nominate_refusal chain.roles who targets))
 
 abbrev pub nominate_done : Chain → AccountId → List AccountId → Chain
 nominate_done chain who targets = record chain {
@@ -90,7 +96,8 @@ nominate_done chain who targets = record chain {
 
 abbrev pub validate_refusal : Chain → AccountId → ℕ → Option Refusal
 validate_refusal chain who commission =
-    option_or (option_map ByLedger (role_refusal chain who)) (option_map ByList (list_validate_refusal chain.roles who commission))
+    option_or (option_map ByLedger (role_refusal chain who))
+    (option_map ByList (list_validate_refusal chain.roles who commission))
 
 abbrev pub validate_done : Chain → AccountId → ℕ → Chain
 validate_done chain who commission = record chain {
@@ -113,7 +120,8 @@ rebag_done chain whom = record chain { bags = moved chain.bags whom (active_of c
 
 abbrev pub put_in_front_refusal : Chain → AccountId → AccountId → Option Refusal
 put_in_front_refusal chain who lighter =
-    option_map ByList (list_put_in_front_refusal chain.bags who (active_of chain who) lighter (active_of chain lighter))
+    option_map ByList (list_put_in_front_refusal chain.bags who (active_of chain who) lighter
+    (active_of chain lighter))
 
 abbrev pub put_in_front_done : Chain → AccountId → AccountId → Chain
 put_in_front_done chain who lighter = record chain { bags = put_in_front chain.bags who lighter }

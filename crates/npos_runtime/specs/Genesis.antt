@@ -62,7 +62,8 @@ abbrev pub is_within : ℕ → ℕ → ℕ → Bool
 is_within least most number = nat_le least number && nat_le number most
 
 abbrev pub phases_fit : Params → Bool
-phases_fit params = nat_le 1 params.offset && nat_le 1 params.signed && nat_lt (params.offset + params.signed) params.era_blocks
+phases_fit params = nat_le 1 params.offset && nat_le 1 params.signed
+    && nat_lt (params.offset + params.signed) params.era_blocks
 
 abbrev pub numbers_fault : Params → Option GenesisFault
 numbers_fault params =
@@ -75,7 +76,8 @@ numbers_fault params =
 abbrev pub limits_fault : Params → Option GenesisFault
 limits_fault params =
     if not (is_within 1 MOST_QUEUED params.queue) then Some (BadQueue params.queue)
-    else if not (is_within 1 MOST_SOLUTION_BYTES params.solution_max) then Some (BadSolutionMax params.solution_max)
+    else if not (is_within 1 MOST_SOLUTION_BYTES params.solution_max)
+    then Some (BadSolutionMax params.solution_max)
     else None
 
 abbrev pub params_fault : Params → Option GenesisFault

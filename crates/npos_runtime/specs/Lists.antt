@@ -43,7 +43,8 @@ placed stays listing who score = if stays then listing else listed_anew listing 
 
 -- the books change, and the account's place in the bags follows its active stake
 abbrev pub with_stake : Chain → AccountId → Ledger → Chain
-with_stake chain who book = record chain { book = book; bags = followed chain.bags who (row_at book who).active }
+with_stake chain who book =
+    record chain { book = book; bags = followed chain.bags who (row_at book who).active }
 
 -- the account has a role, and nothing is bonded behind it
 abbrev pub is_over : Chain → AccountId → Bool

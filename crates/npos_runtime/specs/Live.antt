@@ -74,7 +74,8 @@ pub record IsLive (chain : Chain) : Type 0 where
   pub due_at_most : chain.due ≤ 2 ^ 32
   pub balanced : IsBalanced chain.book
   -- nothing is released later than what would be unbonded now
-  pub releases : (who : AccountId) → All (λ chunk. chunk.release ≤ release_now chain) (row_at chain.book who).chunks
+  pub releases : (who : AccountId)
+      → All (λ chunk. chunk.release ≤ release_now chain) (row_at chain.book who).chunks
   pub listing : IsListing chain.roles chain.bags
   -- there are at most 2,048 validators
   pub roles : AreRanked chain.roles (validators_of chain.roles)

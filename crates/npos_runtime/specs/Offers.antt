@@ -62,7 +62,8 @@ offers_by number chain (block ∷ more) =
 
 -- It is, or lost to, a submission that waited, won and claims no less; and that claim is the score
 -- of the committee that was seated.
-pub record LosesTo (round : ℕ) (snapshot : Snapshot) (item : Submission) (waiting : List Submission) (told : List Line) (winner : Submission) : Type 0 where
+pub record LosesTo (round : ℕ) (snapshot : Snapshot) (item : Submission) (waiting : List Submission)
+    (told : List Line) (winner : Submission) : Type 0 where
   pub waited : Contains waiting winner
   pub seated : Contains told (SeatSigned round winner.number)
   pub no_better : is_better item.score winner.score ≡ false

@@ -76,7 +76,8 @@ slash_told who taken = if taken == 0 then [] else lines.Slashed who taken ∷ []
 
 abbrev pub slash_outcome : Backer → Chain → Outcome
 slash_outcome due chain =
-    telling (slash_told due.who (slash_amount (row_at chain.book due.who) due.amount)) (slashed_once due chain)
+    telling (slash_told due.who (slash_amount (row_at chain.book due.who) due.amount))
+    (slashed_once due chain)
 
 -- one account after the other
 abbrev pub slashes : List Backer → Chain → Outcome

@@ -53,7 +53,8 @@ pub record Goes (outcome : Outcome) (new : Chain) (told_old told_new : List Line
 -- A kind of call: where no refusal is due the chain becomes `done`, and where one is due the chain stays.
 -- Nothing is said after want of memory, which ends the life of a runtime.
 abbrev pub Meets : {T : Type 0} → Option Refusal → Chain → Chain → Chain → Result T Stop → Type 0
-Meets due done old new result = MeetsWhileRoom stops.NoMemory (option_map stops.Refused due) done old new result
+Meets due done old new result =
+    MeetsWhileRoom stops.NoMemory (option_map stops.Refused due) done old new result
 
 -- a call that is refused tells nothing
 abbrev pub Untold : {T : Type 0} → List Line → List Line → Result T Stop → Type 0

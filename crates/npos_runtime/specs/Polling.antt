@@ -11,7 +11,8 @@ use Rattle.npos_runtime.specs.Live.{IsOnce}
 -- the draft with the voter of this account, if it is eligible
 abbrev pub polled : Chain → Draft → AccountId → Draft
 polled chain draft who =
-    if is_eligible chain who then with_voter draft who (active_of chain who) (votes_of chain.roles who) else draft
+    if is_eligible chain who then with_voter draft who (active_of chain who) (votes_of chain.roles who)
+    else draft
 
 -- the draft has the targets, and the voters of the walk up to what is ahead
 pub record IsPolled (chain : Chain) (draft : Draft) (ahead : List AccountId) : Type 0 where
@@ -19,4 +20,5 @@ pub record IsPolled (chain : Chain) (draft : Draft) (ahead : List AccountId) : T
   pub voters : draft.voters ≡ map (voter_of chain) (accounts_of draft.voters)
   pub few : length draft.voters ≤ MOST_VOTERS
   pub once : IsOnce (accounts_of draft.voters ++ ahead)
-  pub rest : accounts_of draft.voters ++ take (MOST_VOTERS - length draft.voters) (filter (is_eligible chain) ahead) ≡ electorate chain
+  pub rest : accounts_of draft.voters
+      ++ take (MOST_VOTERS - length draft.voters) (filter (is_eligible chain) ahead) ≡ electorate chain

@@ -27,7 +27,8 @@ is_poor snapshot = nat_lt (total_stake snapshot) (snapshot.seats * snapshot.seat
 -- the round of this number with this snapshot, and the commissions noted beside it
 abbrev pub round_of : ℕ → Snapshot → List ℕ → Round
 round_of number snapshot commissions =
-    if is_few snapshot || is_poor snapshot then rounds.Void number else rounds.Open number snapshot commissions
+    if is_few snapshot || is_poor snapshot then rounds.Void number
+    else rounds.Open number snapshot commissions
 
 abbrev pub round_line : ℕ → Snapshot → Line
 round_line number snapshot =
@@ -45,5 +46,6 @@ round_after chain (Some number) = Some (round_now chain number)
 
 abbrev pub round_phase : Chain → Outcome
 round_phase chain =
-    telling (option_to_list (option_map (λ number. round_line number (snapshot_of chain)) (begun_round chain.params chain.due)))
+    telling (option_to_list (option_map (λ number. round_line number (snapshot_of chain))
+    (begun_round chain.params chain.due)))
     (record chain { round = round_after chain (begun_round chain.params chain.due) })

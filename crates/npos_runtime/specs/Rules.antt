@@ -30,7 +30,8 @@ place_of params number = (number - 1) % params.era_blocks
 abbrev pub begun_era : Option Params → ℕ → Option ℕ
 begun_era None number = None
 begun_era (Some params) number =
-    if (place_of params number == 0) && nat_lt 0 (era_of (Some params) number) then Some (era_of (Some params) number) else None
+    if (place_of params number == 0) && nat_lt 0 (era_of (Some params) number)
+    then Some (era_of (Some params) number) else None
 
 -- the thresholds between the bags
 abbrev pub thresholds_in : Option Params → List ℕ

@@ -50,7 +50,8 @@ call_outcome index call chain = call_after (refusal_of chain call.who call.kind)
 
 abbrev pub calls_outcome : ℕ → List Call → Chain → Outcome
 calls_outcome index [] chain = quiet chain
-calls_outcome index (call ∷ calls) chain = after (call_outcome index call chain) (calls_outcome (index + 1) calls)
+calls_outcome index (call ∷ calls) chain = after (call_outcome index call chain)
+    (calls_outcome (index + 1) calls)
 
 -- the next block is due
 abbrev pub closed : Chain → Outcome

@@ -41,7 +41,8 @@ fn voters(alloc: Global, snapshot: &Snapshot) -> Result<Vec<AccountId>, NoMemory
 
 /// The supports of the targets, in their order.
 fn supports(alloc: Global, elected: &Elected) -> Result<Vec<u64>, NoMemory>
-    ensures { IfOk result (λ supports. supports.items ≡ map (support elected.now.weights.plain.edges)
+    ensures { IfOk result (λ supports. supports.items
+        ≡ map (support elected.now.weights.plain.edges)
         (range_with_len 0 (length elected.now.snapshot.targets))) }
 {
     let mut supports = Vec::with_capacity(alloc, elected.snapshot().target_count())?;

@@ -45,8 +45,8 @@ fn mint(book: &mut Book, guess: usize, who: AccountId, amount: u64) -> Result<()
     }
 }
 
-/// Guesses of where the accounts stand in the books. Looked up in one go, they do not wait for memory
-/// one after the other.
+/// Guesses of where the accounts stand in the books. Looked up in one go, they do not wait for
+/// memory one after the other.
 fn guesses(alloc: Global, book: &Book, backers: &[Backer]) -> Result<Vec<usize>, NoMemory> {
     let mut guesses = Vec::with_capacity(alloc, backers.len())?;
     for backer in backers {

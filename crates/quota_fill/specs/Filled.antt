@@ -1,6 +1,6 @@
--- The fill of an election, where nobody hands in a solution. Seat after seat, the target outside whose nominators have
--- the most stake left joins the committee, and draws the price of a seat from them. Lists of picks have the latest
--- first.
+-- The fill of an election, where nobody hands in a solution. Seat after seat, the target outside
+-- whose nominators have the most stake left joins the committee, and draws the price of a seat from
+-- them. Lists of picks have the latest first.
 use Rattle.std.specs.Prelude.{ℕ, zero, suc, ◌-◌, min, not, nat_eq, nat_lt, if◌then◌else◌, List, [], ◌∷◌, length, map, filter, flat_map, fold, reverse, sum_by, Option, Some, None}
 use Rattle.std.specs.List.{range_with_len, cons_option}
 use Rattle.npos_base.specs.declared.figures.Edge.{Edge}
@@ -12,14 +12,16 @@ use Rattle.weight_book.specs.Passing.{nominators}
 
 -- the target's nominators before this voter
 abbrev pub nominators_before : Snapshot → ℕ → ℕ → List ℕ
-nominators_before snapshot target voter = filter (λ other. nominates snapshot other target) (range_with_len 0 voter)
+nominators_before snapshot target voter =
+    filter (λ other. nominates snapshot other target) (range_with_len 0 voter)
 
--- What a target draws from a voter, where `left` is what each voter has left: all of it, until the target's nominators
--- have given the price of a seat.
+-- What a target draws from a voter, where `left` is what each voter has left: all of it, until the
+-- target's nominators have given the price of a seat.
 abbrev pub draw : Snapshot → (ℕ → ℕ) → ℕ → ℕ → ℕ
 draw snapshot left target voter =
     if nominates snapshot voter target
-    then min (left voter) (threshold snapshot - min (threshold snapshot) (sum_by left (nominators_before snapshot target voter)))
+    then min (left voter) (threshold snapshot
+    - min (threshold snapshot) (sum_by left (nominators_before snapshot target voter)))
     else 0
 
 -- what a voter has left after these picks
@@ -44,7 +46,8 @@ backing snapshot picks target = sum_by (λ voter. left_after snapshot picks vote
 
 -- the targets that are not picked, rising
 abbrev pub outside : Snapshot → List ℕ → List ℕ
-outside snapshot picks = filter (λ target. not (has picks target)) (range_with_len 0 (length snapshot.targets))
+outside snapshot picks =
+    filter (λ target. not (has picks target)) (range_with_len 0 (length snapshot.targets))
 
 -- the better of the best so far and the next number: a later one has to have more
 abbrev pub better : (ℕ → ℕ) → Option ℕ → ℕ → Option ℕ
@@ -66,7 +69,8 @@ picked snapshot (suc count) = cons_option (next_pick snapshot (picked snapshot c
 -- ## The weights
 
 abbrev pub edge_along : Snapshot → List ℕ → ℕ → ℕ → Edge
-edge_along snapshot picks voter target = record { voter = voter; target = target; amount = given snapshot picks voter target }
+edge_along snapshot picks voter target =
+    record { voter = voter; target = target; amount = given snapshot picks voter target }
 
 -- what each voter has given to each target, by voter and then by target, where it is more than nothing
 abbrev pub edges_after : Snapshot → List ℕ → List Edge

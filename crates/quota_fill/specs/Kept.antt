@@ -31,7 +31,8 @@ AreMarks marks numbers = (number : ℕ) → slice_index_or marks number false �
 -- by the tables, the first with the greatest backing of those that are not marked
 abbrev pub best_by : List ℕ → List Bool → ℕ → Option ℕ
 best_by backings marks count =
-    best_of (says backings) (filter (λ target. not (slice_index_or marks target false)) (range_with_len 0 count))
+    best_of (says backings) (filter (λ target. not (slice_index_or marks target false))
+    (range_with_len 0 count))
 
 -- the tables after these picks, the latest first
 pub record IsAfter (snapshot : Snapshot) (picks : List ℕ) (race : Race) : Type 0 where
@@ -48,24 +49,28 @@ pub record IsAfter (snapshot : Snapshot) (picks : List ℕ) (race : Race) : Type
 
 -- what a target draws from a voter, as an edge
 abbrev pub draw_edge : Snapshot → (ℕ → ℕ) → ℕ → ℕ → Edge
-draw_edge snapshot left target voter = record { voter = voter; target = target; amount = draw snapshot left target voter }
+draw_edge snapshot left target voter =
+    record { voter = voter; target = target; amount = draw snapshot left target voter }
 
 -- what it draws from these voters, where it is more than nothing
 abbrev pub draws_of : Snapshot → (ℕ → ℕ) → ℕ → List ℕ → List Edge
-draws_of snapshot left target voters = filter (λ edge. nat_lt 0 edge.amount) (map (draw_edge snapshot left target) voters)
+draws_of snapshot left target voters =
+    filter (λ edge. nat_lt 0 edge.amount) (map (draw_edge snapshot left target) voters)
 
 -- the draws of these picks, the latest pick first, from the first one on
 abbrev pub draws_after : Snapshot → List ℕ → List Edge
 draws_after snapshot [] = []
 draws_after snapshot (target ∷ picks) =
-    draws_after snapshot picks ++ draws_of snapshot (left_after snapshot picks) target (nominators snapshot target)
+    draws_after snapshot picks ++ draws_of snapshot (left_after snapshot picks) target
+    (nominators snapshot target)
 
 -- one more pick, if there is one
 abbrev pub with_next : Snapshot → List ℕ → List ℕ
 with_next snapshot picks = cons_option (next_pick snapshot picks) picks
 
 -- the state of a fill after these picks
-pub record IsFilling (snapshot : Snapshot) (picks : List ℕ) (race : Race) (book : WeightBook) (draws : List Edge) : Type 0 where
+pub record IsFilling (snapshot : Snapshot) (picks : List ℕ) (race : Race) (book : WeightBook)
+    (draws : List Edge) : Type 0 where
   pub after : IsAfter snapshot picks race
   pub members : book.plain.committee ≡ reverse picks
   pub edges : book.plain.edges ≡ []

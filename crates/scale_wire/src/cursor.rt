@@ -172,7 +172,8 @@ impl<'a> Cursor<'a> {
     pub fn take_account(&mut self) -> Result<AccountId, WireFault>
         ensures { Takes account_form self.old result self.new }
     {
-        // An array in a Result stands behind its tag, at an odd place, from where it is slow to copy.
+        // An array in a Result stands behind its tag, at an odd place, from where it is slow to
+        // copy.
         let mut bytes = [0; 32];
         bytes.copy_from_slice(self.take_bytes(32)?);
         Ok(AccountId::from_bytes(&bytes))

@@ -82,7 +82,8 @@ abbrev pub with_next : Snapshot → List ℕ → List ℕ
 with_next snapshot picks = cons_option (next_pick snapshot picks) picks
 
 -- the state of a run after these picks
-pub record IsRunning (snapshot : Snapshot) (picks : List ℕ) (race : Race) (book : WeightBook) (rises : List Rise) : Type 0 where
+pub record IsRunning (snapshot : Snapshot) (picks : List ℕ) (race : Race) (book : WeightBook)
+    (rises : List Rise) : Type 0 where
   pub after : IsAfter snapshot picks race
   pub members : book.plain.committee ≡ reverse picks
   pub edges : book.plain.edges ≡ []
@@ -96,8 +97,8 @@ abbrev pub earlier_parts : Snapshot → ℕ → ℕ → List Rise → ℕ → �
 earlier_parts snapshot load last rises voter = sum_by (λ rise. part snapshot load voter rise.height)
     (filter (λ rise. nat_eq rise.voter voter && not (nat_eq rise.target last)) rises)
 
--- What a rise gives of its voter's stake, where these are the loads and the last picks at the end, and this is what
--- the parts of the others leave to the last.
+-- What a rise gives of its voter's stake, where these are the loads and the last picks at the end,
+-- and this is what the parts of the others leave to the last.
 abbrev pub gift : Snapshot → (ℕ → ℕ) → (ℕ → ℕ) → (ℕ → ℕ) → Rise → ℕ
 gift snapshot load last rest rise = if nat_eq rise.target (last rise.voter)
     then rest rise.voter

@@ -1,5 +1,6 @@
--- Sequential Phragmén, after Brill et al., in whole numbers. Each member puts a load on its nominators, as evenly as it
--- can; the target that would make the least greatest load joins. Lists of picks have the latest first.
+-- Sequential Phragmén, after Brill et al., in whole numbers. Each member puts a load on its
+-- nominators, as evenly as it can; the target that would make the least greatest load joins. Lists
+-- of picks have the latest first.
 use Rattle.std.specs.Prelude.{ℕ, zero, suc, ◌+◌, ◌-◌, ◌*◌, ◌/◌, ◌^◌, min, not, nat_eq, nat_lt, if◌then◌else◌, List, [], ◌∷◌, length, map, filter, flat_map, fold, reverse, sum_by, Option, Some, None}
 use Rattle.std.specs.List.{range_with_len, cons_option}
 use Rattle.npos_base.specs.declared.figures.Edge.{Edge}
@@ -23,7 +24,8 @@ approval snapshot target = sum_by (stake_of snapshot) (nominators snapshot targe
 
 -- what the target's nominators carry, each by its stake
 abbrev pub burden : Snapshot → (ℕ → ℕ) → ℕ → ℕ
-burden snapshot load target = sum_by (λ voter. stake_of snapshot voter * load voter) (nominators snapshot target)
+burden snapshot load target =
+    sum_by (λ voter. stake_of snapshot voter * load voter) (nominators snapshot target)
 
 -- the load that each of the nominators has, if a seat with this load comes to what they carry
 abbrev pub shared_load : ℕ → ℕ → ℕ → ℕ
@@ -46,7 +48,8 @@ load_after snapshot (target ∷ picks) voter = if nominates snapshot voter targe
 
 -- the targets that are not picked, rising
 abbrev pub outside : Snapshot → List ℕ → List ℕ
-outside snapshot picks = filter (λ target. not (has picks target)) (range_with_len 0 (length snapshot.targets))
+outside snapshot picks =
+    filter (λ target. not (has picks target)) (range_with_len 0 (length snapshot.targets))
 
 -- the lighter of the lightest so far and the next number: a later one has to have less
 abbrev pub lighter : (ℕ → ℕ) → Option ℕ → ℕ → Option ℕ
@@ -89,7 +92,8 @@ parts snapshot load [] voter = 0
 parts snapshot load (pick ∷ picks) voter =
     part snapshot load voter (rise snapshot picks pick voter) + parts snapshot load picks voter
 
--- What a voter gives to a target: its part, but what the parts of the others leave to the last pick that it nominates.
+-- What a voter gives to a target: its part, but what the parts of the others leave to the last pick
+-- that it nominates.
 abbrev pub given : Snapshot → List ℕ → ℕ → ℕ → ℕ
 given snapshot [] voter target = 0
 given snapshot (pick ∷ picks) voter target = if nominates snapshot voter pick
@@ -99,7 +103,8 @@ given snapshot (pick ∷ picks) voter target = if nominates snapshot voter pick
     else given snapshot picks voter target
 
 abbrev pub edge_along : Snapshot → List ℕ → ℕ → ℕ → Edge
-edge_along snapshot picks voter target = record { voter = voter; target = target; amount = given snapshot picks voter target }
+edge_along snapshot picks voter target =
+    record { voter = voter; target = target; amount = given snapshot picks voter target }
 
 -- what each voter gives to each target, by voter and then by target, where it is more than nothing
 abbrev pub edges_after : Snapshot → List ℕ → List Edge

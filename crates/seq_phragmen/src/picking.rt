@@ -21,8 +21,9 @@ pub(crate) struct Candidate {
     pub(crate) score: u64,
 }
 
-/// The lowest of the targets that are not picked with the least score, if one is not picked. A score
-/// is seldom less than the least so far, so a mark is looked at, and the score made, only then.
+/// The lowest of the targets that are not picked with the least score, if one is not picked. A
+/// score is seldom less than the least so far, so a mark is looked at, and the score made, only
+/// then.
 pub(crate) fn lightest_outside(
     seat: u128,
     burdens: &[u128],

@@ -297,8 +297,8 @@ impl Book {
         Ok(())
     }
 
-    /// A guess of where the account stands, for a call that takes one. It is right where the account is
-    /// known, and nothing rests on it.
+    /// A guess of where the account stands, for a call that takes one. It is right where the
+    /// account is known, and nothing rests on it.
     pub fn guess(&self, who: AccountId) -> usize {
         self.rows.guess(who)
     }
@@ -346,8 +346,8 @@ impl Book {
         self.slash_from(NOBODY, who, amount).burned
     }
 
-    /// Does what `slash` does, and tells besides whether anything is bonded then. The account may be
-    /// found by the guess.
+    /// Does what `slash` does, and tells besides whether anything is bonded then. The account may
+    /// be found by the guess.
     pub fn slash_from(&mut self, guess: usize, who: AccountId, amount: u64) -> Loss
         ensures burned { result.burned ≡ slash_amount (row_at self.old who) amount }
         ensures bonded { result.bonded ≡ is_bonded (row_at self.new who) }

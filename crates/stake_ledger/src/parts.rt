@@ -17,8 +17,8 @@ pub struct Done {
     pub after: Parts,
 }
 
-/// What a slash takes of an account's active units and of its chunks, and whether anything is bonded
-/// then.
+/// What a slash takes of an account's active units and of its chunks, and whether anything is
+/// bonded then.
 #[derive(Clone, Copy)]
 pub struct Cut {
     pub active: u64,

@@ -202,8 +202,8 @@ impl Row {
         Ok(value)
     }
 
-    /// Takes up to the amount, where something is bonded: from active first, then from the chunks in
-    /// order.
+    /// Takes up to the amount, where something is bonded: from active first, then from the chunks
+    /// in order.
     #[tactic(auto, using(crate::proofs::ScheduleLemmas::sum_first))]
     pub fn slash(&mut self, amount: u64) -> Option<Cut>
         requires { worth self.old < 2 ^ 64 }

@@ -69,7 +69,8 @@ impl Rows {
         Some(&self.rows[place])
     }
 
-    /// The row of an account, which may be the one at the guess. The next guess is the row behind it.
+    /// The row of an account, which may be the one at the guess. The next guess is the row behind
+    /// it.
     #[tactic(auto, using(crate::proofs::PlaceLemmas::row_placed, crate::proofs::PlaceLemmas::row_unplaced))]
     pub fn get_from(&self, guess: &mut usize, who: AccountId) -> Option<&Row>
         ensures { option_copied result ≡ row_of_entries who self.now }
@@ -102,7 +103,8 @@ impl Rows {
         self.places.find(who).unwrap_or(NOBODY)
     }
 
-    /// Gives the account the value; its row is made where it has none. It may be found by the guess.
+    /// Gives the account the value; its row is made where it has none. It may be found by the
+    /// guess.
     #[tactic(auto, using(crate::proofs::PlaceLemmas::row_in_unplaced, crate::proofs::PlaceLemmas::placed_changed))]
     pub fn gain(&mut self, guess: usize, who: AccountId, value: u64) -> Result<(), NoMemory>
         requires { (row_in self.old who).free + value < 2 ^ 64 }
@@ -180,8 +182,8 @@ impl Rows {
         }
     }
 
-    /// Takes up to the amount of what the account has bonded, if anything. Its row may be found by the
-    /// guess.
+    /// Takes up to the amount of what the account has bonded, if anything. Its row may be found by
+    /// the guess.
     #[tactic(auto, using(crate::proofs::PlaceLemmas::row_in_unplaced, crate::proofs::PlaceLemmas::placed_changed))]
     pub fn slash(&mut self, guess: usize, who: AccountId, amount: u64) -> Option<Cut>
         requires { worth (row_in self.old who) < 2 ^ 64 }

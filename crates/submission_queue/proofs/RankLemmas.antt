@@ -20,10 +20,6 @@ behind_better x a b p q = grind (arith, nat_tests)
 pub no_better_through : (a b c : Score) → is_better b a ≡ false → is_better c b ≡ false → is_better c a ≡ false
 no_better_through a b c p q = grind (arith, nat_tests)
 
--- none of them outranks the item
-abbrev pub NoneOutranks : Submission → List Submission → Type 0
-NoneOutranks item others = All (λ other. outranks other item ≡ false) others
-
 -- the item outranks none of them
 abbrev pub OutranksNone : Submission → List Submission → Type 0
 OutranksNone item others = All (λ other. outranks item other ≡ false) others

@@ -10,4 +10,5 @@ without accounts who = filter (λ account. not (same_account account who)) accou
 -- an account goes directly before another
 abbrev pub with_before : List AccountId → AccountId → AccountId → List AccountId
 with_before [] who lighter = who ∷ []
-with_before (account ∷ accounts) who lighter = if same_account account lighter then who ∷ account ∷ accounts else account ∷ with_before accounts who lighter
+with_before (account ∷ accounts) who lighter = if same_account account lighter then who ∷ account ∷ accounts
+    else account ∷ with_before accounts who lighter

@@ -27,10 +27,12 @@ holds bag who = list_any (λ account. same_account account who) bag
 -- each account stands in the bag that is noted for it and in no other
 abbrev pub AreNoted : (AccountId → Option ℕ) → ℕ → List (List AccountId) → Type 0
 AreNoted home number [] = Unit {0}
-AreNoted home number (bag ∷ bags) = ((who : AccountId) → holds bag who ≡ is_in (home who) number) × AreNoted home (number + 1) bags
+AreNoted home number (bag ∷ bags) = ((who : AccountId) → holds bag who ≡ is_in (home who) number)
+    × AreNoted home (number + 1) bags
 
 -- one bag more than there are thresholds, and each account noted with its bag
-pub record AreHomes (thresholds : List ℕ) (bags : List (List AccountId)) (home : AccountId → Option ℕ) : Type 0 where
+pub record AreHomes (thresholds : List ℕ) (bags : List (List AccountId))
+    (home : AccountId → Option ℕ) : Type 0 where
   pub few : length thresholds ≤ MOST_THRESHOLDS
   pub rising : IsRisingFrom 0 thresholds
   pub count : length bags ≡ length thresholds + 1

@@ -1,4 +1,5 @@
--- The bags are one list of accounts, each with the number of its bag; the walk goes from the highest bag down.
+-- The bags are one list of accounts, each with the number of its bag; the walk goes from the
+-- highest bag down.
 use Rattle.std.specs.Prelude.{◌≡◌, ℕ, ◌+◌, ◌<◌, Bool, true, false, not, nat_eq, nat_lt, nat_le, is_some, unwrap_or, zero, suc, if◌then◌else◌, List, [], ◌∷◌, ◌++◌, length, map, filter, count_by, slice_get, Option, Some, None}
 use Rattle.npos_base.specs.declared.account.AccountId.{AccountId}
 use Rattle.npos_base.specs.Account.{same_account}
@@ -62,12 +63,14 @@ left order who = filter (λ entry. not (same_account entry.0 who)) order
 -- an entry goes directly before an account
 abbrev pub placed_before : Order → AccountId × ℕ → AccountId → Order
 placed_before [] entry lighter = entry ∷ []
-placed_before (other ∷ order) entry lighter = if same_account other.0 lighter then entry ∷ other ∷ order else other ∷ placed_before order entry lighter
+placed_before (other ∷ order) entry lighter = if same_account other.0 lighter then entry ∷ other ∷ order
+    else other ∷ placed_before order entry lighter
 
 -- wherever the account stands, its bag is this one
 abbrev pub OnlyIn : AccountId → ℕ → Order → Type 0
 OnlyIn who number [] = Unit {0}
-OnlyIn who number (entry ∷ order) = (same_account entry.0 who ≡ true → entry.1 ≡ number) × OnlyIn who number order
+OnlyIn who number (entry ∷ order) = (same_account entry.0 who ≡ true → entry.1 ≡ number)
+    × OnlyIn who number order
 
 -- the accounts as they are walked
 abbrev pub walk : Order → List AccountId
@@ -76,7 +79,8 @@ walk order = map (λ entry. entry.0) order
 -- the account after this one
 abbrev pub account_after : List AccountId → AccountId → Option AccountId
 account_after [] who = None
-account_after (account ∷ accounts) who = if same_account account who then slice_get accounts 0 else account_after accounts who
+account_after (account ∷ accounts) who = if same_account account who then slice_get accounts 0
+    else account_after accounts who
 
 -- the list after each call, in the order of the walk
 abbrev pub arranged : Listing → Order → Listing
@@ -89,7 +93,8 @@ abbrev pub removed : Listing → AccountId → Listing
 removed listing who = arranged listing (left listing.order who)
 
 abbrev pub moved : Listing → AccountId → ℕ → Listing
-moved listing who score = arranged listing (joined (left listing.order who) who (bag_of listing.thresholds score))
+moved listing who score =
+    arranged listing (joined (left listing.order who) who (bag_of listing.thresholds score))
 
 -- the account stands in the bag of the score already
 abbrev pub is_at_home : Listing → AccountId → ℕ → Bool
@@ -108,12 +113,14 @@ rebag_refusal listing who score =
 abbrev pub put_in_front : Listing → AccountId → AccountId → Listing
 put_in_front listing who lighter =
     if same_account who lighter then listing
-    else arranged listing (placed_before (left listing.order who) (who, number_at (number_of listing.order who)) lighter)
+    else arranged listing (placed_before (left listing.order who)
+    (who, number_at (number_of listing.order who)) lighter)
 
 abbrev pub put_in_front_refusal : Listing → AccountId → ℕ → AccountId → ℕ → Option ListRefusal
 put_in_front_refusal listing who score lighter lighter_score =
     if not (is_listed listing.order who) then Some NotListed
     else if not (is_listed listing.order lighter) then Some NotListed
-    else if not (is_in (number_of listing.order who) (number_at (number_of listing.order lighter))) then Some OtherBag
+    else if not (is_in (number_of listing.order who) (number_at (number_of listing.order lighter)))
+    then Some OtherBag
     else if nat_le score lighter_score then Some NotHeavier
     else None

@@ -1,4 +1,5 @@
--- The bags as linked nodes: each listed account has a place, and the places of a bag are one of the rings' lists.
+-- The bags as linked nodes: each listed account has a place, and the places of a bag are one of the
+-- rings' lists.
 use Rattle.std.specs.Prelude.{◌≡◌, ℕ, ◌+◌, ◌<◌, ◌≤◌, false, List, ◌++◌, length, map, take, slice_get, slice_set, slice_index_or, [], ◌∷◌, Option, Some, None, IfSome}
 use Rattle.std.specs.List.{range_with_len}
 use Rattle.npos_base.specs.declared.account.AccountId.{AccountId}
@@ -23,7 +24,8 @@ abbrev pub bags_of : Lists → (ℕ → AccountId) → ℕ → List (List Accoun
 bags_of rings account count = map (λ n. map account (items rings n)) (range_with_len 0 count)
 
 -- each account that was ever listed has a place of its own, with room for its links
-pub record Stand (rings : Lists) (accounts : List AccountId) (place_of : AccountId → Option ℕ) (count : ℕ) : Type 0 where
+pub record Stand (rings : Lists) (accounts : List AccountId) (place_of : AccountId → Option ℕ)
+    (count : ℕ) : Type 0 where
   pub fit : IsFit rings
   pub lists : list_count rings ≡ count
   pub room : length accounts ≤ key_limit rings
@@ -45,7 +47,8 @@ IsStanding nodes = Stand nodes.rings nodes.places (place_in (by_account nodes.pl
 -- an account leaves one bag for the tail of another
 abbrev pub moved_bags : List (List AccountId) → AccountId → ℕ → ℕ → List (List AccountId)
 moved_bags bags who home number =
-    slice_set (slice_set bags home (without (slice_index_or bags home []) who)) number (slice_index_or bags number [] ++ who ∷ [])
+    slice_set (slice_set bags home (without (slice_index_or bags home []) who)) number
+    (slice_index_or bags number [] ++ who ∷ [])
 
 -- the homes after one account has another, or none
 pub record NotedAnew (home now : AccountId → Option ℕ) (who : AccountId) (noted : Option ℕ) : Type 0 where
@@ -53,7 +56,8 @@ pub record NotedAnew (home now : AccountId → Option ℕ) (who : AccountId) (no
   pub others : (q : AccountId) → same_account q who ≡ false → now q ≡ home q
 
 -- the bags are these, and one account's home is another one
-pub record Becomes (old new : Nodes) (bags : List (List AccountId)) (who : AccountId) (noted : Option ℕ) : Type 0 where
+pub record Becomes (old new : Nodes) (bags : List (List AccountId)) (who : AccountId)
+    (noted : Option ℕ) : Type 0 where
   pub lists : bags_in new ≡ bags
   pub count : new.bags ≡ old.bags
   pub homes : NotedAnew (home_of old) (home_of new) who noted
@@ -71,7 +75,8 @@ pub record IsTop (nodes : Nodes) (below number place : ℕ) : Type 0 where
   pub lower : number < below
   pub listed : list_of nodes.rings place ≡ Some number
   pub head : slice_get (items nodes.rings number) 0 ≡ Some place
-  pub rest : falling (take below (bags_in nodes)) ≡ map (account_at nodes.places) (items nodes.rings number) ++ falling (take number (bags_in nodes))
+  pub rest : falling (take below (bags_in nodes))
+      ≡ map (account_at nodes.places) (items nodes.rings number) ++ falling (take number (bags_in nodes))
 
 -- the bags under their thresholds, each account in the bag that its node is linked in
 pub record AreLinked (thresholds : List ℕ) (nodes : Nodes) : Type 0 where
@@ -82,7 +87,8 @@ pub record AreLinked (thresholds : List ℕ) (nodes : Nodes) : Type 0 where
 -- what a walk has still to come to: the accounts of a bag from a place on, and those of the bags below it
 abbrev pub ahead : Nodes → ℕ → Option ℕ → List AccountId
 ahead nodes number here =
-    map (account_at nodes.places) (keys_from here (items nodes.rings number)) ++ falling (take number (bags_in nodes))
+    map (account_at nodes.places) (keys_from here (items nodes.rings number))
+    ++ falling (take number (bags_in nodes))
 
 pub record IsWalk (nodes : Nodes) (number : ℕ) (here : Option ℕ) : Type 0 where
   pub standing : IsStanding nodes

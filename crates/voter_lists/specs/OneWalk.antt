@@ -1,6 +1,6 @@
--- A list of accounts with their bags need not stand in the order of its walk: an account may join at the end of the
--- list, whatever its bag, as long as the walk is read off the list. What a call then makes of the list, and when such a
--- list and one that is arranged are one walk.
+-- A list of accounts with their bags need not stand in the order of its walk: an account may join
+-- at the end of the list, whatever its bag, as long as the walk is read off the list. What a call
+-- then makes of the list, and when such a list and one that is arranged are one walk.
 use Rattle.std.specs.Prelude.{◌≡◌, ℕ, List, Some, if◌then◌else◌}
 use Rattle.npos_base.specs.declared.account.AccountId.{AccountId}
 use Rattle.npos_base.specs.Account.{same_account}

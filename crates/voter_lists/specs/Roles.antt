@@ -51,7 +51,8 @@ is_validator roles who = is_validator_in (standing_of roles who)
 -- the validators, by rising account
 abbrev pub validators_of : RoleList → List AccountId
 validators_of [] = []
-validators_of (row ∷ rows) = if is_validator_standing row.1 then row.0 ∷ validators_of rows else validators_of rows
+validators_of (row ∷ rows) = if is_validator_standing row.1 then row.0 ∷ validators_of rows
+    else validators_of rows
 
 -- an account takes a standing in place of any other that it had
 abbrev pub with_standing : RoleList → AccountId → Standing → RoleList
@@ -68,7 +69,8 @@ KeepsOthers old new who = (other : AccountId) → other ≢ who → standing_of 
 -- some account stands twice
 abbrev pub has_repeat : List AccountId → Bool
 has_repeat [] = false
-has_repeat (account ∷ accounts) = list_any (λ other. same_account other account) accounts || has_repeat accounts
+has_repeat (account ∷ accounts) = list_any (λ other. same_account other account) accounts
+    || has_repeat accounts
 
 -- the account is no validator, or it is the nominator
 abbrev pub is_no_target : RoleList → AccountId → AccountId → Bool
@@ -89,7 +91,8 @@ nominated roles who targets = with_standing roles who (standing.Nominator target
 abbrev pub validate_refusal : RoleList → AccountId → ℕ → Option ListRefusal
 validate_refusal roles who commission =
     if nat_lt WHOLE_FRACTION commission then Some BadFraction
-    else if not (is_validator roles who) && nat_le MOST_VALIDATORS (length (validators_of roles)) then Some TooManyValidators
+    else if not (is_validator roles who) && nat_le MOST_VALIDATORS (length (validators_of roles))
+    then Some TooManyValidators
     else None
 
 abbrev pub validating : RoleList → AccountId → ℕ → RoleList

@@ -13,9 +13,9 @@ use account_places::Places;
 use npos_base::{AccountId, NoMemory};
 use std::alloc::Global;
 
-/// A node for each account that was ever listed: its place among the accounts, and that place in the
-/// list of its bag, where it is listed. An account keeps its place for good, so that it leaves and
-/// comes back without a change of the places.
+/// A node for each account that was ever listed: its place among the accounts, and that place in
+/// the list of its bag, where it is listed. An account keeps its place for good, so that it leaves
+/// and comes back without a change of the places.
 #[derive(Drop)]
 pub(crate) struct Nodes {
     rings: Rings,

@@ -37,8 +37,8 @@ pub(crate) fn leave(accounts: &mut Vec<AccountId>, who: AccountId)
     }
 }
 
-/// Takes the account out, where it is known to be there or not. Who is not there need not be searched
-/// for.
+/// Takes the account out, where it is known to be there or not. Who is not there need not be
+/// searched for.
 pub(crate) fn leave_where(accounts: &mut Vec<AccountId>, who: AccountId, there: bool)
     requires rising { IsStrictlySortedBy account_cmp accounts.old.items }
     requires known { there ≡ false

@@ -107,9 +107,9 @@ impl Roles {
         }
     }
 
-    /// What is kept of an account that has a role, for accounts that are asked for in about the order
-    /// in which they first had one: the account may be found by the guess, which then is of the account
-    /// that came next.
+    /// What is kept of an account that has a role, for accounts that are asked for in about the
+    /// order in which they first had one: the account may be found by the guess, which then is of
+    /// the account that came next.
     pub fn standing_from(&self, guess: &mut usize, who: AccountId) -> Option<&Standing>
         ensures { option_copied result ≡ standing_of self.now who }
     {

@@ -50,8 +50,8 @@ impl Standings {
         }
     }
 
-    /// The standing of an account, which may be the one at the guess. The next guess is the standing
-    /// behind it.
+    /// The standing of an account, which may be the one at the guess. The next guess is the
+    /// standing behind it.
     pub(crate) fn get_from(&self, guess: &mut usize, who: AccountId) -> Option<&Standing>
         ensures { option_copied result ≡ standing_of self.now who }
     {

@@ -5,5 +5,6 @@ use Rattle.weight_book.specs.Weights.{support}
 
 -- an entry for each target of the election that the weights were made for
 pub record AreSupports (edges : List Edge) (supports : List ℕ) : Type 0 where
-  pub are_sums : (target : ℕ) → target < length supports → slice_index_or supports target 0 ≡ support edges target
+  pub are_sums : (target : ℕ) → target < length supports
+      → slice_index_or supports target 0 ≡ support edges target
   pub bounded : (target : ℕ) → support edges target ≤ length edges * 2 ^ 64

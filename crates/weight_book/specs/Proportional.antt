@@ -1,5 +1,5 @@
--- Proportional justified representation: a group that holds as much stake as some seats stand for, and agrees on that
--- many targets, is represented by that many members.
+-- Proportional justified representation: a group that holds as much stake as some seats stand for,
+-- and agrees on that many targets, is represented by that many members.
 use Rattle.std.specs.Prelude.{◌≡◌, ℕ, ◌*◌, ◌<◌, ◌≤◌, Bool, IsTrue, nat_eq, List, length, sum_by, count_by, All}
 use Rattle.std.specs.List.{list_any, IsDistinct}
 use Rattle.std.specs.List.Sorted.{IsStrictlyIncreasing}
@@ -10,7 +10,8 @@ use Rattle.weight_book.specs.Passing.{Passes}
 abbrev pub group_stake : Snapshot → List ℕ → ℕ
 group_stake snapshot group = sum_by (stake_of snapshot) group
 
--- different voters, each of whom nominates the same `r` targets, hold at least the stake that `r` seats stand for
+-- different voters, each of whom nominates the same `r` targets, hold at least the stake that `r`
+-- seats stand for
 pub record IsCohesive (snapshot : Snapshot) (group : List ℕ) (r : ℕ) : Type 0 where
   pub rising : IsStrictlyIncreasing group
   pub voters_in_range : All (λ voter. voter < length snapshot.voters) group

@@ -46,4 +46,5 @@ pub record Follows (snapshot : Snapshot) (weights : Weights) : Type 0 where
 pub record IsFeasible (snapshot : Snapshot) (weights : Weights) : Type 0 where
   pub follows : Follows snapshot weights
   pub seats_filled : length weights.committee ≡ snapshot.seats
-  pub within_stakes : (voter : ℕ) → voter < length snapshot.voters → spent weights.edges voter ≤ stake_of snapshot voter
+  pub within_stakes : (voter : ℕ) → voter < length snapshot.voters
+      → spent weights.edges voter ≤ stake_of snapshot voter
