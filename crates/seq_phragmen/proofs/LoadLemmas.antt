@@ -94,6 +94,9 @@ module _ (snapshot : Snapshot) where
   pub load_up : (pick : ℕ) (picks : List ℕ) → AreRun snapshot (pick ∷ picks) → (voter : ℕ) → load picks voter ≤ load (pick ∷ picks) voter
   load_up pick picks run voter = mutual_up pick picks voter (load_low picks run.1 voter pick run.0.in_range run.0.is_outside)
 
+  pub score_up : (pick : ℕ) (picks : List ℕ) → AreRun snapshot (pick ∷ picks) → (target : ℕ) → score_now picks target ≤ score_now (pick ∷ picks) target
+  score_up pick picks run target = score_grows (load picks) (load (pick ∷ picks)) (load_up pick picks run) target
+
   pub load_some : (picks : List ℕ) (voter target : ℕ) → has picks target ≡ true → nominates snapshot voter target ≡ true → 0 < load picks voter
   load_some [] voter target h t = absurd (true≢false (sym h))
   load_some (pick ∷ picks) voter target h t = elim (cases_Bool (nominates snapshot voter pick)) [

@@ -2,17 +2,17 @@
 use Rattle.std.proofs.Common.{◌≡◌, ℕ, suc, ◌+◌, ◌^◌, ◌<◌, ◌≤◌, ◌⊎◌, Bool, true, false, not, cond, ◌||◌, nat_eq, nat_lt, List, [], ◌∷◌, ◌++◌, length, get_or, set, map, filter, reverse, Option, Some, None, inl, inr, refl, ap, ap₂, sym, subst, ◌∙◌, arith}
 use Rattle.std.specs.List.{range_with_len, fold}
 use Rattle.std.proofs.lemmas.List.{length-set, get_or-set_same, get_or-set_other, reverse-append, reverse-reverse, length-reverse}
-use Rattle.std.proofs.lemmas.Bool.{cases_eq, cond_both, eq-eqb, ne_eqb}
+use Rattle.std.proofs.lemmas.Bool.{cases_eq, cond_both, eq-eqb, ne_eqb, true≢false}
 use Rattle.election_snapshot.specs.Snapshot.{Snapshot, IsWellFormed, has, nominates, total_stake}
 use Rattle.weight_book.specs.Passing.{nominators}
 use Rattle.weight_book.specs.Room.{WeightBook, KeepsRoom}
 use Rattle.seq_phragmen.specs.declared.race.Race.{Race}
 use Rattle.seq_phragmen.specs.declared.rise.Rise.{Rise}
 use Rattle.seq_phragmen.specs.Mined.{greatest_score, seat_load, shared_load, score, load_after, lighter, lightest, outside, next_pick, picked}
-use Rattle.seq_phragmen.specs.Kept.{says, score_by, lightest_by, rise_of, rises_after, with_next, AreBurdens, IsAfter, IsRunning}
+use Rattle.seq_phragmen.specs.Kept.{says, score_by, lightest_by, rise_of, rises_after, with_next, AreBurdens, AreFloors, IsAfter, IsRunning}
 use Rattle.seq_phragmen.proofs.InLemmas.{In, from_filter, from_range}
-use Rattle.seq_phragmen.proofs.PickLemmas.{few_picks, all_picks}
-use Rattle.seq_phragmen.proofs.LoadLemmas.{burden_fits, load_most}
+use Rattle.seq_phragmen.proofs.PickLemmas.{AreRun, few_picks, all_picks}
+use Rattle.seq_phragmen.proofs.LoadLemmas.{burden_fits, load_most, score_up}
 
 -- ---- the search goes by values where the list has them
 module _ (f g : ℕ → ℕ) where
@@ -80,6 +80,42 @@ module _ (snapshot : Snapshot) (picks : List ℕ) (race : Race) (after : IsAfter
       → lightest_by (score_by seat burdens approvals) marks (length marks) ≡ next_pick snapshot picks
   next_found burdens approvals marks seat burdens_are approvals_are marks_are whole = rw (burdens_are, approvals_are, marks_are, whole) lightest_is_next
 
+  pub floors_found : (burdens approvals : List ℕ) (marks : List Bool) (floors : List ℕ) (seat : ℕ) → burdens ≡ race.burdens.items → approvals ≡ race.approvals.items → marks ≡ race.is_picked.items
+      → floors ≡ race.floors.items → seat ≡ seat_load snapshot → AreFloors (score_by seat burdens approvals) marks floors
+  floors_found burdens approvals marks floors seat burdens_are approvals_are marks_are floors_are whole = rw (burdens_are, approvals_are, marks_are, floors_are, whole)
+      (λ target h f. omega (arith, after.floors target h f, scores_are target (omega (arith, h, after.marks_size))))
+
+  -- floors of the scores that the tables tell
+  pub floors_told : (burdens approvals : List ℕ) (marks : List Bool) (floors : List ℕ) (seat : ℕ) → burdens ≡ race.burdens.items → approvals ≡ race.approvals.items → marks ≡ race.is_picked.items
+      → seat ≡ seat_load snapshot → AreFloors (score_by seat burdens approvals) marks floors → AreFloors (score snapshot (load_after snapshot picks)) race.is_picked.items floors
+  floors_told burdens approvals marks floors seat burdens_are approvals_are marks_are whole low target h f =
+      omega (arith, told target h f, scores_are target (omega (arith, h, after.marks_size)))
+    where
+      told : AreFloors (score_by (seat_load snapshot) race.burdens.items race.approvals.items) race.is_picked.items floors
+      told = rw (burdens_are, approvals_are, marks_are, whole) at low
+
+  -- only the floors are others
+  pub refloored : (next : Race) (floors : List ℕ)
+      → next.loads ≡ race.loads → next.lasts ≡ race.lasts → next.approvals ≡ race.approvals → next.burdens ≡ race.burdens → next.is_picked ≡ race.is_picked → next.nominators ≡ race.nominators
+      → next.floors.items ≡ floors → AreFloors (score snapshot (load_after snapshot picks)) race.is_picked.items floors → length floors ≡ length race.floors.items → IsAfter snapshot picks next
+  refloored next floors loads lasts approvals burdens marks nominators floors_are low size = record {
+    loads = λ voter. ap (λ v. says v.items voter) loads ∙ after.loads voter;
+    loads_size = ap (λ v. length v.items) loads ∙ after.loads_size;
+    lasts = λ voter. ap (λ v. says v.items voter) lasts ∙ after.lasts voter;
+    lasts_size = ap (λ v. length v.items) lasts ∙ after.lasts_size;
+    approvals = λ target h. ap (λ v. says v.items target) approvals ∙ after.approvals target h;
+    approvals_size = ap (λ v. length v.items) approvals ∙ after.approvals_size;
+    burdens = subst (λ v. AreBurdens snapshot v.items next.burdens.items) (sym loads) (subst (λ v. AreBurdens snapshot race.loads.items v.items) (sym burdens) after.burdens);
+    burdens_size = ap (λ v. length v.items) burdens ∙ after.burdens_size;
+    floors = subst (λ v. AreFloors (score snapshot (load_after snapshot picks)) v.items next.floors.items) (sym marks)
+        (subst (λ (ns : List ℕ). AreFloors (score snapshot (load_after snapshot picks)) race.is_picked.items ns) (sym floors_are) low);
+    floors_size = ap length floors_are ∙ size ∙ after.floors_size;
+    marks = λ number. ap (λ v. get_or v.items number false) marks ∙ after.marks number;
+    marks_size = ap (λ v. length v.items) marks ∙ after.marks_size;
+    nominators_are = λ target h. ap (λ v. get_or v.items target []) nominators ∙ after.nominators_are target h;
+    nominators_size = ap (λ v. length v.items) nominators ∙ after.nominators_size;
+  }
+
 -- ---- one seat more
 module _ (snapshot : Snapshot) (picks : List ℕ) (race : Race) (book : WeightBook) (rises : List Rise) (running : IsRunning snapshot picks race book rises)
     (target : ℕ) (in_range : target < length snapshot.targets) where
@@ -93,7 +129,22 @@ module _ (snapshot : Snapshot) (picks : List ℕ) (race : Race) (book : WeightBo
         ∙ running.after.marks number
         ∙ sym (ap (λ b. b || has picks number) (ne_eqb target number d))
 
-  pub running_more : (next : Race) (new : WeightBook) (more : List Rise) (height : ℕ) (loads_now lasts_now burdens_now : List ℕ)
+  -- scores only grow, and whatever stands at the pick is of no use any more
+  floors_more : (floors : List ℕ) (top : ℕ) → AreRun snapshot (target ∷ picks) → AreFloors (score snapshot (load_after snapshot picks)) race.is_picked.items floors
+      → AreFloors (score snapshot (load_after snapshot (target ∷ picks))) (set race.is_picked.items target true) (set floors target top)
+  floors_more floors top run low other h f = elim (cases_eq target other) [
+    | inl e ↦ absurd (true≢false (sym (ap (λ n. get_or (set race.is_picked.items n true) other false) e
+        ∙ get_or-set_same race.is_picked.items other true false (omega (arith, in_range, e, running.after.marks_size))) ∙ f))
+    | inr d ↦ omega (
+      arith,
+      get_or-set_other floors target other top 0 (λ e. d (sym e)),
+      low other (omega (arith, h, length-set race.is_picked.items target true)) (sym (get_or-set_other race.is_picked.items target other true false (λ e. d (sym e))) ∙ f),
+      score_up snapshot target picks run other,
+    )
+  ]
+
+  pub running_more : (next : Race) (new : WeightBook) (more : List Rise) (height : ℕ) (loads_now lasts_now burdens_now floors_now : List ℕ) (top : ℕ)
+      → AreRun snapshot (target ∷ picks)
       → height ≡ score snapshot (load_after snapshot picks) target
       → next.loads.items ≡ loads_now
       → next.lasts.items ≡ lasts_now
@@ -104,6 +155,9 @@ module _ (snapshot : Snapshot) (picks : List ℕ) (race : Race) (book : WeightBo
       → length lasts_now ≡ length race.lasts.items
       → AreBurdens snapshot loads_now burdens_now
       → length burdens_now ≡ length race.burdens.items
+      → next.floors.items ≡ set floors_now target top
+      → AreFloors (score snapshot (load_after snapshot picks)) race.is_picked.items floors_now
+      → length floors_now ≡ length race.floors.items
       → next.approvals.items ≡ race.approvals.items
       → next.is_picked.items ≡ set race.is_picked.items target true
       → next.nominators.items ≡ race.nominators.items
@@ -112,7 +166,7 @@ module _ (snapshot : Snapshot) (picks : List ℕ) (race : Race) (book : WeightBo
       → KeepsRoom book new
       → more ≡ rises ++ map (rise_of (says race.loads.items) target height) (nominators snapshot target)
       → IsRunning snapshot (target ∷ picks) next new more
-  running_more next new more height loads_now lasts_now burdens_now height_is loads_is lasts_is burdens_is loads loads_size lasts lasts_size burdens burdens_size approvals_same marks nominators_same members edges room noted = record {
+  running_more next new more height loads_now lasts_now burdens_now floors_now top run height_is loads_is lasts_is burdens_is loads loads_size lasts lasts_size burdens burdens_size floors_are floors floors_size approvals_same marks nominators_same members edges room noted = record {
     after = record {
       loads = λ voter. ap (λ ns. says ns voter) loads_is ∙ loads voter ∙ ap₂ (λ a b. cond (nominates snapshot voter target) a b) height_is (running.after.loads voter);
       loads_size = ap length loads_is ∙ loads_size ∙ running.after.loads_size;
@@ -122,6 +176,9 @@ module _ (snapshot : Snapshot) (picks : List ℕ) (race : Race) (book : WeightBo
       approvals_size = ap length approvals_same ∙ running.after.approvals_size;
       burdens = subst (λ ns. AreBurdens snapshot ns next.burdens.items) (sym loads_is) (subst (λ ns. AreBurdens snapshot loads_now ns) (sym burdens_is) burdens);
       burdens_size = ap length burdens_is ∙ burdens_size ∙ running.after.burdens_size;
+      floors = subst (λ (ms : List Bool). AreFloors (score snapshot (load_after snapshot (target ∷ picks))) ms next.floors.items) (sym marks)
+          (subst (λ (ns : List ℕ). AreFloors (score snapshot (load_after snapshot (target ∷ picks))) (set race.is_picked.items target true) ns) (sym floors_are) (floors_more floors_now top run floors));
+      floors_size = ap length floors_are ∙ length-set floors_now target top ∙ floors_size ∙ running.after.floors_size;
       marks = λ number. ap (λ ms. get_or ms number false) marks ∙ marked number;
       marks_size = ap length marks ∙ length-set race.is_picked.items target true ∙ running.after.marks_size;
       nominators_are = λ other h. ap (λ lists. get_or lists other []) nominators_same ∙ running.after.nominators_are other h;

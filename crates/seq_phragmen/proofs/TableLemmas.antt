@@ -1,17 +1,17 @@
 -- Tables by target, changed at each of a voter's votes.
 use Rattle.std.proofs.Common.{◌≡◌, ℕ, ◌+◌, ◌<◌, ◌≤◌, ◌⊎◌, min, Bool, true, false, not, cond, ◌||◌, nat_eq, nat_lt, List, [], ◌∷◌, length, take, get_or, set, filter, Option, Some, None, is_none, IfSome, inl, inr, refl, ap, sym, subst, ◌∙◌, arith}
 use Rattle.std.specs.List.{IsDistinct, range_with_len, fold}
-use Rattle.std.proofs.lemmas.List.{length-take, get_or-take, get_or_default, get_or-set_same, get_or-set_other}
+use Rattle.std.proofs.lemmas.List.{length-take, get_or-take, get_or_default, get_or-set_same, get_or-set_other, length-set, get_or_past}
 use Rattle.std.proofs.lemmas.List.Elements.{filter-append}
 use Rattle.std.proofs.lemmas.List.Folds.{list_any_more, list_any_none}
 use Rattle.std.proofs.lemmas.List.Sums.{fold-append}
-use Rattle.std.proofs.lemmas.Bool.{cases_Bool, cases_eq, cond-true, cond-false, eq-eqb, ne_eqb, or_right, true≢false}
+use Rattle.std.proofs.lemmas.Bool.{cases_Bool, cases_eq, cases_lt, lt-ltb, le-ltb, cond-true, cond-false, eq-eqb, ne_eqb, or_right, true≢false}
 use Rattle.std.proofs.lemmas.Bool.Decides.{Decides-eqb}
 use Rattle.std.proofs.lemmas.Map.Made.{AllPairs-from_IsDistinct}
 use Rattle.election_snapshot.specs.Snapshot.{has}
 use Rattle.weight_book.proofs.StakeLemmas.{range_more}
 use Rattle.seq_phragmen.specs.Mined.{greatest_score, lighter, lightest}
-use Rattle.seq_phragmen.specs.Kept.{lightest_by}
+use Rattle.seq_phragmen.specs.Kept.{lightest_by, AreFloors}
 
 or_false : (b : Bool) → (b || false) ≡ b
 or_false true = refl
@@ -104,3 +104,27 @@ module _ (value : ℕ → ℕ) (marks : List Bool) where
     at (inl t) _ = (so_far.0 ∙ lightest_kept count t, so_far.1, so_far.2)
     at (inr f) (inl no_less) = (same best so_far.1 no_less ∙ ap (λ o. lighter value o count) so_far.0 ∙ lightest_taken count f, so_far.1, so_far.2)
     at (inr f) (inr t) = absurd (true≢false (sym t ∙ f))
+
+  -- one whose value is no less than a floor that is not ahead changes nothing
+  pub no_lower : (count : ℕ) (best : Option ℕ) (least floor : ℕ) → count < length marks → IsLightestSoFar count best least
+      → (get_or marks count false ≡ false → floor ≤ value count) → (is_none best || nat_lt floor least) ≡ false → IsLightestSoFar (count + 1) best least
+  no_lower count best least floor h so_far low test = elim (cases_Bool (get_or marks count false)) [
+    | inl t ↦ lightest_stays count best least so_far (inr t)
+    | inr f ↦ lightest_stays count best least so_far (inl (up best test (low f)))
+  ] where
+    up : (o : Option ℕ) → (is_none o || nat_lt floor least) ≡ false → floor ≤ value count → (is_none o || nat_lt (value count) least) ≡ false
+    up None e l = e
+    up (Some b) e l = elim (cases_lt floor least) [
+      | inl less ↦ absurd (true≢false (sym (lt-ltb floor least less) ∙ e))
+      | inr no_less ↦ le-ltb (value count) least (omega (arith, no_less, l))
+    ]
+
+  -- a floor that is a value
+  pub floor_set : (floors : List ℕ) (target score : ℕ) → score ≡ value target → AreFloors value marks floors → AreFloors value marks (set floors target score)
+  floor_set floors target score is low other h f = elim (cases_eq target other) [
+    | inl same ↦ elim (cases_lt other (length floors)) [
+      | inl inside ↦ omega (arith, ap (λ n. get_or (set floors n score) other 0) same, get_or-set_same floors other score 0 inside, is, ap value same)
+      | inr outside ↦ omega (arith, get_or_past (set floors target score) other 0 (omega (arith, outside, length-set floors target score)))
+    ]
+    | inr differ ↦ omega (arith, get_or-set_other floors target other score 0 (λ e. differ (sym e)), low other h f)
+  ]

@@ -43,6 +43,11 @@ abbrev pub lightest_by : (ℕ → ℕ) → List Bool → ℕ → Option ℕ
 lightest_by value marks count =
     lightest value (filter (λ target. not (slice_index_or marks target false)) (range_with_len 0 count))
 
+-- by target, no more than its value, where it is not marked
+abbrev pub AreFloors : (ℕ → ℕ) → List Bool → List ℕ → Type 0
+AreFloors value marks floors = (target : ℕ) → target < length marks
+    → slice_index_or marks target false ≡ false → says floors target ≤ value target
+
 -- the last of these picks that a voter nominates, 0 before any
 abbrev pub last_after : Snapshot → List ℕ → ℕ → ℕ
 last_after snapshot [] voter = 0
@@ -59,6 +64,8 @@ pub record IsAfter (snapshot : Snapshot) (picks : List ℕ) (race : Race) : Type
   pub approvals_size : length race.approvals.items ≡ length snapshot.targets
   pub burdens : AreBurdens snapshot race.loads.items race.burdens.items
   pub burdens_size : length race.burdens.items ≡ length snapshot.targets
+  pub floors : AreFloors (score snapshot (load_after snapshot picks)) race.is_picked.items race.floors.items
+  pub floors_size : length race.floors.items ≡ length snapshot.targets
   pub marks : AreMarks race.is_picked.items picks
   pub marks_size : length race.is_picked.items ≡ length snapshot.targets
   pub nominators_are : AreNominators snapshot race.nominators.items

@@ -57,11 +57,18 @@ fn take_seat(
         weights.new rises.new.items) }
 {
     let seat = u128::from(snapshot.total()) * 1_048_576;
-    let next = lightest_outside(seat, &race.burdens, &race.approvals, &race.is_picked);
+    let next = lightest_outside(
+        seat,
+        &race.burdens,
+        &race.approvals,
+        &race.is_picked,
+        &mut race.floors,
+    );
     let Some(Candidate { target, score }) = next else {
         return Ok(());
     };
     race.is_picked[usize::from(target)] = true;
+    race.floors[usize::from(target)] = u64::MAX;
     weights.push_member(target);
     raise_loads(
         snapshot,

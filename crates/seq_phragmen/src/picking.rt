@@ -5,7 +5,7 @@ ghost use Rattle.std.specs.List.{IsDistinct};
 ghost use Rattle.election_snapshot.specs.Snapshot.{has, nominates, total_stake};
 ghost use Rattle.weight_book.specs.Passing.{nominators};
 ghost use Rattle.seq_phragmen.specs.Mined.{greatest_score, shared_load};
-ghost use Rattle.seq_phragmen.specs.Kept.{says, score_by, lightest_by, rise_of, AreBurdens};
+ghost use Rattle.seq_phragmen.specs.Kept.{says, score_by, lightest_by, rise_of, AreBurdens, AreFloors};
 
 use crate::rise::Rise;
 use election_snapshot::Snapshot;
@@ -21,20 +21,24 @@ pub(crate) struct Candidate {
     pub(crate) score: u64,
 }
 
-/// The lowest of the targets that are not picked with the least score, if one is not picked. A
-/// score is seldom less than the least so far, so a mark is looked at, and the score made, only
-/// then.
+/// The lowest of the targets that are not picked with the least score, if one is not picked. No
+/// score is below its floor. So a score is made only where the floor is below the least score so
+/// far, which is seldom, and is then the floor.
 pub(crate) fn lightest_outside(
     seat: u128,
     burdens: &[u128],
     approvals: &[u64],
     is_picked: &[bool],
+    floors: &mut [u64],
 ) -> Option<Candidate>
     requires burdens_size { length burdens.now ≡ length is_picked.now }
     requires approvals_size { length approvals.now ≡ length is_picked.now }
     requires few { length is_picked.now ≤ MOST_TARGETS }
     requires fits { (target : ℕ) → target < length is_picked.now
         → seat + says burdens.now target < 2 ^ 128 }
+    requires floors_size { length floors.old ≡ length is_picked.now }
+    requires floors { AreFloors (score_by seat burdens.now approvals.now) is_picked.now floors.old }
+    ensures floors { AreFloors (score_by seat burdens.now approvals.now) is_picked.now floors.new }
     ensures lightest { option_map (λ candidate. candidate.target) result
         ≡ lightest_by (score_by seat burdens.now approvals.now)
         is_picked.now (length is_picked.now) }
@@ -45,9 +49,13 @@ pub(crate) fn lightest_outside(
     let mut best = None;
     let mut least = 0;
     for target in 0..is_picked.len() {
-        if is_ahead(best, least, seat, burdens[target], approvals[target]) && !is_picked[target] {
-            best = Some(target as u16);
-            least = share_load(seat, burdens[target], approvals[target]);
+        if is_ahead(best, least, floors[target]) && !is_picked[target] {
+            let score = share_load(seat, burdens[target], approvals[target]);
+            floors[target] = score;
+            if is_ahead(best, least, score) {
+                best = Some(target as u16);
+                least = score;
+            }
         }
     }
     match best {
@@ -59,15 +67,12 @@ pub(crate) fn lightest_outside(
     }
 }
 
-/// Whether the load that some voters would share is less than the least so far, or the first one.
-/// It is told with no division, which takes as long as many products.
-fn is_ahead(best: Option<u16>, least: u64, seat: u128, carried: u128, stake: u64) -> bool
-    requires fits { seat + carried < 2 ^ 128 }
-    requires most { least ≤ greatest_score }
-    ensures { result ≡ (is_none best || nat_lt (shared_load seat carried stake) least) }
+/// Whether a score is less than the least so far, or the first one.
+fn is_ahead(best: Option<u16>, least: u64, score: u64) -> bool
+    ensures { result ≡ (is_none best || nat_lt score least) }
 {
     match best {
-        Some(_) => seat + carried < u128::from(least) * u128::from(stake),
+        Some(_) => score < least,
         None => true,
     }
 }

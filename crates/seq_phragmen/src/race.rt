@@ -20,6 +20,9 @@ pub(crate) struct Race {
     pub(crate) approvals: Vec<u64>,
     /// By target, the sum of stake times load over its nominators.
     pub(crate) burdens: Vec<u128>,
+    /// By target, the last score that was made for it, 0 before any. Loads never fall, so its score
+    /// is no less now. Of a target that is picked it is a number that no score is above.
+    pub(crate) floors: Vec<u64>,
     /// By target, whether it was picked.
     pub(crate) is_picked: Vec<bool>,
     /// By target, its nominators in rising order.
@@ -36,6 +39,7 @@ impl Race {
         let lasts = no_lasts(alloc, snapshot.voter_count())?;
         let approvals = approvals_of(alloc, snapshot)?;
         let burdens = no_burdens(alloc, targets)?;
+        let floors = zeros(alloc, targets)?;
         let is_picked = no_marks(alloc, targets)?;
         let nominators = nominators_of(alloc, snapshot)?;
         Ok(Race {
@@ -43,6 +47,7 @@ impl Race {
             lasts,
             approvals,
             burdens,
+            floors,
             is_picked,
             nominators,
         })

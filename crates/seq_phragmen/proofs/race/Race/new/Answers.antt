@@ -1,4 +1,4 @@
-use Rattle.std.proofs.Common.{sym, ◌∙◌}
+use Rattle.std.proofs.Common.{arith, sym, ◌∙◌}
 use Rattle.seq_phragmen.specs.Kept.{says}
 use Rattle.seq_phragmen.proofs.RaiseLemmas.{no_burden}
 use Rattle.seq_phragmen.proofs.race.Race.new.Goals as goal
@@ -13,6 +13,8 @@ returns c = record {
   approvals_size = c.in_ok-approvals.ensures.count;
   burdens = λ target h. c.in_ok-burdens.ensures.zero target ∙ sym (no_burden c.args.snapshot.now (says c.in_ok-loads.loads.items) c.in_ok-loads.ensures.zero target);
   burdens_size = c.in_ok-burdens.ensures.count ∙ c.target_count-targets.ensures.count;
+  floors = λ target h f. omega (arith, c.in_ok-floors.ensures.zero target);
+  floors_size = c.in_ok-floors.ensures.count ∙ c.target_count-targets.ensures.count;
   marks = c.in_ok-is_picked.ensures.none;
   marks_size = c.in_ok-is_picked.ensures.count ∙ c.target_count-targets.ensures.count;
   nominators_are = c.in_ok-nominators.ensures.nominators;
