@@ -27,3 +27,4 @@ pub mod EraLaws
 pub mod StreamLaws
 pub mod WordsLaws
 pub mod DemoLaws
+pub mod DigitLaws

@@ -4,6 +4,7 @@
 mod answers;
 mod checking;
 mod demo;
+mod digits;
 mod edges;
 mod election;
 mod input;

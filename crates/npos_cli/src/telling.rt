@@ -7,9 +7,9 @@ ghost use Rattle.npos_runtime.specs.declared.begin.GenesisFault.TheVariants as f
 ghost use Rattle.npos_cli.specs.Pieces.{piece_text};
 ghost use Rattle.npos_cli.specs.Chain.{amount_line, end_line, line_text};
 
+use crate::digits::account_digits;
 use crate::numbers::{tell_member, tell_verdict};
 use election_check::Verdict;
-use hex::encode_to_slice;
 use itoa::Buffer;
 use npos_base::{AccountId, NoMemory};
 use npos_runtime::{GenesisFault, Line};
@@ -28,12 +28,7 @@ pub enum Piece<'a> {
 pub(crate) fn tell_account(text: &mut Vec<u8>, who: AccountId) -> Result<(), NoMemory>
     ensures { OnOk result (text.new.items ≡ text.old.items ++ account_text who) }
 {
-    let mut digits = [0; 64];
-    match encode_to_slice(who.to_bytes(), &mut digits) {
-        Ok(()) => {}
-        Err(_) => unreachable!(),
-    }
-    text.extend_from_slice(&digits)?;
+    text.extend_from_slice(&account_digits(who))?;
     Ok(())
 }
 
