@@ -10,7 +10,7 @@ ghost use Rattle.npos_cli.specs.Chain.{amount_line, end_line, line_text};
 use crate::digits::account_digits;
 use crate::numbers::{tell_member, tell_verdict};
 use election_check::Verdict;
-use itoa::Buffer;
+use itoa::{Buffer, write_digits};
 use npos_base::{AccountId, NoMemory};
 use npos_runtime::{GenesisFault, Line};
 use scale_wire::fault::Why;
@@ -192,14 +192,19 @@ fn tell_forfeit(
     tell_verdict(text, verdict)
 }
 
-/// Appends the line of an account and an amount, behind some words.
+/// Appends the line of an account and an amount, behind some words. The digits of the amount are
+/// made first, since digits that were only just written are slow to read.
 fn tell_amount(text: &mut Vec<u8>, words: &str, who: AccountId, amount: u64) -> Result<(), NoMemory>
     ensures { OnOk result
         (text.new.items ≡ text.old.items ++ amount_line words.now who amount) }
 {
+    let mut ending = [b'\n'; 22];
+    let start = write_digits(amount, &mut ending, 21) - 1;
+    ending[start] = b' ';
     text.extend_from_slice(words.as_bytes())?;
     tell_account(text, who)?;
-    tell_counted(text, " ", amount, "\n")
+    text.extend_from_slice(&ending[start..])?;
+    Ok(())
 }
 
 /// Appends one line of a receipt. Each kind of line has a function, since a function clears the
