@@ -1,5 +1,5 @@
 -- No place of a replay comes near 2^64.
-use Rattle.std.proofs.Common.{inl, inr, ◌≡◌, ◌+◌, ◌*◌, ◌^◌, ◌<◌, ◌≤◌, ℕ, List, [], ◌∷◌, length, Some, subst, sym, ap, arith, length-append}
+use Rattle.std.proofs.Common.{inl, inr, ◌≡◌, ◌+◌, ◌^◌, ◌<◌, ◌≤◌, ℕ, List, [], ◌∷◌, length, Some, subst, sym, ap, arith}
 use Rattle.scale_wire.specs.Reading.{Place, IsRead}
 use Rattle.block_wire.specs.declared.block.Block.{Block}
 use Rattle.block_wire.specs.declared.genesis.Genesis.{Genesis}
