@@ -26,9 +26,14 @@ fn crowd(alloc: Global, count: u32, apart: u128) -> Result<Places, NoMemory> {
     Ok(places)
 }
 
-/// Whether the account stands at this place.
+/// Whether the account stands at this place, whatever is guessed.
 fn stands(places: &Places, place: usize, who: AccountId) -> bool {
-    place < places.count() && places.account(place) == who && places.find(who) == Some(place)
+    let found = Some(place);
+    place < places.count()
+        && places.account(place) == who
+        && places.find(who) == found
+        && places.find_from(place, who) == found
+        && places.find_from(0, who) == found
 }
 
 /// Whether so many accounts stand where they came, and the next nowhere.
@@ -38,7 +43,8 @@ fn are_found(places: &Places, count: u32, apart: u128) -> bool {
             return false;
         }
     }
-    places.find(nth(count, apart)).is_none()
+    let next = nth(count, apart);
+    places.find(next).is_none() && places.find_from(0, next).is_none()
 }
 
 #[test]

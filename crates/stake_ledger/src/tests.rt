@@ -1,5 +1,5 @@
 //! What no clause says: that the calls succeed where there is memory, and the worked chunks.
-use crate::{Book, LedgerRefusal, Totals};
+use crate::{Book, LedgerRefusal, Loss, Totals};
 use npos_base::AccountId;
 use std::alloc::Global;
 use std::test::Fail;
@@ -237,5 +237,46 @@ fn opening_mints(alloc: Global) -> Result<(u64, bool), LedgerRefusal> {
 #[test]
 fn minting_opens_a_row(rt: HostRuntime) -> Result<(), Fail> {
     assert_eq!(rt; opening_mints(rt.alloc())?, (7, true));
+    Ok(())
+}
+
+/// What is active, found by a wrong guess and then by a right one, and where the next account is
+/// guessed each time.
+fn guessed_readings(alloc: Global) -> Result<[(u64, usize); 2], LedgerRefusal> {
+    let mut book = bonded_book(alloc)?;
+    endow(&mut book, SECOND, 10)?;
+    let mut guess = 1;
+    let first = book.active_from(&mut guess, FIRST);
+    let behind = guess;
+    let second = book.active_from(&mut guess, SECOND);
+    Ok([(first, behind), (second, guess)])
+}
+
+/// What is free after 7 was minted, and what a slash of 40 and one of 100 then take, by a guess.
+fn guessed_calls(alloc: Global) -> Result<(u64, [Loss; 2]), LedgerRefusal> {
+    let mut book = bonded_book(alloc)?;
+    let guess = book.guess(FIRST);
+    book.mint_from(guess, FIRST, 7)?;
+    let losses = [
+        book.slash_from(guess, FIRST, 40),
+        book.slash_from(guess, FIRST, 100),
+    ];
+    Ok((book.free(FIRST), losses))
+}
+
+#[test]
+fn accounts_are_found_by_guesses(rt: HostRuntime) -> Result<(), Fail> {
+    assert!(rt; guessed_readings(rt.alloc())? == [(100, 1), (0, 2)]);
+    let losses = [
+        Loss {
+            burned: 40,
+            bonded: true,
+        },
+        Loss {
+            burned: 60,
+            bonded: false,
+        },
+    ];
+    assert!(rt; guessed_calls(rt.alloc())? == (7, losses));
     Ok(())
 }

@@ -1,7 +1,7 @@
 //! The walk of five accounts over three bags, each refusal of the lists, and bags of many accounts.
 ghost use Rattle.std.specs.Prelude.{◌≡◌, IfOk};
 
-use crate::{Bags, ListRefusal, Role, Roles, laws};
+use crate::{Bags, ListRefusal, Role, Roles, Standing, laws};
 use npos_base::{AccountId, List, NoMemory};
 use std::alloc::Global;
 use std::test::Fail;
@@ -91,6 +91,20 @@ fn roles_come_and_go(rt: HostRuntime) -> Result<(), Fail> {
         Ok(())
     );
     assert_eq!(rt; roles.targets_of(at(3)), [at(2), at(1)].as_slice());
+    let mut guess = 0;
+    assert!(rt;
+        matches!(
+            roles.standing_from(&mut guess, at(2)),
+            Some(Standing::Validator { commission: 7 })
+        )
+    );
+    assert!(rt;
+        matches!(
+            roles.standing_from(&mut guess, at(3)),
+            Some(Standing::Nominator(_))
+        )
+    );
+    assert_eq!(rt; guess, 3);
     assert_eq!(rt; roles.role(at(2)), Role::Validator { commission: 7 });
     assert_eq!(rt; roles.chill(at(2)), Ok(()));
     assert_eq!(rt; roles.role(at(2)), Role::Nobody);
