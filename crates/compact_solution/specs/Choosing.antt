@@ -14,7 +14,8 @@ abbrev pub AllFit : List ℕ → List Edge → Type 0
 AllFit stakes edges = All (λ edge. Fits (stake_at stakes edge.voter) edge) edges
 
 abbrev pub AllKeptFit : List ℕ → List (List Edge) → Type 0
-AllKeptFit stakes kept = (voter : ℕ) → voter < length stakes → All (Fits (stake_at stakes voter)) (kept_at kept voter)
+AllKeptFit stakes kept =
+    (voter : ℕ) → voter < length stakes → All (Fits (stake_at stakes voter)) (kept_at kept voter)
 
 abbrev pub no_choice : Choice
 no_choice = record { with_part = []; greatest = None }

@@ -1,5 +1,5 @@
--- Packing: how weights become a solution. What a voter gives is rounded down to parts of its stake, and what is too
--- little for one part is dropped.
+-- Packing: how weights become a solution. What a voter gives is rounded down to parts of its stake,
+-- and what is too little for one part is dropped.
 use Rattle.std.specs.Prelude.{ℕ, ◌+◌, ◌-◌, ◌*◌, ◌/◌, ◌<◌, ◌≤◌, ◌&&◌, Bool, not, nat_eq, nat_lt, IsTrue, if◌then◌else◌, min, List, [], ◌∷◌, length, map, filter, take, fold, sum_by, All, slice_index_or, Option, Some, None, option_to_list, Result, Ok, Err}
 use Rattle.std.specs.List.{list_any, range_with_len, IsDistinct}
 use Rattle.npos_base.specs.declared.figures.Edge.{Edge}
@@ -46,7 +46,10 @@ pub record Choice : Type 0 where
   pub greatest : Option Edge
 
 abbrev pub choice_of : ℕ → List Edge → Choice
-choice_of stake edges = record { with_part = by_target (filter (has_part stake) edges); greatest = greatest edges }
+choice_of stake edges = record {
+  with_part = by_target (filter (has_part stake) edges);
+  greatest = greatest edges;
+}
 
 -- edges with a part are kept; where none has one, the first of the greatest is
 abbrev pub chosen_from : List Edge → Option Edge → List Edge
@@ -86,12 +89,14 @@ kept_at kept voter = slice_index_or kept voter []
 
 -- the entries of those of the first voters that keep so many edges, by rising voter
 abbrev pub entries_with : List ℕ → List (List Edge) → ℕ → ℕ → List Entry
-entries_with stakes kept voters count = map (λ voter. entry_of voter (stake_at stakes voter) (kept_at kept voter))
+entries_with stakes kept voters count =
+    map (λ voter. entry_of voter (stake_at stakes voter) (kept_at kept voter))
     (filter (λ voter. nat_eq (length (kept_at kept voter)) count) (range_with_len 0 voters))
 
 -- the groups: the first has the entries with one target, the second those with two, and so on
 abbrev pub groups_of : List ℕ → List (List Edge) → ℕ → List (List Entry)
-groups_of stakes kept voters = map (λ group. entries_with stakes kept voters (group + 1)) (range_with_len 0 group_count)
+groups_of stakes kept voters =
+    map (λ group. entries_with stakes kept voters (group + 1)) (range_with_len 0 group_count)
 
 -- ## Members that are lost
 
@@ -119,14 +124,16 @@ packed_or_lost (Some member) groups = Err member
 -- the solution that the weights of these voters pack to, or the lowest member that would be lost
 abbrev pub packed : List ℕ → List ℕ → List Edge → Result (List (List Entry)) ℕ
 packed stakes committee edges =
-    packed_or_lost (lost_among (kept_of stakes edges) committee) (groups_of stakes (kept_of stakes edges) (length stakes))
+    packed_or_lost (lost_among (kept_of stakes edges) committee)
+    (groups_of stakes (kept_of stakes edges) (length stakes))
 
 -- ## What can be packed
 
 abbrev pub same_pair : Edge → Edge → Bool
 same_pair a b = nat_eq a.voter b.voter && nat_eq a.target b.target
 
--- There are at most 16,384 voters; each has at most one edge to a member, 16 in all, and gives no more than its stake.
+-- There are at most 16,384 voters; each has at most one edge to a member, 16 in all, and gives no
+-- more than its stake.
 pub record IsPackable (stakes committee : List ℕ) (edges : List Edge) : Type 0 where
   pub few_voters : length stakes ≤ most_entries
   pub voters_in_range : All (λ edge. edge.voter < length stakes) edges

@@ -1,5 +1,5 @@
--- Compact solutions, after Substrate: who backs whom with which part of its stake, in groups of entries. An entry
--- of the first group names one target, one of the second group two, and so on.
+-- Compact solutions, after Substrate: who backs whom with which part of its stake, in groups of
+-- entries. An entry of the first group names one target, one of the second group two, and so on.
 use Rattle.std.specs.Prelude.{ℕ, List, [], ◌∷◌, ◌++◌, map}
 use Rattle.std.specs.List.{flat_map}
 use Rattle.scale_wire.specs.Form.{Form}
@@ -15,8 +15,8 @@ group_count = 16
 abbrev pub most_entries : ℕ
 most_entries = 16384
 
--- A voter and its targets. Each target but the last is listed with its share, and the last one gets the rest of
--- the voter's stake.
+-- A voter and its targets. Each target but the last is listed with its share, and the last one gets
+-- the rest of the voter's stake.
 pub record Entry : Type 0 where
   pub voter : ℕ
   pub shares : List Share
@@ -42,7 +42,8 @@ share_form = seen (pair compact_u16 compact_u16) (λ share. (share.target, share
 -- an entry with this many shares: the voter, the shares and the last target
 abbrev pub entry_form : ℕ → Form Entry
 entry_form shares =
-    seen (triple compact_u32 (items share_form shares) compact_u16) (λ entry. (entry.voter, entry.shares, entry.last))
+    seen (triple compact_u32 (items share_form shares) compact_u16)
+    (λ entry. (entry.voter, entry.shares, entry.last))
 
 -- the group whose entries have this many shares
 abbrev pub group_form : ℕ → Form (List Entry)

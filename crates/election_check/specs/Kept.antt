@@ -25,7 +25,8 @@ left_of slacks snapshot target = sum_by (λ voter. slice_index_or slacks voter 0
 
 -- by what the tables say, the target is outside and has the price
 abbrev pub reaches : ℕ → List Bool → List ℕ → ℕ → Bool
-reaches price marks prescores target = not (slice_index_or marks target false) && nat_le price (slice_index_or prescores target 0)
+reaches price marks prescores target =
+    not (slice_index_or marks target false) && nat_le price (slice_index_or prescores target 0)
 
 -- the lowest such target, with its prescore
 abbrev pub reached : ℕ → List Bool → List ℕ → Option Verdict

@@ -14,7 +14,8 @@ use Rattle.election_check.specs.Packed.{expanded, expand_verdict, verdict_packed
 use Rattle.election_check.specs.Plain.{verdict_plain}
 
 abbrev pub PlainYesIsPassing : Type 0
-PlainYesIsPassing = (snapshot : Snapshot) (weights : Weights) → (verdict_plain snapshot weights ≡ Yes) ↔ Passes snapshot weights
+PlainYesIsPassing = (snapshot : Snapshot) (weights : Weights)
+    → (verdict_plain snapshot weights ≡ Yes) ↔ Passes snapshot weights
 
 -- The bytes are a solution whose expanded weights have a plain Yes and the score that is claimed, and
 -- these are the weights that are left by the verdict.
@@ -35,10 +36,13 @@ packed_of snapshot weights = packed (stakes_of snapshot.voters) weights.committe
 
 -- feasible weights that give something along each edge meet what packing asks of them
 abbrev pub FeasibleIsPackable : Type 0
-FeasibleIsPackable = (snapshot : Snapshot) (weights : Weights) → IsWellFormed snapshot → IsFeasible snapshot weights
-    → All (λ (edge : Edge). 0 < edge.amount) weights.edges → IsPackable (stakes_of snapshot.voters) weights.committee weights.edges
+FeasibleIsPackable =
+    (snapshot : Snapshot) (weights : Weights) → IsWellFormed snapshot → IsFeasible snapshot weights
+    → All (λ (edge : Edge). 0 < edge.amount) weights.edges
+    → IsPackable (stakes_of snapshot.voters) weights.committee weights.edges
 
 -- feasible weights that lose no member pack to a solution that expands to a Yes
 abbrev pub PackedExpands : Type 0
-PackedExpands = (snapshot : Snapshot) (weights : Weights) (solution : List (List Entry)) → IsWellFormed snapshot → IsFeasible snapshot weights
+PackedExpands = (snapshot : Snapshot) (weights : Weights) (solution : List (List Entry))
+    → IsWellFormed snapshot → IsFeasible snapshot weights
     → packed_of snapshot weights ≡ Ok solution → expand_verdict snapshot solution ≡ Yes

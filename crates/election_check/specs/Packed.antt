@@ -1,5 +1,5 @@
--- The verdict on a packed solution with a claimed score: the first fault of the entries in their order, then of the
--- committee's size, then of the claim, then a target that outweighs.
+-- The verdict on a packed solution with a claimed score: the first fault of the entries in their
+-- order, then of the committee's size, then of the claim, then a target that outweighs.
 use Rattle.std.specs.Prelude.{ℕ, ◌-◌, ◌*◌, ◌/◌, Bool, not, ◌&&◌, ◌||◌, nat_eq, nat_le, if◌then◌else◌, List, [], ◌∷◌, ◌++◌, length, map, filter, sum, sum_by, find, Option, Some, None, option_map, Result, Ok, Err}
 use Rattle.std.specs.List.{list_any, flat_map, range_with_len}
 use Rattle.npos_base.specs.declared.figures.Score.{Score}
@@ -65,18 +65,21 @@ first_repeat before (target ∷ targets) =
 
 -- Each of these is looked for among all targets of an entry.
 abbrev pub unknown_target : Snapshot → Entry → Option Verdict
-unknown_target snapshot entry = option_map NoTarget (find (λ target. nat_le (length snapshot.targets) target) (targets_of entry))
+unknown_target snapshot entry =
+    option_map NoTarget (find (λ target. nat_le (length snapshot.targets) target) (targets_of entry))
 
 abbrev pub repeated_target : Entry → Option Verdict
 repeated_target entry = option_map TargetTwice (first_repeat [] (targets_of entry))
 
 abbrev pub unnominated_target : Snapshot → Entry → Option Verdict
 unnominated_target snapshot entry =
-    option_map (NotNominated entry.voter) (find (λ target. not (nominates snapshot entry.voter target)) (targets_of entry))
+    option_map (NotNominated entry.voter)
+    (find (λ target. not (nominates snapshot entry.voter target)) (targets_of entry))
 
 -- a share is nothing, or the shares leave nothing for the last target
 abbrev pub has_bad_share : Entry → Bool
-has_bad_share entry = list_any (λ parts. nat_eq parts 0) (parts_of entry) || nat_le whole_stake (sum (parts_of entry))
+has_bad_share entry =
+    list_any (λ parts. nat_eq parts 0) (parts_of entry) || nat_le whole_stake (sum (parts_of entry))
 
 -- the first fault of an entry, whose voter stands in an earlier one or not
 abbrev pub entry_fault : Snapshot → Bool → Entry → Option Verdict

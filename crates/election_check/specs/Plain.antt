@@ -1,5 +1,5 @@
--- The verdict on plain weights: the first fault of the members in their order, then of the edges in theirs, then of the
--- voters' spending, then of the committee's size, then a target that outweighs.
+-- The verdict on plain weights: the first fault of the members in their order, then of the edges in
+-- theirs, then of the voters' spending, then of the committee's size, then a target that outweighs.
 use Rattle.std.specs.Prelude.{ℕ, Bool, not, nat_lt, nat_le, List, [], ◌∷◌, ◌++◌, length, Option, None, option_map, find}
 use Rattle.std.specs.List.{list_any, range_with_len}
 use Rattle.npos_base.specs.declared.figures.Edge.{Edge}
@@ -45,7 +45,8 @@ overspends snapshot edges voter = nat_lt (stake_of snapshot voter) (spent edges 
 
 -- the lowest voter that gives more than its stake
 abbrev pub overspent : Snapshot → List Edge → Option Verdict
-overspent snapshot edges = option_map Overspent (find (overspends snapshot edges) (range_with_len 0 (length snapshot.voters)))
+overspent snapshot edges =
+    option_map Overspent (find (overspends snapshot edges) (range_with_len 0 (length snapshot.voters)))
 
 abbrev pub plain_fault : Snapshot → Weights → Option Verdict
 plain_fault snapshot weights = first_of (

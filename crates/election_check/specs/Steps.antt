@@ -10,7 +10,8 @@ use Rattle.election_check.specs.First.{when}
 
 -- there is not one member for each seat
 abbrev pub size_fault : Snapshot → Weights → Option Verdict
-size_fault snapshot weights = when (not (nat_eq (length weights.committee) snapshot.seats)) (WrongSize (length weights.committee))
+size_fault snapshot weights =
+    when (not (nat_eq (length weights.committee) snapshot.seats)) (WrongSize (length weights.committee))
 
 -- what a voter has left, and the prescore, at the price of a seat
 abbrev pub slack_of : Snapshot → Weights → ℕ → ℕ
@@ -21,7 +22,8 @@ prescore_of snapshot weights target = prescore (threshold snapshot) snapshot wei
 
 -- a target outside whose nominators have the price of a seat left
 abbrev pub outweighs : Snapshot → Weights → ℕ → Bool
-outweighs snapshot weights target = not (has weights.committee target) && nat_le (threshold snapshot) (prescore_of snapshot weights target)
+outweighs snapshot weights target =
+    not (has weights.committee target) && nat_le (threshold snapshot) (prescore_of snapshot weights target)
 
 -- the lowest such target, with its prescore
 abbrev pub outweighed : Snapshot → Weights → Option Verdict

@@ -2,8 +2,8 @@
 //! dozen accounts can reach; one wants 2,049 validators.
 use era_book::EraRefusal;
 use npos_runtime::Refusal;
-use std::test::Fail;
 use stake_ledger::LedgerRefusal;
+use std::test::Fail;
 use voter_lists::ListRefusal;
 
 /// What the books refuse, from the number 1 on.

@@ -297,8 +297,8 @@ impl Book {
         Ok(())
     }
 
-    /// A guess of where the account stands, for a call that takes one. It is right where the account
-    /// is known, and nothing rests on it.
+    /// A guess of where the account stands, for a call that takes one. It is right where the
+    /// account is known, and nothing rests on it.
     pub fn guess(&self, who: AccountId) -> usize {
         self.rows.guess(who)
     }
