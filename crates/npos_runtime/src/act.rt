@@ -1,5 +1,5 @@
 //! The kinds of call, one function each.
-ghost use Rattle.std.specs.Prelude.{◌≡◌, ◌+◌, ◌<◌, ◌^◌, ◌++◌, Err, None, Some, OnOk, IfErr};
+ghost use Rattle.std.specs.Prelude.{◌≡◌, ◌+◌, ◌<◌, ◌^◌, ◌++◌, Err, None, Some, OnOk, IfOk, IfErr};
 ghost use Rattle.npos_runtime.specs.Outcome.{Meets, Untold};
 ghost use Rattle.npos_runtime.specs.Live.{IsLive, IsJoined};
 ghost use Rattle.npos_runtime.specs.Ballots.{active_of};
@@ -108,18 +108,21 @@ fn withdraw(chain: &mut Chain, who: AccountId) -> Result<(), Stop>
     Ok(())
 }
 
-/// Whether the account may take a role.
-fn check_role(chain: &Chain, who: AccountId) -> Result<(), LedgerRefusal>
+/// What the account has active, where it may take a role.
+fn check_role(chain: &Chain, who: AccountId) -> Result<u64, LedgerRefusal>
     ensures ok { OnOk result (role_refusal chain.now who ≡ None) }
+    ensures active { IfOk result (λ active. active ≡ active_of chain.now who) }
     ensures refused { IfErr result (λ refusal. role_refusal chain.now who ≡ Some refusal) }
 {
-    if !chain.book.bonded(who) {
+    let active = chain.book.active(who);
+    // Who has something active is bonded, and is not looked for again.
+    if active == 0 && !chain.book.bonded(who) {
         return Err(LedgerRefusal::NotBonded);
     }
-    if chain.book.active(who) < least_bond_of(&chain.params) {
+    if active < least_bond_of(&chain.params) {
         return Err(LedgerRefusal::BelowMinimum);
     }
-    Ok(())
+    Ok(active)
 }
 
 /// A listed account leaves.
@@ -132,17 +135,15 @@ fn unlist(bags: &mut Bags, who: AccountId, listed: bool)
     }
 }
 
-/// The account goes to the tail of the bag of its active stake, and leaves its old place first,
-/// where it has one.
+/// The account goes to the tail of the bag of its score, and leaves its old place first, where it
+/// has one.
 #[tactic(auto, using(crate::proofs::ListLemmas::nowhere_unlisted))]
-fn list_anew(chain: &mut Chain, who: AccountId, listed: bool) -> Result<(), NoMemory>
-    requires { is_listed chain.old.bags.order who ≡ listed }
-    ensures { OnOk result (chain.new
-        ≡ record chain.old { bags = listed_anew chain.old.bags who (active_of chain.old who) }) }
+fn list_anew(bags: &mut Bags, who: AccountId, score: u64, listed: bool) -> Result<(), NoMemory>
+    requires { is_listed bags.old.order who ≡ listed }
+    ensures { OnOk result (bags.new ≡ listed_anew bags.old who score) }
 {
-    let score = chain.book.active(who);
-    unlist(&mut chain.bags, who, listed);
-    chain.bags.insert(who, score)
+    unlist(bags, who, listed);
+    bags.insert(who, score)
 }
 
 #[tactic(auto, using(crate::proofs::ListLemmas::role_listed))]
@@ -151,11 +152,11 @@ fn nominate(chain: &mut Chain, who: AccountId, targets: List<AccountId>) -> Resu
     ensures { Meets (nominate_refusal chain.old who targets)
         (nominate_done chain.old who targets) chain.old chain.new result }
 {
-    check_role(chain, who)?;
+    let active = check_role(chain, who)?;
     let before = chain.roles.role(who);
     chain.roles.nominate(who, targets)?;
     if !matches!(before, Role::Nominator) {
-        list_anew(chain, who, is_role(before))?;
+        list_anew(&mut chain.bags, who, active, is_role(before))?;
     }
     Ok(())
 }
@@ -166,11 +167,11 @@ fn validate(chain: &mut Chain, who: AccountId, commission: u32) -> Result<(), St
     ensures { Meets (validate_refusal chain.old who commission)
         (validate_done chain.old who commission) chain.old chain.new result }
 {
-    check_role(chain, who)?;
+    let active = check_role(chain, who)?;
     let before = chain.roles.role(who);
     chain.roles.validate(who, commission)?;
     if !matches!(before, Role::Validator { .. }) {
-        list_anew(chain, who, is_role(before))?;
+        list_anew(&mut chain.bags, who, active, is_role(before))?;
     }
     Ok(())
 }
