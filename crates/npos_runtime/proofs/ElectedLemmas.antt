@@ -1,6 +1,6 @@
 -- A committee in rising order follows its snapshot as its weights do, and exposes no account beyond
 -- the stake with which it voted.
-use Rattle.std.proofs.Common.{◌≡◌, ◌⊎◌, inl, inr, ℕ, zero, suc, ◌+◌, ◌<◌, ◌≤◌, Bool, true, false, cond, ◌||◌, IsTrue, nat_eq, All, List, [], ◌∷◌, length, map, filter, sum_by, get_or, Option, Some, None, refl, ap, sym, subst, ◌∙◌, true≢false, arith}
+use Rattle.std.proofs.Common.{◌≡◌, ◌⊎◌, inl, inr, ℕ, zero, suc, ◌+◌, ◌<◌, ◌≤◌, Bool, true, false, cond, ◌||◌, nat_eq, All, List, [], ◌∷◌, length, filter, sum_by, get_or, refl, ap, sym, subst, ◌∙◌, true≢false, arith}
 use Rattle.std.specs.List.{range_with_len, IsDistinct, AllByRecursion}
 use Rattle.std.proofs.lemmas.Bool.Decides.{nat_tests}
 use Rattle.std.proofs.lemmas.List.Elements.{All-nil, All-cons, All-head, All-tail, All-weaker}
@@ -13,14 +13,14 @@ use Rattle.election_snapshot.specs.Snapshot.{Voter, Snapshot, IsWellFormed, has,
 use Rattle.election_snapshot.specs.Draft.{accounts_of}
 use Rattle.weight_book.specs.Weights.{Weights, Follows, spent}
 use Rattle.era_book.specs.Exposures.{IsSound, AreSound, exposed_for}
-use Rattle.era_book.specs.Committee.{account_at, spent_by, IsElected}
+use Rattle.era_book.specs.Committee.{account_at, spent_by}
 use Rattle.era_book.proofs.CommitteeLemmas.{filter_sum, spent_law}
 use Rattle.era_book.proofs.BackerLemmas.{apart_at}
 use Rattle.era_book.proofs.SoundLemmas.{sound_law, order_law}
 use Rattle.npos_runtime.specs.Committee.{Committee}
 use Rattle.npos_runtime.specs.Decision.{rising}
-use Rattle.npos_runtime.specs.Exposed.{voters_in, supports_in, edges_in, exposures_of, exposed}
-use Rattle.npos_runtime.specs.Live.{AreNoted, IsNotedCommittee}
+use Rattle.npos_runtime.specs.Exposed.{voters_in, supports_in, edges_in, exposures_of}
+use Rattle.npos_runtime.specs.Live.{AreNoted}
 use Rattle.npos_runtime.specs.EraLaws.{stake_in}
 use Rattle.npos_runtime.proofs.ExposureLemmas.{has_below, same_length, elected_by}
 

@@ -1,8 +1,7 @@
 -- What eras come to over blocks: payouts within the reward, and slashes within the stake.
-use Rattle.std.proofs.Common.{◌≡◌, ◌≢◌, ℕ, zero, suc, ◌+◌, ◌-◌, ◌<◌, ◌≤◌, ◌^◌, min, Bool, true, false, cond, not, ◌==◌, nat_eq, nat_lt, All, List, [], ◌∷◌, ◌++◌, length, map, filter, sum_by, slice_get, unwrap_or, Option, Some, None, refl, ap, sym, subst, ◌∙◌, arith, if◌then◌else◌}
+use Rattle.std.proofs.Common.{◌≡◌, ◌≢◌, ℕ, zero, suc, ◌+◌, ◌-◌, ◌<◌, ◌≤◌, min, Bool, true, false, cond, not, ◌==◌, nat_eq, nat_lt, List, [], ◌∷◌, ◌++◌, map, sum_by, slice_get, unwrap_or, Option, Some, None, refl, ap, sym, subst, ◌∙◌, arith, if◌then◌else◌}
 use Rattle.std.specs.List.{IsDistinct}
 use Rattle.std.proofs.lemmas.Bool.Decides.{nat_tests}
-use Rattle.std.proofs.lemmas.List.{append-nil, append_assoc, length-append}
 use Rattle.std.proofs.lemmas.List.Sums.{sum_by-cons, sum_by-append}
 use Rattle.std.proofs.lemmas.List.Elements.{All-nil}
 use Rattle.npos_base.specs.declared.account.AccountId.{AccountId}
@@ -29,12 +28,11 @@ use Rattle.era_book.specs.declared.exposure.Backer.{Backer}
 use Rattle.era_book.specs.declared.exposure.Exposure.{Exposure}
 use Rattle.era_book.specs.Exposures.{amount_sum, amount_for, exposed_for}
 use Rattle.era_book.specs.Calls.{slash_in}
-use Rattle.era_book.specs.Eras.{Eras, first_era}
-use Rattle.era_book.specs.Events.{Event, Paid, AreAccepted, after_all, given_by, pays, makes_due, begun, exposures_of}
+use Rattle.era_book.specs.Eras.{first_era}
+use Rattle.era_book.specs.Events.{Event, Paid, AreAccepted, after_all, given_by, pays, makes_due, exposures_of}
 use Rattle.era_book.proofs.EventLemmas.{accepted_append, after_append, given_append}
 use Rattle.era_book.proofs.LawLemmas.{reward_law, due_law, for_sum}
 use Rattle.npos_runtime.specs.declared.chain.Chain.{Chain}
-use Rattle.npos_runtime.specs.declared.line.Line.{Line}
 use Rattle.npos_runtime.specs.declared.line.Line.TheVariants as lines
 use Rattle.npos_runtime.specs.declared.refusal.Refusal.{Refusal}
 use Rattle.npos_runtime.specs.Rules.{era_of, era_reward_of}
@@ -42,18 +40,18 @@ use Rattle.npos_runtime.specs.Refusals.{code_of}
 use Rattle.npos_runtime.specs.Outcome.{Election}
 use Rattle.npos_runtime.specs.Offices.{payout_now, all_minted, paid_line, payout_told, slash_told, slashed_once, slashes, offence_told}
 use Rattle.npos_runtime.specs.Calls.{refusal_of, done_of, told_of}
-use Rattle.npos_runtime.specs.Step.{call_after, call_outcome, calls_outcome, step, after_blocks, seated_by}
-use Rattle.npos_runtime.specs.Genesis.{params_fault, params_of, genesis_fault, genesis_chain}
+use Rattle.npos_runtime.specs.Step.{call_after, call_outcome, step, after_blocks, seated_by}
+use Rattle.npos_runtime.specs.Genesis.{params_of, genesis_fault, genesis_chain}
 use Rattle.npos_runtime.specs.Live.{IsLive}
 use Rattle.npos_runtime.specs.Offers.{before_calls}
 use Rattle.npos_runtime.specs.Laws.{FitsBehind}
-use Rattle.npos_runtime.specs.EraLaws.{event_of_kind, event_of, events_of, events_in, events_by, HistoryLaw, over_calls, over_blocks, amount_paid, told_paid, paid_for, paid_by, paid_in, RewardLaw, chain_at, IsPaidOut, PayoutLaw, bonded, IsTaken, AreTaken, SlashLaw, amount_taken, told_taken, taken_for, taken_by, taken_in, due_of_kind, due_of, due_by, due_in, TakenLaw, OnceLaw, elected_for, stake_behind, DueLaw}
-use Rattle.npos_runtime.proofs.LiveLemmas.{same_or_not, slashed_live, live_before, live_calls, live_blocks, fixed_calls, params_before}
+use Rattle.npos_runtime.specs.EraLaws.{event_of_kind, event_of, events_in, events_by, HistoryLaw, over_calls, over_blocks, amount_paid, told_paid, paid_for, paid_by, paid_in, RewardLaw, chain_at, PayoutLaw, bonded, IsTaken, AreTaken, SlashLaw, amount_taken, told_taken, taken_for, taken_by, due_of_kind, due_of, due_by, due_in, TakenLaw, OnceLaw, elected_for, stake_behind, DueLaw}
+use Rattle.npos_runtime.proofs.LiveLemmas.{slashed_live, live_before, live_calls, live_blocks}
 use Rattle.npos_runtime.proofs.BeginLemmas.{live_begun}
 use Rattle.npos_runtime.proofs.OfficeLemmas.{payout_sums}
 use Rattle.npos_runtime.proofs.EraLemmas.{era_first}
-use Rattle.npos_runtime.proofs.HistoryLemmas.{payout_free, accepted_block, accepted_plain, eras_block, sum_blocks, params_step}
-use Rattle.npos_runtime.proofs.SeatedLemmas.{same_round, waiting_sound}
+use Rattle.npos_runtime.proofs.HistoryLemmas.{payout_free, accepted_plain, eras_block, sum_blocks, params_step}
+use Rattle.npos_runtime.proofs.SeatedLemmas.{same_round}
 use Rattle.npos_runtime.proofs.StoryLemmas.{IsStory, story_blocks, story_accepted, plain_seated, plain_begun}
 
 -- ## What payouts tell

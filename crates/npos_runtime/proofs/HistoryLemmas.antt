@@ -12,7 +12,7 @@ use Rattle.era_book.specs.declared.exposure.Exposure.{Exposure}
 use Rattle.era_book.specs.Exposures.{AreSound}
 use Rattle.era_book.specs.Calls.{points_refusal as era_points_refusal, payout_refusal as era_payout_refusal, slash_refusal}
 use Rattle.era_book.specs.Eras.{Eras}
-use Rattle.era_book.specs.Events.{Event, Started, Pointed, Paid, Reported, AreAccepted, after_all, given_by, begun}
+use Rattle.era_book.specs.Events.{Event, Started, AreAccepted, after_all, given_by, begun}
 use Rattle.era_book.proofs.EventLemmas.{accepted_append, after_append, given_append, begun_append}
 use Rattle.npos_runtime.specs.declared.chain.Chain.{Chain}
 use Rattle.npos_runtime.specs.declared.refusal.Refusal.{Refusal}
@@ -22,7 +22,7 @@ use Rattle.npos_runtime.specs.Exposed.{exposed}
 use Rattle.npos_runtime.specs.Rules.{begun_era}
 use Rattle.npos_runtime.specs.Offices.{is_root, points_refusal, payout_refusal, payout_now, offence_refusal}
 use Rattle.npos_runtime.specs.Calls.{refusal_of, done_of}
-use Rattle.npos_runtime.specs.Step.{eras_after, era_phase, call_after, call_outcome, calls_outcome, step, after_blocks}
+use Rattle.npos_runtime.specs.Step.{eras_after, call_after, call_outcome, calls_outcome, step}
 use Rattle.npos_runtime.specs.Offers.{before_calls}
 use Rattle.npos_runtime.specs.EraLaws.{started_by, event_of_kind, event_of, events_of, events_in, events_by, over_calls, over_blocks}
 use Rattle.npos_runtime.proofs.LiveLemmas.{eras_before, fixed_calls, params_before}

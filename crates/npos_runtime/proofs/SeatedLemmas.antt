@@ -1,23 +1,22 @@
 -- Through the phases of a block: when a round is open, who waits, and for which eras committees
 -- were seated.
-use Rattle.std.proofs.Common.{◌≡◌, ◌⊎◌, inl, inr, ℕ, zero, suc, ◌+◌, ◌-◌, ◌<◌, ◌≤◌, ◌^◌, Bool, true, false, cond, ◌==◌, ◌||◌, nat_eq, All, List, [], ◌∷◌, ◌++◌, length, find, Option, Some, None, refl, ap, sym, subst, ◌∙◌, arith, if◌then◌else◌}
+use Rattle.std.proofs.Common.{◌≡◌, ◌⊎◌, inl, inr, ℕ, ◌+◌, ◌-◌, ◌<◌, ◌≤◌, Bool, true, false, cond, ◌==◌, ◌||◌, All, List, [], ◌∷◌, ◌++◌, Option, Some, None, refl, ap, sym, subst, ◌∙◌, arith, if◌then◌else◌}
 use Rattle.std.specs.Option.{option_or}
 use Rattle.std.specs.List.{IsDistinct, AllByRecursion}
 use Rattle.std.proofs.lemmas.Bool.Decides.{nat_tests}
-use Rattle.std.proofs.lemmas.List.{append-nil, append_assoc}
+use Rattle.std.proofs.lemmas.List.{append-nil}
 use Rattle.std.proofs.lemmas.List.Folds.{find-append}
-use Rattle.std.proofs.lemmas.List.Elements.{All-nil, All-cons, All-head, All-tail, All-append, All-weaker}
+use Rattle.std.proofs.lemmas.List.Elements.{All-nil, All-cons, All-head, All-tail, All-append}
 use Rattle.npos_base.specs.declared.account.AccountId.{AccountId}
 use Rattle.block_wire.specs.declared.genesis.Params.{Params}
 use Rattle.block_wire.specs.declared.call.Call.{Call}
 use Rattle.block_wire.specs.declared.call.CallKind.{CallKind}
 use Rattle.block_wire.specs.declared.call.CallKind.TheVariants as kinds
 use Rattle.block_wire.specs.declared.block.Block.{Block}
-use Rattle.election_snapshot.specs.Snapshot.{Snapshot, IsWellFormed}
+use Rattle.election_snapshot.specs.Snapshot.{IsWellFormed}
 use Rattle.election_check.specs.Laws.{PackedYesIsAccepting, PlainYesIsPassing}
 use Rattle.quota_fill.specs.Laws.{EveryFillPasses}
 use Rattle.era_book.specs.Exposures.{AreSound as AreSoundExposures, exposed_for}
-use Rattle.era_book.specs.Eras.{Eras}
 use Rattle.npos_runtime.specs.declared.chain.Chain.{Chain}
 use Rattle.npos_runtime.specs.declared.refusal.Refusal.{Refusal}
 use Rattle.npos_runtime.specs.declared.round.Round.{Round}

@@ -1,10 +1,8 @@
 -- The eras, the elections and the events of blocks together, from a genesis on.
-use Rattle.std.proofs.Common.{◌≡◌, ℕ, zero, suc, ◌+◌, ◌-◌, ◌<◌, ◌≤◌, ◌^◌, Bool, true, false, cond, ◌==◌, All, List, [], ◌∷◌, ◌++◌, length, slice_get, unwrap_or, find, Option, Some, None, refl, ap, sym, subst, ◌∙◌, arith, if◌then◌else◌}
+use Rattle.std.proofs.Common.{◌≡◌, ℕ, zero, suc, ◌+◌, ◌-◌, ◌≤◌, ◌^◌, ◌==◌, List, [], ◌∷◌, ◌++◌, length, slice_get, unwrap_or, Option, Some, None, refl, ap, sym, subst, ◌∙◌, arith, if◌then◌else◌}
 use Rattle.std.specs.Option.{option_or}
-use Rattle.std.specs.List.{IsDistinct}
 use Rattle.std.proofs.lemmas.List.{append-nil, append_assoc, length-append}
 use Rattle.std.proofs.lemmas.List.Folds.{find-append}
-use Rattle.std.proofs.lemmas.List.Elements.{All-nil}
 use Rattle.npos_base.specs.declared.account.AccountId.{AccountId}
 use Rattle.block_wire.specs.declared.genesis.Params.{Params}
 use Rattle.block_wire.specs.declared.block.Block.{Block}
@@ -13,7 +11,7 @@ use Rattle.quota_fill.specs.Laws.{EveryFillPasses}
 use Rattle.era_book.specs.declared.exposure.Exposure.{Exposure}
 use Rattle.era_book.specs.Exposures.{exposed_for}
 use Rattle.era_book.specs.Eras.{Eras, first_era}
-use Rattle.era_book.specs.Events.{Event, Started, AreAccepted, after_all, begun, exposures_of}
+use Rattle.era_book.specs.Events.{Event, AreAccepted, after_all, begun}
 use Rattle.era_book.proofs.EventLemmas.{accepted_append, after_append, begun_append}
 use Rattle.npos_runtime.specs.declared.chain.Chain.{Chain}
 use Rattle.npos_runtime.specs.Committee.{Committee}
@@ -21,7 +19,7 @@ use Rattle.npos_runtime.specs.Exposed.{exposed}
 use Rattle.npos_runtime.specs.Rules.{era_of, begun_era, is_decision}
 use Rattle.npos_runtime.specs.Decision.{decision_of}
 use Rattle.npos_runtime.specs.Outcome.{Election, quiet}
-use Rattle.npos_runtime.specs.Step.{eras_after, step, after_blocks, seated_by, calls_outcome}
+use Rattle.npos_runtime.specs.Step.{eras_after, step, after_blocks, seated_by}
 use Rattle.npos_runtime.specs.Genesis.{params_fault}
 use Rattle.npos_runtime.specs.Live.{IsLive}
 use Rattle.npos_runtime.specs.Offers.{before_calls}
@@ -29,7 +27,7 @@ use Rattle.npos_runtime.specs.EraLaws.{started_by, events_in, events_by, elected
 use Rattle.npos_runtime.proofs.LiveLemmas.{live_step, due_step, era_step, fixed_calls, eras_before}
 use Rattle.npos_runtime.proofs.LawLemmas.{undecided, seats_step}
 use Rattle.npos_runtime.proofs.HistoryLemmas.{accepted_block, eras_block, begun_block, params_step}
-use Rattle.npos_runtime.proofs.SeatedLemmas.{IsBetween, seated_step, waiting_sound, waiting_within, same_round}
+use Rattle.npos_runtime.proofs.SeatedLemmas.{IsBetween, seated_step, waiting_sound, waiting_within}
 
 -- ## What is exposed in each era
 
