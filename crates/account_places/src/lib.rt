@@ -4,7 +4,5 @@
 
 mod index;
 mod places;
-#[cfg(test)]
-mod tests;
 
 pub use places::Places;

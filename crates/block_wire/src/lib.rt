@@ -11,8 +11,6 @@ mod genesis;
 pub mod laws;
 mod limits;
 mod stream;
-#[cfg(test)]
-mod tests;
 mod writing;
 
 pub use block::Block;

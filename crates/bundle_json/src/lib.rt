@@ -7,8 +7,6 @@ mod item;
 pub mod laws;
 mod limits;
 mod parts;
-#[cfg(test)]
-mod tests;
 mod voter;
 mod work;
 

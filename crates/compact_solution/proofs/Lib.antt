@@ -3,4 +3,3 @@ pub mod Writers
 pub mod PackLemmas
 pub mod GroupLemmas
 pub mod FitLemmas
-pub mod PackTests

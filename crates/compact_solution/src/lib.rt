@@ -8,8 +8,6 @@ mod listing;
 mod packing;
 mod reading;
 mod solution;
-#[cfg(test)]
-mod tests;
 mod writing;
 
 pub use entry::{Entry, GROUPS, Share};

@@ -16,7 +16,3 @@ pub use checker::Checker;
 pub use elected::Elected;
 pub use verdict::Verdict;
 
-#[cfg(test)]
-mod packed_tests;
-#[cfg(test)]
-mod tests;

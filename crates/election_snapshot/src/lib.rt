@@ -13,5 +13,3 @@ pub use fault::SnapshotFault;
 pub use parts::SnapshotParts;
 pub use snapshot::Snapshot;
 
-#[cfg(test)]
-mod tests;

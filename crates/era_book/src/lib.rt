@@ -23,5 +23,3 @@ pub use exposure::{Backer, Exposure};
 pub use payout::Payout;
 pub use refusal::EraRefusal;
 
-#[cfg(test)]
-mod tests;

@@ -29,5 +29,3 @@ pub use plain::{PlainSink, PlainSource};
 pub use room::Room;
 pub use standard::{ReadSource, StdinSource, StdoutSink, WriteSink};
 
-#[cfg(test)]
-mod tests;

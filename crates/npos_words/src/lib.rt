@@ -10,5 +10,3 @@ mod words;
 pub use command::{Command, Miner};
 pub use words::command_of;
 
-#[cfg(test)]
-mod tests;

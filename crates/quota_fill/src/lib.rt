@@ -9,5 +9,3 @@ mod race;
 
 pub use filling::fill;
 
-#[cfg(test)]
-mod tests;

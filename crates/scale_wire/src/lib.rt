@@ -5,14 +5,10 @@ mod compact;
 mod cursor;
 pub mod fault;
 pub mod laws;
-#[cfg(test)]
-mod part_tests;
 mod pen;
 mod up_to;
 mod values;
 mod wire;
-#[cfg(test)]
-mod wire_tests;
 
 pub use cursor::Cursor;
 pub use pen::Pen;

@@ -9,5 +9,3 @@ mod splitting;
 
 pub use mining::mine_seq;
 
-#[cfg(test)]
-mod tests;

@@ -10,8 +10,6 @@ mod parts;
 mod refusal;
 mod row;
 mod rows;
-#[cfg(test)]
-mod tests;
 mod totals;
 
 pub use book::{Book, Loss};

@@ -10,5 +10,3 @@ mod submission;
 pub use queue::Queue;
 pub use submission::{NotBetter, Submission};
 
-#[cfg(test)]
-mod tests;

@@ -12,5 +12,3 @@ mod turn;
 pub use backing::Backing;
 pub use balancing::balance;
 
-#[cfg(test)]
-mod tests;

@@ -19,5 +19,3 @@ pub use roles::Roles;
 pub use standing::{Role, Standing};
 pub use walk::Walk;
 
-#[cfg(test)]
-mod tests;

@@ -7,5 +7,3 @@ mod weights;
 
 pub use weights::Weights;
 
-#[cfg(test)]
-mod tests;

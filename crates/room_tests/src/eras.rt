@@ -1,0 +1,286 @@
+//! The worked payout and the worked slashes, each refusal, and the eras that go. Expected answers
+//! are the rules', by hand.
+ghost use Rattle.std.specs.Prelude.{◌≡◌, IfOk};
+ghost use Rattle.era_book.specs.Exposures.{AreSound};
+
+use era_book::{Backer, EraBook, EraRefusal, Exposure, exposures_of, laws};
+use npos_base::{AccountId, Edge, List, NoMemory};
+use std::alloc::Global;
+use std::fmt::Write;
+use std::test::Fail;
+
+/// Claims in turn, each an era, a validator and what is told where the reward is 1000.
+const CLAIMS: [(u32, u8, &str); 6] = [
+    (1, 1, "1 256, 2 171, 427"),
+    (1, 1, "refused 24"),
+    (3, 9, "refused 21"),
+    (2, 9, "refused 22"),
+    (1, 9, "refused 23"),
+    (1, 5, "refused 26"),
+];
+
+/// Reports in turn, each an era, a validator, a fraction and what is told.
+const REPORTS: [(u32, u8, u32, &str); 9] = [
+    (1, 3, 100_000_000, "4 5, "),
+    (1, 3, 250_000_000, "4 8, "),
+    (1, 3, 200_000_000, "refused 25"),
+    (1, 3, 250_000_000, "refused 25"),
+    (1, 1, 1_000_000_000, "1 50, 2 40, "),
+    (9, 9, 0, "refused 15"),
+    (9, 9, 1_000_000_001, "refused 15"),
+    (9, 9, 1, "refused 21"),
+    (2, 3, 1, "refused 23"),
+];
+
+/// The account of 31 bytes 0 and this one.
+const fn at(n: u8) -> AccountId
+    ensures { result ≡ record { hi = 0; lo = n } }
+{
+    AccountId {
+        hi: 0,
+        lo: n as u128,
+    }
+}
+
+fn number(refusal: EraRefusal) -> u32 {
+    match refusal {
+        EraRefusal::BadFraction => 15,
+        EraRefusal::UnknownEra => 21,
+        EraRefusal::EraNotOver => 22,
+        EraRefusal::NotExposed => 23,
+        EraRefusal::AlreadyClaimed => 24,
+        EraRefusal::NotGreater => 25,
+        EraRefusal::NoPoints => 26,
+        EraRefusal::NoMemory => 0,
+    }
+}
+
+fn exposure(
+    alloc: Global,
+    n: u8,
+    commission: u32,
+    support: u64,
+    backers: &[Backer],
+) -> Result<Exposure, NoMemory>
+    ensures { IfOk result (λ exposure. exposure ≡ record {
+      validator = record { hi = 0; lo = n };
+      commission = commission;
+      support = support;
+      backers = backers.now;
+    }) }
+{
+    Ok(Exposure {
+        validator: at(n),
+        commission,
+        support,
+        backers: List::from_vec(Vec::from_slice(alloc, backers)?),
+    })
+}
+
+/// What the account backs a validator with.
+const fn backer(n: u8, amount: u64) -> Backer
+    ensures { result ≡ record { who = record { hi = 0; lo = n }; amount = amount } }
+{
+    Backer { who: at(n), amount }
+}
+
+/// Three validators: with two backers, one of them itself; with another; and with none.
+fn three(alloc: Global) -> Result<List<Exposure>, NoMemory>
+    ensures { IfOk result AreSound }
+{
+    let first = exposure(alloc, 1, 100_000_000, 90, &[backer(1, 50), backer(2, 40)])?;
+    let second = exposure(alloc, 3, 0, 55, &[backer(4, 55)])?;
+    let third = exposure(alloc, 5, 500_000_000, 0, &[])?;
+    Ok(List::from_vec(vec![in alloc; first, second, third]?))
+}
+
+/// The next era begins without an exposure.
+fn start_empty(alloc: Global, book: &mut EraBook) -> Result<(), Fail> {
+    if book.current() < 1000 {
+        book.start_era(List::new(alloc))?;
+    }
+    Ok(())
+}
+
+/// A book at era 2, where three validators were exposed in era 1 and got these points.
+fn two_eras(alloc: Global, points: &[(AccountId, u32)]) -> Result<EraBook, Fail> {
+    let mut book = EraBook::new(alloc);
+    book.start_era(three(alloc)?)?;
+    book.add_points(points)?;
+    start_empty(alloc, &mut book)?;
+    Ok(book)
+}
+
+/// Claims a validator's part of an era, and tells what is paid or the number of the refusal.
+fn claimed(alloc: Global, book: &mut EraBook, era: u32, n: u8) -> Result<String, Fail> {
+    let mut text = String::new(alloc);
+    match book.payout_list(alloc, era, at(n), 1000) {
+        Ok(payout) => {
+            book.mark_paid(era, at(n));
+            for line in payout.lines.as_slice() {
+                write!(text, "{} {}, ", line.who.lo, line.amount)?;
+            }
+            write!(text, "{}", payout.total)?;
+        }
+        Err(refusal) => write!(text, "refused {}", number(refusal))?,
+    }
+    Ok(text)
+}
+
+/// Reports a fraction, and tells what is due or the number of the refusal.
+fn reported(
+    alloc: Global,
+    book: &mut EraBook,
+    era: u32,
+    n: u8,
+    fraction: u32,
+) -> Result<String, Fail> {
+    let mut text = String::new(alloc);
+    match book.slash_list(alloc, era, at(n), fraction) {
+        Ok(lines) => {
+            book.mark_slashed(era, at(n), fraction);
+            for line in lines.as_slice() {
+                write!(text, "{} {}, ", line.who.lo, line.amount)?;
+            }
+        }
+        Err(refusal) => write!(text, "refused {}", number(refusal))?,
+    }
+    Ok(text)
+}
+
+#[test]
+fn validators_are_paid_once(rt: HostRuntime) -> Result<(), Fail> {
+    let alloc = rt.alloc();
+    let mut book = two_eras(alloc, &[(at(1), 3), (at(3), 4)])?;
+    for (era, n, told) in CLAIMS {
+        assert_eq!(rt; claimed(alloc, &mut book, era, n)?.as_str(), told);
+    }
+    assert_eq!(rt; book.add_points(&[]), Ok(()));
+    assert_eq!(rt; book.add_points(&[(at(1), 3)]), Err(EraRefusal::NotExposed));
+    Ok(())
+}
+
+#[test]
+fn only_what_is_more_is_due(rt: HostRuntime) -> Result<(), Fail> {
+    let alloc = rt.alloc();
+    let mut book = two_eras(alloc, &[])?;
+    for (era, n, fraction, told) in REPORTS {
+        assert_eq!(rt;
+            reported(alloc, &mut book, era, n, fraction)?.as_str(),
+            told
+        );
+    }
+    Ok(())
+}
+
+#[test]
+fn eighty_four_eras_stay(rt: HostRuntime) -> Result<(), Fail> {
+    let alloc = rt.alloc();
+    let mut book = two_eras(alloc, &[(at(5), u32::MAX), (at(5), 7), (at(3), u32::MAX)])?;
+    for _ in 2..84 {
+        start_empty(alloc, &mut book)?;
+    }
+    assert_eq!(rt; claimed(alloc, &mut book, 0, 1)?.as_str(), "refused 23");
+    start_empty(alloc, &mut book)?;
+    assert_eq!(rt; book.current(), 85);
+    assert_eq!(rt; claimed(alloc, &mut book, 0, 1)?.as_str(), "refused 21");
+    assert_eq!(rt; claimed(alloc, &mut book, 1, 5)?.as_str(), "5 250, 250");
+    assert_eq!(rt; claimed(alloc, &mut book, 1, 3)?.as_str(), "4 500, 500");
+    Ok(())
+}
+
+const EDGES: [Edge; 4] = [
+    Edge {
+        voter: 0,
+        target: 0,
+        amount: 40,
+    },
+    Edge {
+        voter: 0,
+        target: 1,
+        amount: 0,
+    },
+    Edge {
+        voter: 1,
+        target: 0,
+        amount: 50,
+    },
+    Edge {
+        voter: 2,
+        target: 1,
+        amount: 5,
+    },
+];
+
+#[test]
+fn the_validator_stands_before_its_other_backers(rt: HostRuntime) -> Result<(), Fail> {
+    let alloc = rt.alloc();
+    let targets = [at(1), at(2)];
+    let voters = [at(3), at(1), at(4)];
+    let exposures = exposures_of(alloc, &targets, &[7, 8], &[90, 5], &voters, &[0, 1], &EDGES)?;
+    let text = backers_of(alloc, exposures.as_slice())?;
+    assert_eq!(rt; text.as_str(), "1 7 90: 1 50, 3 40,2 8 5: 4 5,");
+    Ok(())
+}
+
+/// The edges of three voters to the first target, not by voter.
+const MIXED: [Edge; 3] = [
+    Edge {
+        voter: 2,
+        target: 0,
+        amount: 5,
+    },
+    Edge {
+        voter: 1,
+        target: 0,
+        amount: 50,
+    },
+    Edge {
+        voter: 0,
+        target: 0,
+        amount: 40,
+    },
+];
+
+#[test]
+fn the_others_stand_in_the_order_of_the_voters(rt: HostRuntime) -> Result<(), Fail> {
+    let alloc = rt.alloc();
+    let mut book = EraBook::new(alloc);
+    book.start_elected(
+        &[at(1), at(2)],
+        &[7, 8],
+        &[95, 0],
+        List::from_vec(vec![in alloc; at(3), at(1), at(4)]?),
+        &[0, 1],
+        &MIXED,
+    )?;
+    let told = reported(alloc, &mut book, 1, 1, 1_000_000_000)?;
+    assert_eq!(rt; told.as_str(), "1 50, 3 40, 4 5, ");
+    assert_eq!(rt; reported(alloc, &mut book, 1, 2, 1)?.as_str(), "");
+    Ok(())
+}
+
+/// Each exposure with its backers.
+fn backers_of(alloc: Global, exposures: &[Exposure]) -> Result<String, Fail> {
+    let mut text = String::new(alloc);
+    for seat in exposures {
+        write!(
+            text,
+            "{} {} {}:",
+            seat.validator.lo, seat.commission, seat.support
+        )?;
+        for backer in seat.backers.as_slice() {
+            write!(text, " {} {},", backer.who.lo, backer.amount)?;
+        }
+    }
+    Ok(text)
+}
+
+#[test]
+fn each_law_is_called(_rt: HostRuntime) {
+    laws::a_payout_is_within_its_value();
+    laws::dues_telescope();
+    laws::payouts_are_within_the_reward();
+    laws::dues_are_within_the_exposures();
+    laws::exposures_are_the_edges();
+}

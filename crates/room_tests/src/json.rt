@@ -1,0 +1,130 @@
+use bundle_json::{JsonFault, bundle_from_json, bundle_to_json};
+use block_wire::Bundle;
+use npos_base::List;
+use scale_wire::{Pen, Wire, read_whole};
+use std::alloc::Global;
+use std::test::Fail;
+
+// Bundles in SCALE, and what they are shown as.
+const SHOWN: [(&[u8], &[u8]); 3] = [
+    // one seat, target 1, voter 2 with a stake of 5 for [0], no work
+    (
+        &[
+            0x04, 0x04, // one seat, one target
+            0, 0, 0, 0, 0, 0, 0, 0, 0, 0, 0, 0, 0, 0, 0, 0, 0, 0, 0, 0, 0, 0, 0, 0, 0, 0, 0, 0, 0,
+            0, 0, 0x01, // account 1
+            0x04, // one voter
+            0, 0, 0, 0, 0, 0, 0, 0, 0, 0, 0, 0, 0, 0, 0, 0, 0, 0, 0, 0, 0, 0, 0, 0, 0, 0, 0, 0, 0,
+            0, 0, 0x02, // account 2
+            0x14, 0x04, 0x00, 0x00, // 5 for [0], no work
+        ],
+        b"{\"seats\":1,\"targets\":[\"0000000000000000000000000000000000000000000000000000000000000001\"],\"voters\":[{\"account\":\"0000000000000000000000000000000000000000000000000000000000000002\",\"stake\":5,\"votes\":[0]}],\"work\":null}",
+    ),
+    // a solution of two bytes, with the claim (5, 6, 7)
+    (
+        &[
+            0x04, 0x00, 0x00, 0x01, 0x14, 0x18, 7, 0, 0, 0, 0, 0, 0, 0, 0, 0, 0, 0, 0, 0, 0, 0,
+            0x08, 0xab, 0x0c,
+        ],
+        b"{\"seats\":1,\"targets\":[],\"voters\":[],\"work\":{\"claim\":[5,6,\"7\"],\"solution\":\"ab0c\"}}",
+    ),
+    // the committee [0, 1] with one edge
+    (
+        &[
+            0x04, 0x00, 0x00, 0x02, 0x08, 0x00, 0x04, 0x04, 0x08, 0x0c, 0x10,
+        ],
+        b"{\"seats\":1,\"targets\":[],\"voters\":[],\"work\":{\"committee\":[0,1],\"edges\":[[2,3,4]]}}",
+    ),
+];
+
+// Texts that are refused.
+const REFUSED: [(&[u8], JsonFault); 17] = [
+    (b"{", JsonFault::Json),
+    (b"", JsonFault::Json),
+    // a number that no float holds
+    (
+        b"{\"seats\":1e999,\"targets\":[],\"voters\":[],\"work\":null}",
+        JsonFault::Json,
+    ),
+    (b"{}", JsonFault::Shape),
+    (b"null", JsonFault::Shape),
+    // whole numbers have no point, no exponent and no sign; seats have 32 bits
+    (
+        b"{\"seats\":1.0,\"targets\":[],\"voters\":[],\"work\":null}",
+        JsonFault::Shape,
+    ),
+    (
+        b"{\"seats\":1e0,\"targets\":[],\"voters\":[],\"work\":null}",
+        JsonFault::Shape,
+    ),
+    (
+        b"{\"seats\":-0,\"targets\":[],\"voters\":[],\"work\":null}",
+        JsonFault::Shape,
+    ),
+    (
+        b"{\"seats\":4294967296,\"targets\":[],\"voters\":[],\"work\":null}",
+        JsonFault::Shape,
+    ),
+    // a key too many
+    (
+        b"{\"more\":0,\"seats\":1,\"targets\":[],\"voters\":[],\"work\":null}",
+        JsonFault::Shape,
+    ),
+    // an account of 63 digits
+    (
+        b"{\"seats\":1,\"targets\":[\"000000000000000000000000000000000000000000000000000000000000000\"],\"voters\":[],\"work\":null}",
+        JsonFault::Shape,
+    ),
+    // 65 votes
+    (
+        b"{\"seats\":1,\"targets\":[],\"voters\":[{\"account\":\"0000000000000000000000000000000000000000000000000000000000000002\",\"stake\":5,\"votes\":[0,0,0,0,0,0,0,0,0,0,0,0,0,0,0,0,0,0,0,0,0,0,0,0,0,0,0,0,0,0,0,0,0,0,0,0,0,0,0,0,0,0,0,0,0,0,0,0,0,0,0,0,0,0,0,0,0,0,0,0,0,0,0,0,0]}],\"work\":null}",
+        JsonFault::Shape,
+    ),
+    // squares with a needless zero, with a sign, of 129 bits
+    (
+        b"{\"seats\":1,\"targets\":[],\"voters\":[],\"work\":{\"claim\":[5,6,\"07\"],\"solution\":\"\"}}",
+        JsonFault::Shape,
+    ),
+    (
+        b"{\"seats\":1,\"targets\":[],\"voters\":[],\"work\":{\"claim\":[5,6,\"+7\"],\"solution\":\"\"}}",
+        JsonFault::Shape,
+    ),
+    (
+        b"{\"seats\":1,\"targets\":[],\"voters\":[],\"work\":{\"claim\":[5,6,\"340282366920938463463374607431768211456\"],\"solution\":\"\"}}",
+        JsonFault::Shape,
+    ),
+    // half a byte
+    (
+        b"{\"seats\":1,\"targets\":[],\"voters\":[],\"work\":{\"claim\":[5,6,\"7\"],\"solution\":\"0\"}}",
+        JsonFault::Shape,
+    ),
+    // an edge of two numbers
+    (
+        b"{\"seats\":1,\"targets\":[],\"voters\":[],\"work\":{\"committee\":[],\"edges\":[[2,3]]}}",
+        JsonFault::Shape,
+    ),
+];
+
+fn read(alloc: Global, text: &[u8]) -> Result<List<u8>, JsonFault> {
+    let bundle = bundle_from_json(alloc, text)?;
+    let mut pen = Pen::new(alloc);
+    bundle.write(&mut pen)?;
+    Ok(pen.finish())
+}
+
+#[test]
+fn bundles_and_their_texts(rt: HostRuntime) -> Result<(), Fail> {
+    for (bytes, text) in SHOWN {
+        let bundle = read_whole::<Bundle>(rt.alloc(), bytes)?;
+        assert_eq!(rt; bundle_to_json(rt.alloc(), &bundle)?.as_slice(), text);
+        assert_eq!(rt; read(rt.alloc(), text)?.as_slice(), bytes);
+    }
+    Ok(())
+}
+
+#[test]
+fn other_texts_are_refused(rt: HostRuntime) {
+    for (text, fault) in REFUSED {
+        assert_eq!(rt; read(rt.alloc(), text).err(), Some(fault));
+    }
+}

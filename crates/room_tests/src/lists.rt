@@ -1,0 +1,240 @@
+//! The walk of five accounts over three bags, each refusal of the lists, and bags of many accounts.
+ghost use Rattle.std.specs.Prelude.{◌≡◌, IfOk};
+
+use voter_lists::{Bags, ListRefusal, Role, Roles, Standing, laws};
+use npos_base::{AccountId, List, NoMemory};
+use std::alloc::Global;
+use std::test::Fail;
+
+/// The account of 31 bytes 0 and this one.
+const fn at(n: u8) -> AccountId {
+    AccountId {
+        hi: 0,
+        lo: n as u128,
+    }
+}
+
+fn list_of<T: Copy>(alloc: Global, items: &[T]) -> Result<List<T>, NoMemory>
+    ensures { IfOk result (λ list. list ≡ items.now) }
+{
+    Ok(List::from_vec(Vec::from_slice(alloc, items)?))
+}
+
+/// Bags between 100 and 1000 that five accounts joined in turn.
+fn five_in_bags(alloc: Global) -> Result<Bags, NoMemory> {
+    let mut bags = Bags::new(alloc, list_of(alloc, &[100, 1000])?)?;
+    for (n, score) in [(1, 50), (2, 100), (3, 101), (4, 2000), (5, 70)] {
+        let who = at(n);
+        if !bags.contains(who) {
+            bags.insert(who, score)?;
+        }
+    }
+    Ok(bags)
+}
+
+/// Whether these accounts are the walk, from one to the next and in one go.
+fn walks(bags: &Bags, accounts: &[AccountId]) -> bool {
+    let mut next = bags.first();
+    let mut walk = bags.walk();
+    for account in accounts {
+        if next != Some(*account) || walk.next() != next || !bags.contains(*account) {
+            return false;
+        }
+        next = bags.next(*account);
+    }
+    next.is_none() && walk.next().is_none()
+}
+
+#[test]
+fn the_walk_goes_from_the_highest_bag_down(rt: HostRuntime) -> Result<(), Fail> {
+    let mut bags = five_in_bags(rt.alloc())?;
+    assert!(rt; walks(&bags, &[at(4), at(3), at(1), at(2), at(5)]));
+    assert_eq!(rt; bags.put_in_front(at(2), 100, at(1), 50), Ok(()));
+    assert!(rt; walks(&bags, &[at(4), at(3), at(2), at(1), at(5)]));
+    assert_eq!(rt;
+        bags.put_in_front(at(5), 70, at(2), 100),
+        Err(ListRefusal::NotHeavier)
+    );
+    assert_eq!(rt;
+        bags.put_in_front(at(1), 50, at(3), 101),
+        Err(ListRefusal::OtherBag)
+    );
+    assert_eq!(rt; bags.rebag(at(1), 50), Err(ListRefusal::SameBag));
+    assert_eq!(rt; bags.rebag(at(6), 50), Err(ListRefusal::NotListed));
+    Ok(())
+}
+
+#[test]
+fn accounts_move_and_leave(rt: HostRuntime) -> Result<(), Fail> {
+    let mut bags = five_in_bags(rt.alloc())?;
+    let leaver = at(2);
+    let mover = at(5);
+    assert_eq!(rt; bags.rebag(at(1), 1000), Ok(()));
+    assert!(rt; bags.contains(leaver));
+    bags.remove(leaver);
+    assert!(rt; bags.contains(mover));
+    assert_eq!(rt; bags.update(mover, 5000), Ok(true));
+    assert!(rt; walks(&bags, &[at(4), at(5), at(3), at(1)]));
+    Ok(())
+}
+
+#[test]
+fn roles_come_and_go(rt: HostRuntime) -> Result<(), Fail> {
+    let alloc = rt.alloc();
+    let mut roles = Roles::new(alloc);
+    assert_eq!(rt; roles.validate(at(2), 7), Ok(()));
+    assert_eq!(rt; roles.validate(at(1), 9), Ok(()));
+    assert_eq!(rt; roles.validator_count(), 2);
+    assert_eq!(rt; roles.validator_at(0), at(1));
+    assert_eq!(rt;
+        roles.nominate(at(3), list_of(alloc, &[at(2), at(1)])?),
+        Ok(())
+    );
+    assert_eq!(rt; roles.targets_of(at(3)), [at(2), at(1)].as_slice());
+    let mut guess = 0;
+    assert!(rt;
+        matches!(
+            roles.standing_from(&mut guess, at(2)),
+            Some(Standing::Validator { commission: 7 })
+        )
+    );
+    assert!(rt;
+        matches!(
+            roles.standing_from(&mut guess, at(3)),
+            Some(Standing::Nominator(_))
+        )
+    );
+    assert_eq!(rt; guess, 3);
+    assert_eq!(rt; roles.role(at(2)), Role::Validator { commission: 7 });
+    assert_eq!(rt; roles.chill(at(2)), Ok(()));
+    assert_eq!(rt; roles.role(at(2)), Role::Nobody);
+    assert_eq!(rt; roles.chill(at(2)), Err(ListRefusal::NotListed));
+    assert_eq!(rt;
+        roles.validate(at(2), 1_000_000_001),
+        Err(ListRefusal::BadFraction)
+    );
+    Ok(())
+}
+
+#[test]
+fn a_nomination_is_refused_for_its_first_fault(rt: HostRuntime) -> Result<(), Fail> {
+    let alloc = rt.alloc();
+    let mut roles = Roles::new(alloc);
+    roles.validate(at(1), 0)?;
+    let many = [at(1); 17];
+    let table: [(&[AccountId], ListRefusal); 5] = [
+        (&[], ListRefusal::NoTargets),
+        (&many, ListRefusal::TooManyTargets),
+        (&[at(9), at(1), at(9)], ListRefusal::RepeatedTarget),
+        (&[at(1), at(9)], ListRefusal::NotValidator),
+        (&[at(5)], ListRefusal::NotValidator),
+    ];
+    for (targets, refusal) in table {
+        assert_eq!(rt;
+            roles.nominate(at(5), list_of(alloc, targets)?),
+            Err(refusal)
+        );
+    }
+    Ok(())
+}
+
+#[test]
+fn a_validator_too_many(rt: HostRuntime) -> Result<(), Fail> {
+    let mut roles = Roles::new(rt.alloc());
+    for n in 0..2048_u32 {
+        let who = AccountId {
+            hi: 1,
+            lo: u128::from(n),
+        };
+        roles.validate(who, 0)?;
+    }
+    assert_eq!(rt;
+        roles.validate(at(1), 0),
+        Err(ListRefusal::TooManyValidators)
+    );
+    Ok(())
+}
+
+fn nth(n: u32) -> AccountId {
+    AccountId {
+        hi: 0,
+        lo: u128::from(n),
+    }
+}
+
+/// One bag, which so many accounts joined in turn.
+fn crowd(alloc: Global, count: u32) -> Result<Bags, NoMemory> {
+    let mut bags = Bags::new(alloc, List::new(alloc))?;
+    for n in 0..count {
+        let who = nth(n);
+        if !bags.contains(who) {
+            bags.insert(who, 1)?;
+        }
+    }
+    Ok(bags)
+}
+
+fn leave(bags: &mut Bags, n: u32) {
+    let who = nth(n);
+    if bags.contains(who) {
+        bags.remove(who);
+    }
+}
+
+/// Whether the walk is that of these accounts.
+fn finds(bags: &Bags, numbers: &[u32]) -> bool {
+    let mut walk = bags.walk();
+    for n in numbers {
+        if walk.next() != Some(nth(*n)) {
+            return false;
+        }
+    }
+    walk.next().is_none()
+}
+
+#[test]
+fn every_second_of_five_thousand_leaves_one_bag(rt: HostRuntime) -> Result<(), Fail> {
+    let mut bags = crowd(rt.alloc(), 5000)?;
+    let mut plain = Vec::new(rt.alloc());
+    for n in 0..2500 {
+        leave(&mut bags, 2 * n + 1);
+        plain.push(2 * n)?;
+    }
+    let mut moved = Vec::new(rt.alloc());
+    for n in 1..2499 {
+        moved.push(2 * n)?;
+    }
+    moved.push(0)?;
+    moved.push(4998)?;
+    assert_eq!(rt;
+        bags.put_in_front(nth(0), 7, nth(4998), 7),
+        Err(ListRefusal::NotHeavier)
+    );
+    assert!(rt; finds(&bags, plain.as_slice()));
+    assert_eq!(rt; bags.put_in_front(nth(0), 8, nth(4998), 7), Ok(()));
+    assert!(rt; finds(&bags, moved.as_slice()));
+    Ok(())
+}
+
+#[test]
+fn the_middle_of_four_hundred_thousand_leaves_one_bag(rt: HostRuntime) -> Result<(), Fail> {
+    let mut bags = crowd(rt.alloc(), 400_000)?;
+    for n in 100_000..300_000 {
+        leave(&mut bags, n);
+    }
+    let mut plain = Vec::new(rt.alloc());
+    for n in 0..100_000 {
+        plain.push(n)?;
+    }
+    for n in 300_000..400_000 {
+        plain.push(n)?;
+    }
+    assert!(rt; finds(&bags, plain.as_slice()));
+    Ok(())
+}
+
+#[test]
+fn each_law_is_called(_rt: HostRuntime) {
+    laws::calls_end_with_one_walk();
+    laws::accounts_repeat_or_are_distinct();
+}
