@@ -15,4 +15,3 @@ mod verdict;
 pub use checker::Checker;
 pub use elected::Elected;
 pub use verdict::Verdict;
-

@@ -12,4 +12,3 @@ pub use builder::SnapshotBuilder;
 pub use fault::SnapshotFault;
 pub use parts::SnapshotParts;
 pub use snapshot::Snapshot;
-

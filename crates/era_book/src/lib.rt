@@ -22,4 +22,3 @@ pub use committee::exposures_of;
 pub use exposure::{Backer, Exposure};
 pub use payout::Payout;
 pub use refusal::EraRefusal;
-

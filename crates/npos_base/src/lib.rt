@@ -28,4 +28,3 @@ pub use outside::{Failed, PutFault, Sink, Source, put_all};
 pub use plain::{PlainSink, PlainSource};
 pub use room::Room;
 pub use standard::{ReadSource, StdinSource, StdoutSink, WriteSink};
-

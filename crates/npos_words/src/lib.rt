@@ -9,4 +9,3 @@ mod words;
 
 pub use command::{Command, Miner};
 pub use words::command_of;
-

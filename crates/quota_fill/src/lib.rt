@@ -8,4 +8,3 @@ pub mod laws;
 mod race;
 
 pub use filling::fill;
-

@@ -3,11 +3,11 @@ ghost use Rattle.std.specs.Prelude.{◌≡◌, IfOk};
 ghost use Rattle.weight_book.specs.Weights.{Follows};
 ghost use Rattle.weight_book.specs.Room.{HasRoom};
 
-use support_balance::{Backing, balance, laws};
 use election_snapshot::{Snapshot, SnapshotBuilder};
 use npos_base::{AccountId, Edge, NoMemory};
 use std::alloc::Global;
 use std::test::Fail;
+use support_balance::{Backing, balance, laws};
 use weight_book::Weights;
 
 /// An election, and what the first balancing leaves of no edges: each voter's amounts, by rising

@@ -1,6 +1,6 @@
 //! What no clause says: that the calls succeed where there is memory, and the worked chunks.
-use stake_ledger::{Book, LedgerRefusal, Loss, Totals};
 use npos_base::AccountId;
+use stake_ledger::{Book, LedgerRefusal, Loss, Totals};
 use std::alloc::Global;
 use std::test::Fail;
 

@@ -1,7 +1,7 @@
 //! Worked fills.
-use quota_fill::fill;
 use election_snapshot::{Snapshot, SnapshotBuilder};
 use npos_base::{AccountId, Edge, NoMemory};
+use quota_fill::fill;
 use std::alloc::Global;
 use std::test::Fail;
 

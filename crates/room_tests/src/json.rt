@@ -1,5 +1,5 @@
-use bundle_json::{JsonFault, bundle_from_json, bundle_to_json};
 use block_wire::Bundle;
+use bundle_json::{JsonFault, bundle_from_json, bundle_to_json};
 use npos_base::List;
 use scale_wire::{Pen, Wire, read_whole};
 use std::alloc::Global;

@@ -1,10 +1,10 @@
 //! The walk of five accounts over three bags, each refusal of the lists, and bags of many accounts.
 ghost use Rattle.std.specs.Prelude.{◌≡◌, IfOk};
 
-use voter_lists::{Bags, ListRefusal, Role, Roles, Standing, laws};
 use npos_base::{AccountId, List, NoMemory};
 use std::alloc::Global;
 use std::test::Fail;
+use voter_lists::{Bags, ListRefusal, Role, Roles, Standing, laws};
 
 /// The account of 31 bytes 0 and this one.
 const fn at(n: u8) -> AccountId {

@@ -1,7 +1,7 @@
 //! Worked runs.
-use seq_phragmen::mine_seq;
 use election_snapshot::{Snapshot, SnapshotBuilder};
 use npos_base::{AccountId, Edge, NoMemory};
+use seq_phragmen::mine_seq;
 use std::alloc::Global;
 use std::test::Fail;
 

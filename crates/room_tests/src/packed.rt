@@ -1,7 +1,7 @@
 //! Worked verdicts on packed solutions.
-use election_check::Verdict;
 use crate::verdicts::{at, checker_of, finished};
 use compact_solution::Solution;
+use election_check::Verdict;
 use election_snapshot::{Snapshot, SnapshotBuilder};
 use npos_base::{List, Score};
 use scale_wire::Pen;

@@ -1,11 +1,11 @@
 //! The worked queue, and a full one of equal claims. Expected answers are the rule's, by hand.
 ghost use Rattle.std.specs.Prelude.{◌≤◌};
 
-use submission_queue::{Queue, Submission, laws};
 use npos_base::{AccountId, List, Score};
 use std::alloc::Global;
 use std::fmt::Write;
 use std::test::Fail;
+use submission_queue::{Queue, Submission, laws};
 
 /// Offers, each a number and a claim, and what is told of them where three, four and 16 can wait.
 const WORKED: [(u64, u64); 5] = [(1, 40), (2, 39), (3, 38), (4, 38), (4, 41)];

@@ -1,11 +1,11 @@
 //! Worked sums and scores.
 ghost use Rattle.std.specs.Prelude.{◌+◌, ◌<◌, ◌^◌};
 
-use weight_book::Weights;
 use election_snapshot::{Snapshot, SnapshotBuilder};
 use npos_base::{AccountId, Edge, NoMemory, Score};
 use std::alloc::Global;
 use std::test::Fail;
+use weight_book::Weights;
 
 /// One target, one voter and one seat.
 fn small(alloc: Global) -> Result<Snapshot, NoMemory> {

@@ -1,6 +1,6 @@
+use npos_base::{AccountId, Edge, List, NoMemory, Score};
 use scale_wire::fault::{Why, WireFault};
 use scale_wire::{Cursor, Pen, Wire, read_whole};
-use npos_base::{AccountId, Edge, List, NoMemory, Score};
 use std::alloc::Global;
 use std::test::Fail;
 

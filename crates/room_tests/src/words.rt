@@ -1,6 +1,6 @@
 //! Words and the commands that they ask for. The expected ones are the rules', by hand.
-use npos_words::{Command, Miner, command_of, laws};
 use npos_base::NoMemory;
+use npos_words::{Command, Miner, command_of, laws};
 use std::alloc::Global;
 use std::test::Fail;
 

@@ -8,4 +8,3 @@ mod rise;
 mod splitting;
 
 pub use mining::mine_seq;
-

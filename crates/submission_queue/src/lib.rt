@@ -9,4 +9,3 @@ mod submission;
 
 pub use queue::Queue;
 pub use submission::{NotBetter, Submission};
-

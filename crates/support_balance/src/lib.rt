@@ -11,4 +11,3 @@ mod turn;
 
 pub use backing::Backing;
 pub use balancing::balance;
-

@@ -18,4 +18,3 @@ pub use refusal::ListRefusal;
 pub use roles::Roles;
 pub use standing::{Role, Standing};
 pub use walk::Walk;
-

@@ -6,4 +6,3 @@ pub mod laws;
 mod weights;
 
 pub use weights::Weights;
-
