@@ -2,6 +2,7 @@
 use Rattle.std.specs.Prelude.{◌≡◌, ℕ, ◌<◌, ◌≤◌, Bool, false, if◌then◌else◌, List, [], map, length, All, slice_index_or, None}
 use Rattle.std.specs.List.{range_with_len}
 use Rattle.npos_base.specs.declared.figures.Edge.{Edge}
+use Rattle.compact_solution.specs.declared.listing.TheConstants.{NAMES}
 use Rattle.compact_solution.specs.Solution.{Entry, group_count}
 use Rattle.compact_solution.specs.Packing.{Choice, has_part, placed, greater, is_kept, stake_at, kept_at}
 
@@ -34,5 +35,5 @@ empty_groups = map (λ group. []) (range_with_len 0 group_count)
 
 -- each target that a u16 can name is marked exactly where an edge to it is kept
 pub record AreMarks (kept : List (List Edge)) (marks : List Bool) : Type 0 where
-  pub count : length marks ≡ 65536
-  pub are : (target : ℕ) → target < 65536 → slice_index_or marks target false ≡ is_kept kept target
+  pub count : length marks ≡ NAMES
+  pub are : (target : ℕ) → target < NAMES → slice_index_or marks target false ≡ is_kept kept target

@@ -3,8 +3,10 @@
 use Rattle.std.specs.Prelude.{ℕ, ◌+◌, ◌-◌, ◌*◌, ◌/◌, ◌<◌, ◌≤◌, ◌&&◌, Bool, not, nat_eq, nat_lt, IsTrue, if◌then◌else◌, min, List, [], ◌∷◌, length, map, filter, take, fold, sum_by, All, slice_index_or, Option, Some, None, option_to_list, Result, Ok, Err}
 use Rattle.std.specs.List.{list_any, range_with_len, IsDistinct}
 use Rattle.npos_base.specs.declared.figures.Edge.{Edge}
+use Rattle.npos_base.specs.declared.limits.TheConstants.{MOST_VOTERS}
 use Rattle.compact_solution.specs.declared.entry.Share.{Share}
-use Rattle.compact_solution.specs.Solution.{Entry, group_count, most_entries}
+use Rattle.compact_solution.specs.declared.entry.TheConstants.{WHOLE_STAKE}
+use Rattle.compact_solution.specs.Solution.{Entry, group_count}
 
 -- ## What a voter keeps
 
@@ -15,9 +17,9 @@ edges_of edges voter = filter (λ edge. nat_eq edge.voter voter) edges
 abbrev pub stake_at : List ℕ → ℕ → ℕ
 stake_at stakes voter = slice_index_or stakes voter 0
 
--- how many parts of 65,535 of its voter's stake an edge gives, rounded down
+-- how many parts of its voter's stake an edge gives, of WHOLE_STAKE in all, rounded down
 abbrev pub parts_in : ℕ → Edge → ℕ
-parts_in stake edge = edge.amount * 65535 / stake
+parts_in stake edge = edge.amount * WHOLE_STAKE / stake
 
 abbrev pub has_part : ℕ → Edge → Bool
 has_part stake edge = nat_lt 0 (parts_in stake edge)
@@ -132,10 +134,10 @@ packed stakes committee edges =
 abbrev pub same_pair : Edge → Edge → Bool
 same_pair a b = nat_eq a.voter b.voter && nat_eq a.target b.target
 
--- There are at most 16,384 voters; each has at most one edge to a member, 16 in all, and gives no
--- more than its stake.
+-- There are no more voters than an election can have; each has at most one edge to a member, 16 in
+-- all, and gives no more than its stake.
 pub record IsPackable (stakes committee : List ℕ) (edges : List Edge) : Type 0 where
-  pub few_voters : length stakes ≤ most_entries
+  pub few_voters : length stakes ≤ MOST_VOTERS
   pub voters_in_range : All (λ edge. edge.voter < length stakes) edges
   pub pairs_distinct : IsDistinct same_pair edges
   pub to_members : All (λ edge. IsTrue (list_any (λ member. nat_eq member edge.target) committee)) edges

@@ -5,15 +5,12 @@ use Rattle.std.specs.List.{flat_map}
 use Rattle.scale_wire.specs.Form.{Form}
 use Rattle.scale_wire.specs.Parts.{compact_u16, compact_u32}
 use Rattle.scale_wire.specs.Composite.{pair, triple, seen, items, list, row}
+use Rattle.npos_base.specs.declared.limits.TheConstants.{MOST_VOTERS}
 use Rattle.compact_solution.specs.declared.entry.Share.{Share}
 
 -- how many groups a solution has
 unfoldable pub group_count : ℕ
 group_count = 16
-
--- how many entries a group has at most
-abbrev pub most_entries : ℕ
-most_entries = 16384
 
 -- A voter and its targets. Each target but the last is listed with its share, and the last one gets
 -- the rest of the voter's stake.
@@ -26,7 +23,7 @@ pub record Entry : Type 0 where
 abbrev pub targets_of : Entry → List ℕ
 targets_of entry = map (λ share. share.target) entry.shares ++ entry.last ∷ []
 
--- the shares of its targets but the last, in parts of 65,535
+-- the shares of its targets but the last, in parts of WHOLE_STAKE
 abbrev pub parts_of : Entry → List ℕ
 parts_of entry = map (λ share. share.parts) entry.shares
 
@@ -45,9 +42,9 @@ entry_form shares =
     seen (triple compact_u32 (items share_form shares) compact_u16)
     (λ entry. (entry.voter, entry.shares, entry.last))
 
--- the group whose entries have this many shares
+-- the group whose entries have this many shares: at most as many entries as an election has voters
 abbrev pub group_form : ℕ → Form (List Entry)
-group_form shares = list (entry_form shares) most_entries
+group_form shares = list (entry_form shares) MOST_VOTERS
 
 -- a solution is its groups, one behind the other; the entries of the first have no share
 abbrev pub solution_form : Form (List (List Entry))

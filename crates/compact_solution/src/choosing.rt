@@ -5,12 +5,10 @@ ghost use Rattle.compact_solution.specs.Packing.{chosen, placed, choices_of, kep
 ghost use Rattle.compact_solution.specs.Packing.{parts_in as parts_of_stake, has_part as gives_part, greater as greater_of};
 ghost use Rattle.compact_solution.specs.Choosing.{Fits, AllFit, no_choice, chosen_next, no_choices};
 
+use crate::entry::WHOLE_STAKE;
 use npos_base::{Edge, List, NoMemory};
 use std::alloc::Global;
 use std::marker::Model;
-
-/// All parts of a stake.
-const PARTS: u64 = 65_535;
 
 /// What there is to keep of one voter's edges: those with a part, by rising target, and the first
 /// of the greatest.
@@ -73,7 +71,7 @@ pub(crate) fn parts_in(stake: u64, edge: Edge) -> u16
     requires { Fits stake edge }
     ensures { result ≡ parts_of_stake stake edge }
 {
-    (u128::from(edge.amount) * u128::from(PARTS) / u128::from(stake)) as u16
+    (u128::from(edge.amount) * u128::from(WHOLE_STAKE) / u128::from(stake)) as u16
 }
 
 /// Whether the edge gives a part of its voter's stake at least.
@@ -81,7 +79,7 @@ fn has_part(stake: u64, edge: Edge) -> bool
     requires { Fits stake edge }
     ensures { result ≡ gives_part stake edge }
 {
-    u128::from(stake) <= u128::from(edge.amount) * u128::from(PARTS)
+    u128::from(stake) <= u128::from(edge.amount) * u128::from(WHOLE_STAKE)
 }
 
 /// Puts the edge before the first one with a higher target.

@@ -8,6 +8,9 @@ use std::marker::Model;
 /// How many groups a solution has, and how many targets an entry of the last one names.
 pub const GROUPS: usize = 16;
 
+/// The whole of a voter's stake, of which the shares of a solution are parts.
+pub const WHOLE_STAKE: u64 = 65_535;
+
 /// A target with its share of the voter's stake, in parts of 65,535.
 #[derive(Clone, Copy, Debug, PartialEq, Eq)]
 pub struct Share {

@@ -10,6 +10,6 @@ mod reading;
 mod solution;
 mod writing;
 
-pub use entry::{Entry, GROUPS, Share};
+pub use entry::{Entry, GROUPS, Share, WHOLE_STAKE};
 pub use packing::{PackFault, pack};
 pub use solution::Solution;

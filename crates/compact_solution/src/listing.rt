@@ -6,11 +6,11 @@ ghost use Rattle.compact_solution.specs.Choosing.{Fits, AreMarks, AllKeptFit, em
 
 use crate::choosing::parts_in;
 use crate::entry::{Entry, GROUPS, Share, group_count};
-use npos_base::{Edge, List, NoMemory};
+use npos_base::{Edge, List, MOST_VOTERS, NoMemory};
 use std::alloc::Global;
 
 /// How many targets a `u16` can name.
-const NAMES: usize = 65_536;
+pub(crate) const NAMES: usize = 65_536;
 
 /// The lowest member to which no edge is kept.
 pub(crate) fn lowest_lost(
@@ -90,7 +90,7 @@ pub(crate) fn list_entries(
     kept: &[List<Edge>],
 ) -> Result<Vec<List<Entry>>, NoMemory>
     requires count { length kept.now ≡ length stakes.now }
-    requires voters { length stakes.now ≤ 65536 }
+    requires voters { length stakes.now ≤ MOST_VOTERS }
     requires few { All (λ edges. length edges ≤ GROUPS) kept.now }
     requires fit { AllKeptFit stakes.now kept.now }
     ensures { IfOk result (λ groups. groups.items
@@ -110,7 +110,7 @@ fn list_all(
 ) -> Result<(), NoMemory>
     requires empty { groups.old ≡ empty_groups }
     requires count { length kept.now ≡ length stakes.now }
-    requires voters { length stakes.now ≤ 65536 }
+    requires voters { length stakes.now ≤ MOST_VOTERS }
     requires few { All (λ edges. length edges ≤ GROUPS) kept.now }
     requires fit { AllKeptFit stakes.now kept.now }
     ensures { OnOk result (groups.new ≡ groups_of stakes.now kept.now (length stakes.now)) }
@@ -141,7 +141,8 @@ fn list_entry(
     ensures none { length kept.now ≡ 0 → groups.new ≡ groups.old }
     ensures some { 0 < length kept.now → OnOk result (groups.new
         ≡ slice_set groups.old (length kept.now - 1)
-        (slice_index_or groups.old (length kept.now - 1) [] ++ entry_of voter stake kept.now ∷ [])) }
+        (slice_index_or groups.old (length kept.now - 1) []
+        ++ entry_of voter stake kept.now ∷ [])) }
 {
     if !kept.is_empty() {
         let entry = entry_of(alloc, voter, stake, kept)?;

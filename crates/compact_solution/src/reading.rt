@@ -5,14 +5,12 @@ ghost use Rattle.scale_wire.specs.Reading.{Takes, Reads};
 ghost use Rattle.compact_solution.specs.Solution.{share_form, entry_form, group_form};
 
 use crate::entry::{Entry, GROUPS, Share};
-use npos_base::List;
+use npos_base::{List, MOST_VOTERS};
 use scale_wire::Cursor;
 use scale_wire::fault::{ReadFault, WireFault};
 use std::alloc::Global;
 
-const MOST_ENTRIES: u32 = 16384;
-
-// The group whose entries have this many shares.
+// The group whose entries have this many shares. Each voter of a snapshot can have an entry in it.
 pub(crate) fn read_group(
     alloc: Global,
     cursor: &mut Cursor<'_>,
@@ -22,7 +20,7 @@ pub(crate) fn read_group(
     ensures { Reads (group_form shares) cursor.old result cursor.new }
 {
     let mut here = cursor.fork();
-    let count = here.take_length(MOST_ENTRIES)?;
+    let count = here.take_length(MOST_VOTERS as u32)?;
     let entries = read_entries(alloc, &mut here, shares, count)?;
     *cursor = here;
     Ok(entries)

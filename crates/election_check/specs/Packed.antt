@@ -9,6 +9,7 @@ use Rattle.election_snapshot.specs.Snapshot.{Snapshot, has, nominates, stake_of}
 use Rattle.weight_book.specs.Weights.{Weights, no_weights}
 use Rattle.weight_book.specs.Scoring.{score_of}
 use Rattle.compact_solution.specs.declared.entry.Share.{Share}
+use Rattle.compact_solution.specs.declared.entry.TheConstants.{WHOLE_STAKE}
 use Rattle.compact_solution.specs.Solution.{Entry, targets_of, parts_of, entries_of}
 use Rattle.compact_solution.specs.Decoded.{decoded}
 use Rattle.election_check.specs.declared.verdict.Verdict.{Verdict}
@@ -18,13 +19,9 @@ use Rattle.election_check.specs.Steps.{size_fault, outweighed}
 
 -- ## The weights of a solution
 
--- the parts that a whole stake is shared in
-abbrev pub whole_stake : ℕ
-whole_stake = 65535
-
 -- what a share of this stake is, rounded down
 abbrev pub amount_of : ℕ → Share → ℕ
-amount_of stake share = stake * share.parts / whole_stake
+amount_of stake share = stake * share.parts / WHOLE_STAKE
 
 -- the edge of a share, of a voter with this stake
 abbrev pub edge_of : ℕ → ℕ → Share → Edge
@@ -79,7 +76,7 @@ unnominated_target snapshot entry =
 -- a share is nothing, or the shares leave nothing for the last target
 abbrev pub has_bad_share : Entry → Bool
 has_bad_share entry =
-    list_any (λ parts. nat_eq parts 0) (parts_of entry) || nat_le whole_stake (sum (parts_of entry))
+    list_any (λ parts. nat_eq parts 0) (parts_of entry) || nat_le WHOLE_STAKE (sum (parts_of entry))
 
 -- the first fault of an entry, whose voter stands in an earlier one or not
 abbrev pub entry_fault : Snapshot → Bool → Entry → Option Verdict

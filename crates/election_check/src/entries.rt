@@ -6,18 +6,15 @@ ghost use Rattle.weight_book.specs.Weights.{no_weights, IsFeasible};
 ghost use Rattle.weight_book.specs.Room.{HasRoom, KeepsRoom};
 ghost use Rattle.compact_solution.specs.Solution.{targets_of, parts_of, entries_of};
 ghost use Rattle.election_check.specs.First.{answer_of};
-ghost use Rattle.election_check.specs.Packed.{expanded, expand_fault, entries_fault, entry_fault, first_repeat, has_bad_share, edges_of, whole_stake, score_fault};
+ghost use Rattle.election_check.specs.Packed.{expanded, expand_fault, entries_fault, entry_fault, first_repeat, has_bad_share, edges_of, score_fault};
 ghost use Rattle.election_check.specs.Taking.{AreTaken, IsTaken};
 
 use crate::Verdict;
 use crate::prescores::check_size;
-use compact_solution::{Entry, GROUPS, Solution};
+use compact_solution::{Entry, GROUPS, Solution, WHOLE_STAKE};
 use election_snapshot::Snapshot;
 use npos_base::{Edge, MOST_NOMINATIONS, Score};
 use weight_book::Weights;
-
-/// The parts that a whole stake is shared in.
-const WHOLE_STAKE: u64 = 65_535;
 
 /// Fills empty weights with the members and edges of a solution, or tells the first fault of its
 /// entries or of the number of members.
@@ -320,7 +317,7 @@ fn has_bad_share(entry: &Entry) -> bool
 /// Appends the edges of an entry whose voter has this stake.
 fn push_edges(stake: u64, entry: &Entry, weights: &mut Weights)
     requires spare { length (targets_of entry.now) ≤ weights.old.edge_spare }
-    requires shares { sum (parts_of entry.now) < whole_stake }
+    requires shares { sum (parts_of entry.now) < WHOLE_STAKE }
     ensures edges { weights.new.plain.edges ≡ weights.old.plain.edges ++ edges_of stake entry.now }
     ensures members { weights.new.plain.committee ≡ weights.old.plain.committee }
     ensures room { KeepsRoom weights.old weights.new }
@@ -346,7 +343,7 @@ fn push_edges(stake: u64, entry: &Entry, weights: &mut Weights)
 /// So many parts of the stake, rounded down. The product of the two may not fit, so the stake is
 /// split at a multiple of all parts.
 fn share_of(stake: u64, parts: u16) -> u64
-    ensures { result ≡ stake * parts / whole_stake }
+    ensures { result ≡ stake * parts / WHOLE_STAKE }
 {
     let parts = u64::from(parts);
     stake / WHOLE_STAKE * parts + stake % WHOLE_STAKE * parts / WHOLE_STAKE
