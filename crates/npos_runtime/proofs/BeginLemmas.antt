@@ -1,5 +1,5 @@
 -- The chain of a genesis without a fault is live.
-use Rattle.std.proofs.Common.{◌≡◌, ℕ, ◌+◌, ◌≤◌, ◌<◌, Bool, true, false, All, List, [], ◌∷◌, ◌++◌, Option, Some, None, refl, sym, subst, arith, nat_lt, nat_le, not, ◌&&◌, ap, ◌∙◌, if◌then◌else◌}
+use Rattle.std.proofs.Common.{◌≡◌, ℕ, ◌+◌, ◌≤◌, ◌<◌, Bool, true, false, All, List, [], ◌∷◌, ◌++◌, Option, Some, None, refl, sym, subst, arith, nat_lt, ap, ◌∙◌, if◌then◌else◌}
 use Rattle.std.specs.Option.{option_or}
 use Rattle.std.specs.List.Sorted.{IsStrictlySortedBy}
 use Rattle.std.proofs.lemmas.Bool.{ltb-false}
@@ -12,25 +12,25 @@ use Rattle.stake_ledger.specs.Rows.{gained}
 use Rattle.stake_ledger.specs.Ledger.{Ledger, row_at, empty_ledger, issuance_cap, IsBalanced}
 use Rattle.stake_ledger.specs.Calls.{endowed}
 use Rattle.stake_ledger.proofs.KeepLemmas.{balanced_endowed}
-use Rattle.npos_runtime.specs.declared.begin.GenesisFault.{GenesisFault}
-use Rattle.npos_runtime.specs.declared.begin.GenesisFault.TheVariants.{RepeatedAccount, TooMuch}
+use Rattle.chain_params.specs.declared.fault.GenesisFault.{GenesisFault}
+use Rattle.chain_params.specs.declared.fault.GenesisFault.TheVariants.{RepeatedAccount, TooMuch, BadThreshold}
 use Rattle.era_book.specs.Eras.{first_era}
 use Rattle.npos_runtime.proofs.RoleLemmas.{none_kept}
-use Rattle.npos_runtime.proofs.EraLemmas.{era_first}
-use Rattle.npos_runtime.specs.Genesis.{params_of, endowment_sum, endowed_all, endowment_fault, is_endowed, genesis_fault, genesis_chain, params_fault, numbers_fault, threshold_fault, limits_fault, is_within}
-use Rattle.npos_runtime.specs.declared.begin.GenesisFault.TheVariants.{BadThreshold, BadQueue, BadSolutionMax}
-use Rattle.npos_base.specs.Account.{same_account}
+use Rattle.chain_params.proofs.PhaseLemmas.{era_first}
+use Rattle.npos_runtime.specs.Genesis.{params_of, endowment_sum, endowed_all, endowment_fault, is_endowed, genesis_fault, genesis_chain}
+use Rattle.chain_params.specs.Faults.{params_fault, numbers_fault, threshold_fault, limits_fault, AreSound}
+use Rattle.npos_base.specs.Account.{same_account, account_cmp}
 use Rattle.stake_ledger.specs.declared.row.Row.{Row}
 use Rattle.stake_ledger.proofs.AccountLemmas.{row_at-changed}
 use Rattle.submission_queue.specs.Ranking.{IsOrdered, empty_queue}
 use Rattle.voter_lists.specs.Bags.{IsRisingFrom}
 use Rattle.std.proofs.lemmas.Bool.Decides.{nat_tests}
-use Rattle.npos_base.specs.Account.{account_cmp}
 use Rattle.npos_runtime.specs.declared.chain.Chain.{Chain}
-use Rattle.npos_runtime.specs.Rules.{thresholds_in, places_of}
+use Rattle.chain_params.specs.Rules.{thresholds_in, places_of}
 use Rattle.npos_runtime.specs.Calls.{release_now}
 use Rattle.block_wire.specs.declared.genesis.Params.{Params}
-use Rattle.npos_runtime.specs.Live.{IsLive, IsReady, AreSound}
+use Rattle.npos_runtime.specs.Live.{IsLive, IsReady}
+use Rattle.chain_params.proofs.FaultLemmas.{first_none, places_within}
 use Rattle.npos_runtime.proofs.EndowLemmas.{sum_more}
 use Rattle.npos_runtime.proofs.LiveLemmas.{chunks_changed}
 
@@ -39,10 +39,6 @@ neither : (a b : Bool) (x y : GenesisFault) (r : Option GenesisFault)
 neither true b x y r none = cc
 neither false true x y r none = cc
 neither false false x y r none = (refl, none)
-
-first_none : (a b : Option GenesisFault) → option_or a b ≡ None → (a ≡ None) × (b ≡ None)
-first_none None b none = (refl, none)
-first_none (Some x) b none = cc
 
 -- books that balance, with nothing unlocking and nothing minted
 record IsFresh (ledger : Ledger) : Type 0 where
@@ -99,19 +95,6 @@ begun_chain params endowments = record {
 nobody_rises : IsStrictlySortedBy account_cmp []
 unfolding IsStrictlySortedBy
 nobody_rises = tt
-
--- a queue has the places of sound params
-places_within : (params : Params) → params_fault params ≡ None → (1 ≤ params.queue) × (params.queue ≤ 16)
-places_within params sound =
-    let limits = (first_none (threshold_fault 0 0 params.thresholds) (limits_fault params)
-    (first_none (numbers_fault params) (option_or (threshold_fault 0 0 params.thresholds) (limits_fault params)) sound).1).1 in
-    at (nat_le 1 params.queue) (nat_le params.queue 16) (not (is_within 1 2097152 params.solution_max)) refl refl limits where
-      at : (a b c : Bool) → nat_le 1 params.queue ≡ a → nat_le params.queue 16 ≡ b
-          → (if not (a && b) then Some (BadQueue params.queue) else if c then Some (BadSolutionMax params.solution_max) else None) ≡ None
-          → (1 ≤ params.queue) × (params.queue ≤ 16)
-      at true true c f g none = (grind (arith, nat_tests), grind (arith, nat_tests))
-      at true false c f g none = cc
-      at false b c f g none = cc
 
 places_ordered : (params : Option Params) → AreSound params → IsOrdered (empty_queue (places_of params))
 places_ordered None sound = record { some = omega arith; most = omega arith; fits = omega arith; by_rank = tt }

@@ -33,16 +33,17 @@ use Rattle.npos_runtime.specs.declared.refusal.Refusal.{Refusal}
 use Rattle.npos_runtime.specs.declared.refusal.Refusal.TheVariants as refusals
 use Rattle.npos_runtime.specs.declared.round.Round.{Round}
 use Rattle.npos_runtime.specs.declared.round.Round.TheVariants as rounds
-use Rattle.npos_runtime.specs.Rules.{era_of, place_of, is_signed, is_decision, reward_of, solution_max_of}
+use Rattle.chain_params.specs.Rules.{era_of, place_of, is_signed, is_decision, reward_of, solution_max_of, begun_round}
 use Rattle.npos_runtime.specs.Ballots.{snapshot_of, commissions_of}
-use Rattle.npos_runtime.specs.Rounds.{begun_round, round_after, round_phase, is_few, is_poor}
+use Rattle.npos_runtime.specs.Rounds.{round_after, round_phase, is_few, is_poor}
 use Rattle.npos_runtime.specs.Signed.{is_open, current_round, submission_of, form_refusal, offer_refusal, submit_refusal, submitted}
 use Rattle.npos_runtime.specs.Decision.{judged, is_yes, fails, losers, others, forfeit_line, paid_lines, seat_line, member_lines, committee_of, decision_of, decision_phase}
 use Rattle.npos_runtime.specs.Deposits.{all_burned}
 use Rattle.npos_runtime.specs.Outcome.{Outcome, quiet}
 use Rattle.npos_runtime.specs.Calls.{refusal_of, done_of}
 use Rattle.npos_runtime.specs.Step.{era_phase, call_after, call_outcome, calls_outcome, closed, step, after_blocks}
-use Rattle.npos_runtime.specs.Genesis.{params_fault, genesis_chain}
+use Rattle.chain_params.specs.Faults.{params_fault}
+use Rattle.npos_runtime.specs.Genesis.{genesis_chain}
 use Rattle.npos_runtime.specs.Live.{IsLive}
 use Rattle.npos_runtime.specs.Offers.{is_offered, offer_of, offers_in, offers_by, before_calls, LosesTo, FillsAfter}
 use Rattle.npos_runtime.specs.Laws.{CrowdingLaw as RoundsLaw}
@@ -50,7 +51,7 @@ use Rattle.npos_runtime.proofs.DecisionLemmas.{winner_holds, fails_first, holds_
 use Rattle.npos_runtime.proofs.LiveLemmas.{live_before, due_before, live_call, live_step, live_blocks, due_step, due_calls, fixed_calls, params_decision}
 use Rattle.npos_runtime.proofs.BeginLemmas.{live_begun}
 use Rattle.npos_runtime.proofs.LawLemmas.{undecided, decides}
-use Rattle.npos_runtime.proofs.EraLemmas.{next_place, phases_sound}
+use Rattle.chain_params.proofs.PhaseLemmas.{next_place, phases_sound}
 
 -- ## The queue of a round
 

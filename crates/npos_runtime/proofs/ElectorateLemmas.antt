@@ -20,12 +20,13 @@ use Rattle.election_snapshot.specs.Draft.{Draft, accounts_of, voter_fault, with_
 use Rattle.election_snapshot.proofs.KeptLemmas.{kept_with}
 use Rattle.npos_runtime.specs.declared.chain.Chain.{Chain}
 use Rattle.npos_runtime.specs.declared.round.Round.TheVariants as rounds
-use Rattle.npos_runtime.specs.Genesis.{numbers_fault, limits_fault, threshold_fault, is_within}
+use Rattle.chain_params.specs.Faults.{numbers_fault, limits_fault, threshold_fault, is_within, AreSound}
 use Rattle.std.proofs.lemmas.List.Elements.{All-nil, All-cons}
-use Rattle.npos_runtime.specs.Ballots.{active_of, votes_of, is_eligible, ballot_of, seats_of, snapshot_of, commission_in, commissions_of}
+use Rattle.npos_runtime.specs.Ballots.{active_of, votes_of, is_eligible, ballot_of, snapshot_of, commission_in, commissions_of}
+use Rattle.chain_params.specs.Rules.{seats_of}
 use Rattle.npos_runtime.specs.Rounds.{is_few, is_poor, round_now}
 use Rattle.npos_base.specs.declared.limits.TheConstants.{WHOLE_FRACTION}
-use Rattle.npos_runtime.specs.Live.{IsLive, IsSoundRound, IsNotedRound, AreSound}
+use Rattle.npos_runtime.specs.Live.{IsLive, IsSoundRound, IsNotedRound}
 use Rattle.npos_runtime.specs.Polling.{IsPolled, polled}
 use Rattle.npos_runtime.proofs.StepLemmas.{polled_next, polled_first, polled_full, polled_through}
 use Rattle.npos_runtime.proofs.VoterLemmas.{no_fault}

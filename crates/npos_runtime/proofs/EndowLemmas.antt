@@ -13,8 +13,8 @@ use Rattle.stake_ledger.specs.Ledger.{Ledger, row_of, empty_ledger, issuance_cap
 use Rattle.stake_ledger.specs.Calls.{endowed}
 use Rattle.npos_base.proofs.AccountOrder.{same_exact, same_itself}
 use Rattle.stake_ledger.proofs.LedgerLemmas.{row_of-changed, others_stay}
-use Rattle.npos_runtime.specs.declared.begin.GenesisFault.{GenesisFault}
-use Rattle.npos_runtime.specs.declared.begin.GenesisFault.TheVariants.{RepeatedAccount, TooMuch}
+use Rattle.chain_params.specs.declared.fault.GenesisFault.{GenesisFault}
+use Rattle.chain_params.specs.declared.fault.GenesisFault.TheVariants.{RepeatedAccount, TooMuch}
 use Rattle.npos_runtime.specs.Genesis.{is_endowed, endowment_sum, endowed_all, endowment_fault, opening_fault, IsFault}
 use Rattle.npos_runtime.proofs.FaultLemmas.{is_first}
 use Rattle.npos_runtime.proofs.LiveLemmas.{same_or_not}

@@ -35,7 +35,7 @@ use Rattle.era_book.proofs.LawLemmas.{reward_law, due_law, for_sum}
 use Rattle.npos_runtime.specs.declared.chain.Chain.{Chain}
 use Rattle.npos_runtime.specs.declared.line.Line.TheVariants as lines
 use Rattle.npos_runtime.specs.declared.refusal.Refusal.{Refusal}
-use Rattle.npos_runtime.specs.Rules.{era_of, era_reward_of}
+use Rattle.chain_params.specs.Rules.{era_of, era_reward_of}
 use Rattle.npos_runtime.specs.Refusals.{code_of}
 use Rattle.npos_runtime.specs.Outcome.{Election}
 use Rattle.npos_runtime.specs.Offices.{payout_now, all_minted, paid_line, payout_told, slash_told, slashed_once, slashes, offence_told}
@@ -49,7 +49,7 @@ use Rattle.npos_runtime.specs.EraLaws.{event_of_kind, event_of, events_in, event
 use Rattle.npos_runtime.proofs.LiveLemmas.{slashed_live, live_before, live_calls, live_blocks}
 use Rattle.npos_runtime.proofs.BeginLemmas.{live_begun}
 use Rattle.npos_runtime.proofs.OfficeLemmas.{payout_sums}
-use Rattle.npos_runtime.proofs.EraLemmas.{era_first}
+use Rattle.chain_params.proofs.PhaseLemmas.{era_first}
 use Rattle.npos_runtime.proofs.HistoryLemmas.{payout_free, accepted_plain, eras_block, sum_blocks, params_step}
 use Rattle.npos_runtime.proofs.SeatedLemmas.{same_round}
 use Rattle.npos_runtime.proofs.StoryLemmas.{IsStory, story_blocks, story_accepted, plain_seated, plain_begun}

@@ -26,9 +26,9 @@ use Rattle.npos_runtime.specs.declared.line.Line.TheVariants as lines
 use Rattle.npos_runtime.specs.declared.refusal.Refusal.{Refusal}
 use Rattle.npos_runtime.specs.declared.round.Round.{Round}
 use Rattle.npos_runtime.specs.declared.round.Round.TheVariants as rounds
-use Rattle.npos_runtime.specs.Rules.{begun_era, is_decision, reward_of}
+use Rattle.chain_params.specs.Rules.{begun_era, is_decision, reward_of, begun_round}
 use Rattle.npos_runtime.specs.Ballots.{snapshot_of}
-use Rattle.npos_runtime.specs.Rounds.{begun_round, is_few, is_poor, round_line, round_phase}
+use Rattle.npos_runtime.specs.Rounds.{is_few, is_poor, round_line, round_phase}
 use Rattle.npos_runtime.specs.Deposits.{returned, return_lines, all_burned}
 use Rattle.npos_runtime.specs.Signed.{ejected, submission_of, form_refusal, offer_refusal}
 use Rattle.npos_runtime.specs.Decision.{fails, losers, others, forfeit_line, reward_in, paid_lines, seat_line, member_line, committee_of, decided, decision_of, decision_phase}

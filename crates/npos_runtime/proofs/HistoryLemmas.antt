@@ -19,7 +19,7 @@ use Rattle.npos_runtime.specs.declared.refusal.Refusal.{Refusal}
 use Rattle.npos_runtime.specs.declared.refusal.Refusal.TheVariants.{Ledger as ByLedger, Era as ByEra, NotRoot}
 use Rattle.npos_runtime.specs.Committee.{Committee}
 use Rattle.npos_runtime.specs.Exposed.{exposed}
-use Rattle.npos_runtime.specs.Rules.{begun_era}
+use Rattle.chain_params.specs.Rules.{begun_era}
 use Rattle.npos_runtime.specs.Offices.{is_root, points_refusal, payout_refusal, payout_now, offence_refusal}
 use Rattle.npos_runtime.specs.Calls.{refusal_of, done_of}
 use Rattle.npos_runtime.specs.Step.{eras_after, call_after, call_outcome, calls_outcome, step}

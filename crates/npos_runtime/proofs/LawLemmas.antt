@@ -14,19 +14,20 @@ use Rattle.npos_runtime.specs.declared.chain.Chain.{Chain}
 use Rattle.npos_runtime.specs.declared.refusal.Refusal.{Refusal}
 use Rattle.npos_runtime.specs.declared.round.Round.{Round}
 use Rattle.npos_runtime.specs.declared.round.Round.TheVariants as rounds
-use Rattle.npos_runtime.specs.Rules.{era_of, is_decision, place_of}
-use Rattle.npos_runtime.specs.Rounds.{begun_round, round_after, round_phase}
+use Rattle.chain_params.specs.Rules.{era_of, is_decision, place_of, begun_round}
+use Rattle.npos_runtime.specs.Rounds.{round_after, round_phase}
 use Rattle.npos_runtime.specs.Genesis.{genesis_chain}
 use Rattle.npos_runtime.specs.Decision.{others, decided_weights, decision_of, decision_phase}
 use Rattle.npos_runtime.specs.Outcome.{Election, Outcome, quiet}
 use Rattle.npos_runtime.specs.Calls.{refusal_of}
 use Rattle.npos_runtime.specs.Step.{era_phase, call_after, call_outcome, calls_outcome, step, seated_by}
-use Rattle.npos_runtime.specs.Live.{IsLive, IsSoundRound, AreSound}
+use Rattle.npos_runtime.specs.Live.{IsLive, IsSoundRound}
+use Rattle.chain_params.specs.Faults.{AreSound}
 use Rattle.npos_runtime.specs.Laws.{IsSound, SoundStepLaw, SoundLaw, SeatsLaw, HeldLaw}
 use Rattle.npos_runtime.proofs.VerdictLemmas.{decided_passes}
 use Rattle.npos_runtime.proofs.BeginLemmas.{live_begun}
 use Rattle.npos_runtime.specs.Offers.{before_calls}
-use Rattle.npos_runtime.proofs.EraLemmas.{phases_sound}
+use Rattle.chain_params.proofs.PhaseLemmas.{phases_sound}
 use Rattle.npos_runtime.proofs.LiveLemmas.{live_era, live_round, live_step, live_blocks, due_step, fixed_calls}
 
 -- ## Calls seat nobody

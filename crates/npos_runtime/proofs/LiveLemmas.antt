@@ -1,7 +1,7 @@
 -- A call that is not refused keeps what holds of a chain between blocks.
 use Rattle.std.proofs.Common.{◌≡◌, ◌≢◌, ◌⊎◌, inl, inr, ℕ, zero, suc, ◌/◌, ◌+◌, ◌≤◌, Bool, true, false, All, List, [], ◌∷◌, ◌++◌, Option, Some, None, option_map, refl, sym, ◌∙◌, ap, subst, arith, nat_lt, length, ◌-◌, ◌<◌, ◌^◌, ◌==◌, ◌&&◌, is_some, true≢false, if◌then◌else◌}
-use Rattle.std.specs.Option.{unwrap_or}
-use Rattle.std.proofs.lemmas.Bool.{cond_both}
+use Rattle.std.specs.Option.{unwrap_or, option_or}
+use Rattle.std.proofs.lemmas.Bool.{cond_both, ltb-false}
 use Rattle.std.proofs.lemmas.Bool.Decides.{eqb_tells}
 use Rattle.std.proofs.lemmas.List.Elements.{All-filter, All-cons, All-head, All-tail}
 use Rattle.std.proofs.lemmas.Grind.{common_steps}
@@ -15,29 +15,26 @@ use Rattle.stake_ledger.specs.declared.row.Row.{Row}
 use Rattle.stake_ledger.specs.Chunks.{chunk_sum, with_chunk, without_latest, lessened, is_empty}
 use Rattle.stake_ledger.specs.Rows.{empty_row, activated, unbonded, rebonded, withdrawn, gained, paid}
 use Rattle.stake_ledger.specs.Ledger.{Ledger, row_at, changed, IsBalanced}
-use Rattle.stake_ledger.specs.Calls.{transfer_refusal as book_transfer_refusal, transferred, bond_refusal as book_bond_refusal, bond_extra_refusal as book_bond_extra_refusal, unbond_refusal as book_unbond_refusal, unbond_amount, rebond_refusal as book_rebond_refusal, rebond_amount, withdraw_refusal as book_withdraw_refusal}
+use Rattle.stake_ledger.specs.Calls.{transfer_refusal as book_transfer_refusal, transferred, bond_refusal as book_bond_refusal, bond_extra_refusal as book_bond_extra_refusal, unbond_refusal as book_unbond_refusal, unbond_amount, rebond_refusal as book_rebond_refusal, rebond_amount, withdraw_refusal as book_withdraw_refusal, deposit_held, mint_refusal, room_of, slashed}
 use Rattle.stake_ledger.specs.declared.call.RowCall.TheVariants as row_calls
 use Rattle.stake_ledger.proofs.LedgerLemmas.{row_of-changed, others_stay}
 use Rattle.stake_ledger.proofs.KeepLemmas.{balanced_called, balanced_transferred}
 use Rattle.npos_runtime.specs.declared.chain.Chain.{Chain}
-use Rattle.npos_runtime.specs.declared.refusal.Refusal.TheVariants.{Ledger as ByLedger, List as ByList, Era as ByEra}
+use Rattle.npos_runtime.specs.declared.refusal.Refusal.TheVariants.{Ledger as ByLedger, List as ByList, Era as ByEra, NotBetter}
 use Rattle.npos_base.specs.Account.{same_account}
-use Rattle.std.specs.Option.{option_or}
 use Rattle.voter_lists.specs.declared.standing.Standing.{Standing}
 use Rattle.voter_lists.specs.declared.standing.Standing.TheVariants.{Nominator, Validator}
 use Rattle.voter_lists.specs.Roles.{RoleList, standing_of, role_in, role_of, with_standing, without_role, nominate_refusal as list_nominate_refusal, validate_refusal as list_validate_refusal}
 use Rattle.voter_lists.specs.Bags.{Listing, is_listed, removed, moved, rebag_refusal as list_rebag_refusal, put_in_front, put_in_front_refusal as list_put_in_front_refusal}
 use Rattle.npos_runtime.specs.Ballots.{active_of}
 use Rattle.npos_runtime.specs.Lists.{has_role, is_nominator_role, is_validator_role, followed, placed, with_stake, is_over, retired}
-use Rattle.npos_runtime.specs.Rounds.{round_phase, round_after, begun_round}
+use Rattle.npos_runtime.specs.Rounds.{round_phase, round_after}
+use Rattle.chain_params.specs.Rules.{begun_round, least_bond_of, era_of, begun_era, reward_of, era_reward_of, is_decision}
 use Rattle.std.specs.Result.{is_err}
 use Rattle.stake_ledger.specs.declared.refusal.LedgerRefusal.TheVariants.{LowFunds, IssuanceCap}
-use Rattle.stake_ledger.specs.Calls.{deposit_held, mint_refusal, room_of, slashed}
-use Rattle.std.proofs.lemmas.Bool.{ltb-false}
 use Rattle.submission_queue.specs.declared.submission.Submission.{Submission}
 use Rattle.submission_queue.specs.Ranking.{offered, offer_answer}
 use Rattle.election_snapshot.specs.Snapshot.{Snapshot}
-use Rattle.npos_runtime.specs.declared.refusal.Refusal.TheVariants.{NotBetter}
 use Rattle.npos_runtime.specs.declared.round.Round.{Round}
 use Rattle.npos_runtime.specs.declared.round.Round.TheVariants as rounds
 use Rattle.npos_runtime.specs.Committee.{Committee}
@@ -58,7 +55,6 @@ use Rattle.npos_runtime.specs.Offices.{payout_now, payout_refusal, all_minted, s
 use Rattle.npos_runtime.proofs.ElectorateLemmas.{sound_round, noted_round}
 use Rattle.npos_runtime.proofs.ListLemmas.{IsListed, listed_from, listing_from, kept_followed, kept_removed, kept_rebagged, kept_front, kept_placed}
 use Rattle.npos_runtime.proofs.RoleLemmas.{AreKept, apart_from, standing_with, standing_other, standing_without, standing_without_other, kept_without, kept_nominated, kept_validating}
-use Rattle.npos_runtime.specs.Rules.{least_bond_of, era_of, begun_era, reward_of, era_reward_of, is_decision}
 use Rattle.npos_runtime.specs.Calls.{era_now, release_now, least_active, role_refusal, refusal_of, done_of}
 use Rattle.npos_runtime.specs.declared.refusal.Refusal.{Refusal}
 use Rattle.block_wire.specs.declared.call.Call.{Call}

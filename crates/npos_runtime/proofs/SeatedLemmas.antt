@@ -22,19 +22,20 @@ use Rattle.npos_runtime.specs.declared.refusal.Refusal.{Refusal}
 use Rattle.npos_runtime.specs.declared.round.Round.{Round}
 use Rattle.npos_runtime.specs.declared.round.Round.TheVariants as rounds
 use Rattle.npos_runtime.specs.Committee.{Committee}
-use Rattle.npos_runtime.specs.Rules.{era_of, place_of, begun_era, is_decision}
+use Rattle.chain_params.specs.Rules.{era_of, place_of, begun_era, is_decision, begun_round}
 use Rattle.npos_runtime.specs.Ballots.{snapshot_of, commissions_of}
-use Rattle.npos_runtime.specs.Rounds.{begun_round, round_after, round_phase, is_few, is_poor}
+use Rattle.npos_runtime.specs.Rounds.{round_after, round_phase, is_few, is_poor}
 use Rattle.npos_runtime.specs.Decision.{others, decided_weights, committee_of, decision_of, decision_phase}
 use Rattle.npos_runtime.specs.Exposed.{exposed}
 use Rattle.npos_runtime.specs.Outcome.{Election, Outcome, quiet}
 use Rattle.npos_runtime.specs.Calls.{refusal_of, done_of}
 use Rattle.npos_runtime.specs.Step.{waiting_after, eras_after, era_phase, call_after, call_outcome, calls_outcome, closed, step}
-use Rattle.npos_runtime.specs.Genesis.{params_fault}
+use Rattle.chain_params.specs.Faults.{params_fault}
 use Rattle.npos_runtime.specs.Live.{IsLive, IsSoundRound, IsNotedCommittee}
 use Rattle.npos_runtime.specs.Offers.{before_calls}
 use Rattle.npos_runtime.specs.EraLaws.{elected_for, stake_in, stake_behind}
-use Rattle.npos_runtime.proofs.EraLemmas.{next_place, phases_sound, era_begun}
+use Rattle.chain_params.proofs.PhaseLemmas.{next_place, phases_sound}
+use Rattle.npos_runtime.proofs.EraLemmas.{era_begun}
 use Rattle.npos_runtime.proofs.ElectedLemmas.{IsGiven, follows_rising, exposures_sound, exposures_within, nobody_sound}
 use Rattle.npos_runtime.proofs.LiveLemmas.{live_era, live_round, fixed_calls, due_calls, due_before}
 use Rattle.npos_runtime.proofs.LawLemmas.{undecided, seats_step}

@@ -16,11 +16,11 @@ use Rattle.era_book.proofs.EventLemmas.{accepted_append, after_append, begun_app
 use Rattle.npos_runtime.specs.declared.chain.Chain.{Chain}
 use Rattle.npos_runtime.specs.Committee.{Committee}
 use Rattle.npos_runtime.specs.Exposed.{exposed}
-use Rattle.npos_runtime.specs.Rules.{era_of, begun_era, is_decision}
+use Rattle.chain_params.specs.Rules.{era_of, begun_era, is_decision}
 use Rattle.npos_runtime.specs.Decision.{decision_of}
 use Rattle.npos_runtime.specs.Outcome.{Election, quiet}
 use Rattle.npos_runtime.specs.Step.{eras_after, step, after_blocks, seated_by}
-use Rattle.npos_runtime.specs.Genesis.{params_fault}
+use Rattle.chain_params.specs.Faults.{params_fault}
 use Rattle.npos_runtime.specs.Live.{IsLive}
 use Rattle.npos_runtime.specs.Offers.{before_calls}
 use Rattle.npos_runtime.specs.EraLaws.{started_by, events_in, events_by, elected_for, stake_behind}

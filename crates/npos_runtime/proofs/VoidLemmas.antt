@@ -9,7 +9,8 @@ use Rattle.npos_runtime.specs.declared.round.Round.{Round}
 use Rattle.npos_runtime.specs.declared.round.Round.TheVariants.{Void, Open}
 use Rattle.npos_runtime.specs.declared.line.Line.{Line}
 use Rattle.npos_runtime.specs.declared.line.Line.TheVariants as lines
-use Rattle.npos_runtime.specs.Ballots.{ballot_of, seats_of, snapshot_of, commissions_of}
+use Rattle.npos_runtime.specs.Ballots.{ballot_of, snapshot_of, commissions_of}
+use Rattle.chain_params.specs.Rules.{seats_of}
 use Rattle.npos_runtime.specs.Rounds.{is_few, is_poor, round_now, round_line}
 
 few_at : (bad few poor : Bool) (a b c d : SnapshotFault) (v o : Round) (x y z : Line) → ((a ≡ d) → ⊥) → ((c ≡ d) → ⊥)

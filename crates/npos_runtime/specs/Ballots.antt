@@ -1,9 +1,8 @@
 -- The snapshot of a round: who stands, who votes, and for whom, as roles, bags and active stakes
 -- are at that moment.
-use Rattle.std.specs.Prelude.{ℕ, Bool, List, [], ◌∷◌, map, filter, filter_map, take, length, Option, Some, None, nat_lt, ◌&&◌}
+use Rattle.std.specs.Prelude.{ℕ, Bool, List, [], ◌∷◌, map, filter, filter_map, take, length, nat_lt, ◌&&◌}
 use Rattle.npos_base.specs.declared.account.AccountId.{AccountId}
 use Rattle.npos_base.specs.declared.limits.TheConstants.{MOST_VOTERS}
-use Rattle.block_wire.specs.declared.genesis.Params.{Params}
 use Rattle.stake_ledger.specs.Ledger.{row_at}
 use Rattle.voter_lists.specs.declared.standing.Role.{Role}
 use Rattle.voter_lists.specs.declared.standing.Role.TheVariants as role
@@ -12,6 +11,7 @@ use Rattle.voter_lists.specs.Bags.{walk}
 use Rattle.election_snapshot.specs.Snapshot.{Voter, Snapshot}
 use Rattle.election_snapshot.specs.Draft.{Draft, place_of, seated}
 use Rattle.npos_runtime.specs.declared.chain.Chain.{Chain}
+use Rattle.chain_params.specs.Rules.{seats_of}
 
 abbrev pub active_of : Chain → AccountId → ℕ
 active_of chain who = (row_at chain.book who).active
@@ -46,11 +46,6 @@ ballot_of chain = record {
   targets = validators_of chain.roles;
   voters = map (voter_of chain) (electorate chain);
 }
-
--- a genesis without params seats one
-abbrev pub seats_of : Option Params → ℕ
-seats_of None = 1
-seats_of (Some params) = params.seats
 
 abbrev pub snapshot_of : Chain → Snapshot
 snapshot_of chain = seated (ballot_of chain) (seats_of chain.params)

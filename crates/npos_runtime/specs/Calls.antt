@@ -14,7 +14,7 @@ use Rattle.voter_lists.specs.Bags.{removed, moved, rebag_refusal as list_rebag_r
 use Rattle.npos_runtime.specs.declared.chain.Chain.{Chain}
 use Rattle.npos_runtime.specs.declared.refusal.Refusal.{Refusal}
 use Rattle.npos_runtime.specs.declared.refusal.Refusal.TheVariants.{Ledger as ByLedger, List as ByList}
-use Rattle.npos_runtime.specs.Rules.{bonding_eras_of, least_bond_of, era_of}
+use Rattle.chain_params.specs.Rules.{bonding_eras_of, least_bond_of, era_of}
 use Rattle.npos_runtime.specs.Ballots.{active_of}
 use Rattle.npos_runtime.specs.declared.line.Line.{Line}
 use Rattle.npos_runtime.specs.Signed.{submit_refusal, submit_done, submit_told}

@@ -19,7 +19,7 @@ use Rattle.npos_runtime.specs.declared.line.Line.TheVariants as lines
 use Rattle.npos_runtime.specs.declared.round.Round.{Round}
 use Rattle.npos_runtime.specs.declared.round.Round.TheVariants as rounds
 use Rattle.npos_runtime.specs.Committee.{Committee}
-use Rattle.npos_runtime.specs.Rules.{reward_of, is_decision}
+use Rattle.chain_params.specs.Rules.{reward_of, is_decision}
 use Rattle.npos_runtime.specs.Outcome.{Outcome, quiet}
 use Rattle.npos_runtime.specs.Deposits.{returned, all_returned, all_burned, return_line, return_lines}
 

@@ -24,7 +24,7 @@ use Rattle.npos_runtime.specs.declared.line.Line.TheVariants as lines
 use Rattle.npos_runtime.specs.declared.refusal.Refusal.{Refusal}
 use Rattle.npos_runtime.specs.Committee.{Committee}
 use Rattle.npos_runtime.specs.Exposed.{exposed}
-use Rattle.npos_runtime.specs.Rules.{begun_era, era_reward_of}
+use Rattle.chain_params.specs.Rules.{begun_era, era_reward_of}
 use Rattle.npos_runtime.specs.Outcome.{Election}
 use Rattle.npos_runtime.specs.Genesis.{genesis_fault, genesis_chain, params_of}
 use Rattle.npos_runtime.specs.Calls.{refusal_of, done_of, told_of}

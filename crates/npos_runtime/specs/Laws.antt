@@ -9,7 +9,7 @@ use Rattle.weight_book.specs.Passing.{Passes}
 use Rattle.weight_book.specs.Proportional.{IsProportional}
 use Rattle.npos_runtime.specs.declared.chain.Chain.{Chain}
 use Rattle.npos_runtime.specs.declared.round.Round.TheVariants as rounds
-use Rattle.npos_runtime.specs.Rules.{is_decision}
+use Rattle.chain_params.specs.Rules.{is_decision}
 use Rattle.npos_runtime.specs.Outcome.{Election}
 use Rattle.npos_runtime.specs.Decision.{others, decided_weights, committee_of}
 use Rattle.npos_runtime.specs.Genesis.{genesis_fault, genesis_chain}

@@ -1,4 +1,3 @@
-pub mod Rules
 pub mod Refusals
 pub mod Stops
 pub mod Committee

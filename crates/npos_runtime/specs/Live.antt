@@ -2,11 +2,10 @@
 use Rattle.std.specs.Prelude.{◌≡◌, ℕ, ◌+◌, ◌-◌, ◌*◌, ◌^◌, ◌≤◌, false, All, List, count_by, length, Option, Some, None}
 use Rattle.npos_base.specs.declared.account.AccountId.{AccountId}
 use Rattle.npos_base.specs.declared.limits.TheConstants.{MOST_NOMINATIONS, WHOLE_FRACTION}
-use Rattle.block_wire.specs.declared.genesis.Params.{Params}
 use Rattle.stake_ledger.specs.Ledger.{row_at, IsBalanced}
 use Rattle.npos_runtime.specs.declared.chain.Chain.{Chain}
-use Rattle.npos_runtime.specs.Genesis.{params_fault}
-use Rattle.npos_runtime.specs.Rules.{era_of}
+use Rattle.chain_params.specs.Rules.{era_of}
+use Rattle.chain_params.specs.Faults.{AreSound}
 use Rattle.npos_runtime.specs.Ballots.{commission_in}
 use Rattle.npos_runtime.specs.Committee.{Committee}
 use Rattle.npos_runtime.specs.Calls.{release_now}
@@ -20,11 +19,6 @@ use Rattle.npos_runtime.specs.declared.round.Round.{Round}
 use Rattle.npos_runtime.specs.declared.round.Round.TheVariants.{Open}
 use Rattle.npos_runtime.specs.Deposits.{AreHeld}
 use Rattle.npos_runtime.specs.Lists.{has_role}
-
--- the params are without a fault
-abbrev pub AreSound : Option Params → Type 0
-AreSound None = Unit {0}
-AreSound (Some params) = params_fault params ≡ None
 
 -- an account is listed in the bags exactly while it has a role
 abbrev pub IsJoined : RoleList → Listing → Type 0

@@ -19,7 +19,7 @@ use Rattle.npos_runtime.specs.declared.line.Line.TheVariants.{SeatSigned, SeatFi
 use Rattle.npos_runtime.specs.declared.refusal.Refusal.{Refusal}
 use Rattle.npos_runtime.specs.declared.refusal.Refusal.TheVariants.{NotBetter}
 use Rattle.npos_runtime.specs.declared.round.Round.TheVariants as rounds
-use Rattle.npos_runtime.specs.Rules.{is_decision}
+use Rattle.chain_params.specs.Rules.{is_decision}
 use Rattle.npos_runtime.specs.Rounds.{round_phase}
 use Rattle.npos_runtime.specs.Signed.{submission_of, submit_refusal}
 use Rattle.npos_runtime.specs.Decision.{judged, forfeit_line, decision_phase}

@@ -13,7 +13,7 @@ use Rattle.npos_runtime.specs.declared.line.Line.{Line}
 use Rattle.npos_runtime.specs.declared.line.Line.TheVariants as lines
 use Rattle.npos_runtime.specs.declared.refusal.Refusal.{Refusal}
 use Rattle.npos_runtime.specs.declared.refusal.Refusal.TheVariants.{Ledger as ByLedger, Era as ByEra, NotRoot}
-use Rattle.npos_runtime.specs.Rules.{root_of, era_reward_of}
+use Rattle.chain_params.specs.Rules.{root_of, era_reward_of}
 use Rattle.npos_runtime.specs.Lists.{retired}
 use Rattle.npos_runtime.specs.Outcome.{Outcome, telling, quiet, after}
 

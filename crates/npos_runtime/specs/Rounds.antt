@@ -1,21 +1,14 @@
 -- A round begins with its snapshot. It is void where there are fewer targets than seats, or too little stake.
-use Rattle.std.specs.Prelude.{ℕ, ◌+◌, ◌*◌, Bool, List, length, Option, Some, None, option_map, option_to_list, nat_lt, ◌==◌, ◌||◌, if◌then◌else◌}
-use Rattle.block_wire.specs.declared.genesis.Params.{Params}
+use Rattle.std.specs.Prelude.{ℕ, ◌*◌, Bool, List, length, Option, Some, None, option_map, option_to_list, nat_lt, ◌||◌, if◌then◌else◌}
 use Rattle.election_snapshot.specs.Snapshot.{Snapshot, total_stake}
 use Rattle.npos_runtime.specs.declared.chain.Chain.{Chain}
 use Rattle.npos_runtime.specs.declared.round.Round.{Round}
 use Rattle.npos_runtime.specs.declared.round.Round.TheVariants as rounds
 use Rattle.npos_runtime.specs.declared.line.Line.{Line}
 use Rattle.npos_runtime.specs.declared.line.Line.TheVariants as lines
-use Rattle.npos_runtime.specs.Rules.{era_of, place_of}
+use Rattle.chain_params.specs.Rules.{begun_round}
 use Rattle.npos_runtime.specs.Outcome.{Outcome, telling}
 use Rattle.npos_runtime.specs.Ballots.{snapshot_of, commissions_of}
-
--- the round whose snapshot is taken in this block, if one is; the round of an era is one more than the era
-abbrev pub begun_round : Option Params → ℕ → Option ℕ
-begun_round None number = None
-begun_round (Some params) number =
-    if place_of params number == params.offset then Some (era_of (Some params) number + 1) else None
 
 abbrev pub is_few : Snapshot → Bool
 is_few snapshot = nat_lt (length snapshot.targets) snapshot.seats

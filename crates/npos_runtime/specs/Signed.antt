@@ -16,7 +16,7 @@ use Rattle.npos_runtime.specs.declared.refusal.Refusal.{Refusal}
 use Rattle.npos_runtime.specs.declared.refusal.Refusal.TheVariants.{Ledger as ByLedger, NotBetter, WrongPhase, WrongRound, SolutionTooLong}
 use Rattle.npos_runtime.specs.declared.round.Round.{Round}
 use Rattle.npos_runtime.specs.declared.round.Round.TheVariants as rounds
-use Rattle.npos_runtime.specs.Rules.{deposit_of, era_of, is_signed, solution_max_of}
+use Rattle.chain_params.specs.Rules.{deposit_of, era_of, is_signed, solution_max_of}
 use Rattle.npos_runtime.specs.Deposits.{all_returned, return_lines}
 
 -- a round stands that is not void

@@ -8,7 +8,7 @@ use Rattle.npos_runtime.specs.declared.chain.Chain.{Chain}
 use Rattle.npos_runtime.specs.declared.line.Line.{Line}
 use Rattle.npos_runtime.specs.declared.line.Line.TheVariants as lines
 use Rattle.npos_runtime.specs.declared.refusal.Refusal.{Refusal}
-use Rattle.npos_runtime.specs.Rules.{begun_era}
+use Rattle.chain_params.specs.Rules.{begun_era}
 use Rattle.npos_runtime.specs.Refusals.{code_of}
 use Rattle.npos_runtime.specs.Outcome.{Election, Outcome, telling, quiet, after}
 use Rattle.npos_runtime.specs.Committee.{Committee}

@@ -9,11 +9,11 @@ ghost use Rattle.npos_runtime.specs.Lists.{followed, listed_anew, retired, unlis
 
 use crate::lists::{has_role, is_role, retire};
 use crate::offices::{offence, payout, points};
-use crate::rules::{bonding_eras_of, era_of, least_bond_of};
 use crate::signed::submit;
 use crate::stop::Stop;
 use crate::{Chain, Line};
 use block_wire::CallKind;
+use chain_params::{bonding_eras_of, era_of, least_bond_of};
 use npos_base::{AccountId, List, NoMemory};
 use stake_ledger::LedgerRefusal;
 use std::alloc::Global;

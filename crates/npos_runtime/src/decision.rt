@@ -18,8 +18,8 @@ ghost use Rattle.npos_runtime.specs.Deposits.{AreHeld, burned, all_burned};
 ghost use Rattle.npos_runtime.specs.Decision.{judged, losers, others, decided_weights, forfeit_line, reward_in, rewarded, paid_out, paid_lines, rising, seat_line, member_line, member_lines, books_decided, deposit_lines, decision_phase};
 
 use crate::deposits::{return_all, return_deposit};
-use crate::rules::{is_decision, reward_of};
 use crate::{Chain, Line, Round, Waiting};
+use chain_params::{is_decision, reward_of};
 use election_check::laws::{a_packed_yes_is_a_plain_yes, a_plain_yes_is_passing};
 use election_check::{Checker, Elected, Verdict};
 use election_snapshot::Snapshot;

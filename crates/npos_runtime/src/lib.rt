@@ -15,15 +15,14 @@ mod lists;
 mod offices;
 mod refusal;
 mod round;
-mod rules;
 mod runtime;
 mod signed;
 mod step;
 mod stop;
 mod waiting;
 
-pub use begin::GenesisFault;
 pub use chain::Chain;
+pub use chain_params::GenesisFault;
 pub use line::Line;
 pub use refusal::Refusal;
 pub use round::Round;

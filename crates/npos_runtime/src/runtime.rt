@@ -12,8 +12,9 @@ ghost use Rattle.npos_runtime.specs.declared.runtime.BlockFault.TheVariants.{NoM
 
 use crate::begin::begin;
 use crate::step::take_block;
-use crate::{Chain, GenesisFault, Line};
+use crate::{Chain, Line};
 use block_wire::{Block, Genesis};
+use chain_params::GenesisFault;
 use election_check::Elected;
 use era_book::EraBook;
 use npos_base::{List, NoMemory};

@@ -9,10 +9,10 @@ use crate::act::act;
 use crate::ballot::take_snapshot;
 use crate::decision::decide_round;
 use crate::era::begin_era;
-use crate::rules::begun_round;
 use crate::stop::Stop;
 use crate::{Chain, Line};
 use block_wire::Call;
+use chain_params::begun_round;
 use npos_base::NoMemory;
 use std::alloc::Global;
 

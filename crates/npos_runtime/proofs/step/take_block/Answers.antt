@@ -5,8 +5,8 @@ use Rattle.npos_runtime.specs.Step.{era_phase, calls_outcome}
 use Rattle.npos_runtime.specs.Rounds.{round_phase}
 use Rattle.npos_runtime.specs.Decision.{decision_phase}
 use Rattle.npos_runtime.specs.Live.{IsLive}
-use Rattle.npos_runtime.specs.Rules.{era_of}
-use Rattle.npos_runtime.proofs.EraLemmas.{era_within}
+use Rattle.chain_params.specs.Rules.{era_of}
+use Rattle.chain_params.proofs.PhaseLemmas.{era_within}
 use Rattle.npos_runtime.proofs.LiveLemmas.{live_era, live_round, live_before, live_closed, due_before, next_before, due_calls, next_calls, era_step}
 use Rattle.npos_runtime.proofs.step.take_block.Goals as goal
 

@@ -33,6 +33,17 @@ begun_era (Some params) number =
     if (place_of params number == 0) && nat_lt 0 (era_of (Some params) number)
     then Some (era_of (Some params) number) else None
 
+-- a genesis without params seats one
+abbrev pub seats_of : Option Params → ℕ
+seats_of None = 1
+seats_of (Some params) = params.seats
+
+-- the round whose snapshot is taken in this block, if one is; the round of an era is one more than the era
+abbrev pub begun_round : Option Params → ℕ → Option ℕ
+begun_round None number = None
+begun_round (Some params) number =
+    if place_of params number == params.offset then Some (era_of (Some params) number + 1) else None
+
 -- the thresholds between the bags
 abbrev pub thresholds_in : Option Params → List ℕ
 thresholds_in None = []

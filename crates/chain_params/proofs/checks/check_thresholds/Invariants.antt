@@ -1,6 +1,6 @@
 use Rattle.std.proofs.Common.{◌≡◌, drop}
-use Rattle.npos_runtime.specs.Genesis.{threshold_fault}
-use Rattle.npos_runtime.proofs.begin.check_thresholds.Given as goal
+use Rattle.chain_params.specs.Faults.{threshold_fault}
+use Rattle.chain_params.proofs.checks.check_thresholds.Given as goal
 
 -- the first fault of the thresholds that are left is that of all
 abbrev pub invariant-loop-place : goal.invariant-loop-place

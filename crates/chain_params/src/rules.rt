@@ -1,13 +1,13 @@
 //! What the params of the genesis say, and what holds without params.
-ghost use Rattle.std.specs.Prelude.{◌≡◌, ◌<◌, ◌≤◌, ◌^◌, IfSome};
-ghost use Rattle.npos_runtime.specs.Rules as rules;
-ghost use Rattle.npos_runtime.specs.Ballots.{seats_of};
-ghost use Rattle.npos_runtime.specs.Rounds.{begun_round};
-ghost use Rattle.npos_runtime.specs.Live.{AreSound};
+ghost use Rattle.std.specs.Prelude.{◌≡◌, ◌<◌, ◌≤◌, ◌^◌, IfOk};
+ghost use Rattle.chain_params.specs.Rules as rules;
+ghost use Rattle.chain_params.specs.Rules.{seats_of, begun_round, thresholds_in};
+ghost use Rattle.chain_params.specs.Faults.{AreSound};
 ghost use Rattle.npos_base.specs.declared.limits.TheConstants.{MOST_QUEUED};
 
 use block_wire::Params;
-use npos_base::AccountId;
+use npos_base::{AccountId, List, NoMemory};
+use std::alloc::Global;
 
 /// Who gives points and reports offences. A plain genesis names nobody, and then it is account 0.
 pub fn root_of(params: &Option<Params>) -> AccountId
@@ -89,6 +89,19 @@ pub fn begun_round(params: &Option<Params>, number: u64) -> Option<u32>
         Some(era_of(params, number) + 1)
     } else {
         None
+    }
+}
+
+/// A copy of the thresholds of the params; none where there are no params.
+pub fn copy_thresholds(alloc: Global, params: &Option<Params>) -> Result<List<u64>, NoMemory>
+    ensures { IfOk result (λ thresholds. thresholds ≡ thresholds_in params.now) }
+{
+    match params {
+        None => Ok(List::new(alloc)),
+        Some(params) => {
+            let thresholds = Vec::from_slice(alloc, params.thresholds.as_slice())?;
+            Ok(List::from_vec(thresholds))
+        }
     }
 }
 
