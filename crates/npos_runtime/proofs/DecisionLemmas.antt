@@ -10,8 +10,8 @@ use Rattle.compact_solution.specs.Decoded.{decoded}
 use Rattle.election_check.specs.Packed.{weights_decoded}
 use Rattle.quota_fill.specs.Filled.{filled}
 use Rattle.weight_book.specs.Weights.{Weights}
-use Rattle.npos_runtime.specs.declared.line.Line.{Line}
-use Rattle.npos_runtime.specs.declared.line.Line.TheVariants as lines
+use Rattle.block_receipts.specs.declared.line.Line.{Line}
+use Rattle.block_receipts.specs.declared.line.Line.TheVariants as lines
 use Rattle.npos_runtime.specs.Deposits.{all_burned}
 use Rattle.npos_runtime.specs.Decision.{judged, is_yes, fails, losers, others, decided_weights, forfeit_line, paid_out, paid_lines, rising, seat_line, books_decided, deposit_lines}
 

@@ -33,10 +33,10 @@ use Rattle.era_book.specs.Events.{Event, Paid, AreAccepted, after_all, given_by,
 use Rattle.era_book.proofs.EventLemmas.{accepted_append, after_append, given_append}
 use Rattle.era_book.proofs.LawLemmas.{reward_law, due_law, for_sum}
 use Rattle.npos_runtime.specs.declared.chain.Chain.{Chain}
-use Rattle.npos_runtime.specs.declared.line.Line.TheVariants as lines
-use Rattle.npos_runtime.specs.declared.refusal.Refusal.{Refusal}
+use Rattle.block_receipts.specs.declared.line.Line.TheVariants as lines
+use Rattle.block_receipts.specs.declared.refusal.Refusal.{Refusal}
 use Rattle.chain_params.specs.Rules.{era_of, era_reward_of}
-use Rattle.npos_runtime.specs.Refusals.{code_of}
+use Rattle.block_receipts.specs.Refusals.{code_of}
 use Rattle.npos_runtime.specs.Outcome.{Election}
 use Rattle.npos_runtime.specs.Offices.{payout_now, all_minted, paid_line, payout_told, slash_told, slashed_once, slashes, offence_told}
 use Rattle.npos_runtime.specs.Calls.{refusal_of, done_of, told_of}

@@ -21,9 +21,9 @@ use Rattle.weight_book.specs.Weights.{Weights}
 use Rattle.submission_queue.specs.declared.submission.Submission.{Submission}
 use Rattle.submission_queue.specs.Ranking.{Ranking, offered}
 use Rattle.npos_runtime.specs.declared.chain.Chain.{Chain}
-use Rattle.npos_runtime.specs.declared.line.Line.{Line}
-use Rattle.npos_runtime.specs.declared.line.Line.TheVariants as lines
-use Rattle.npos_runtime.specs.declared.refusal.Refusal.{Refusal}
+use Rattle.block_receipts.specs.declared.line.Line.{Line}
+use Rattle.block_receipts.specs.declared.line.Line.TheVariants as lines
+use Rattle.block_receipts.specs.declared.refusal.Refusal.{Refusal}
 use Rattle.npos_runtime.specs.declared.round.Round.{Round}
 use Rattle.npos_runtime.specs.declared.round.Round.TheVariants as rounds
 use Rattle.chain_params.specs.Rules.{begun_era, is_decision, reward_of, begun_round}

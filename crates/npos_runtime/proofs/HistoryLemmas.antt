@@ -15,8 +15,8 @@ use Rattle.era_book.specs.Eras.{Eras}
 use Rattle.era_book.specs.Events.{Event, Started, AreAccepted, after_all, given_by, begun}
 use Rattle.era_book.proofs.EventLemmas.{accepted_append, after_append, given_append, begun_append}
 use Rattle.npos_runtime.specs.declared.chain.Chain.{Chain}
-use Rattle.npos_runtime.specs.declared.refusal.Refusal.{Refusal}
-use Rattle.npos_runtime.specs.declared.refusal.Refusal.TheVariants.{Ledger as ByLedger, Era as ByEra, NotRoot}
+use Rattle.block_receipts.specs.declared.refusal.Refusal.{Refusal}
+use Rattle.block_receipts.specs.declared.refusal.Refusal.TheVariants.{Ledger as ByLedger, Era as ByEra, NotRoot}
 use Rattle.npos_runtime.specs.Committee.{Committee}
 use Rattle.npos_runtime.specs.Exposed.{exposed}
 use Rattle.chain_params.specs.Rules.{begun_era}

@@ -20,7 +20,7 @@ use Rattle.stake_ledger.specs.declared.call.RowCall.TheVariants as row_calls
 use Rattle.stake_ledger.proofs.LedgerLemmas.{row_of-changed, others_stay}
 use Rattle.stake_ledger.proofs.KeepLemmas.{balanced_called, balanced_transferred}
 use Rattle.npos_runtime.specs.declared.chain.Chain.{Chain}
-use Rattle.npos_runtime.specs.declared.refusal.Refusal.TheVariants.{Ledger as ByLedger, List as ByList, Era as ByEra, NotBetter}
+use Rattle.block_receipts.specs.declared.refusal.Refusal.TheVariants.{Ledger as ByLedger, List as ByList, Era as ByEra, NotBetter}
 use Rattle.npos_base.specs.Account.{same_account}
 use Rattle.voter_lists.specs.declared.standing.Standing.{Standing}
 use Rattle.voter_lists.specs.declared.standing.Standing.TheVariants.{Nominator, Validator}
@@ -56,7 +56,7 @@ use Rattle.npos_runtime.proofs.ElectorateLemmas.{sound_round, noted_round}
 use Rattle.npos_runtime.proofs.ListLemmas.{IsListed, listed_from, listing_from, kept_followed, kept_removed, kept_rebagged, kept_front, kept_placed}
 use Rattle.npos_runtime.proofs.RoleLemmas.{AreKept, apart_from, standing_with, standing_other, standing_without, standing_without_other, kept_without, kept_nominated, kept_validating}
 use Rattle.npos_runtime.specs.Calls.{era_now, release_now, least_active, role_refusal, refusal_of, done_of}
-use Rattle.npos_runtime.specs.declared.refusal.Refusal.{Refusal}
+use Rattle.block_receipts.specs.declared.refusal.Refusal.{Refusal}
 use Rattle.block_wire.specs.declared.call.Call.{Call}
 use Rattle.npos_runtime.specs.Offers.{before_calls}
 use Rattle.npos_runtime.specs.Step.{eras_after, waiting_after, era_phase, call_after, call_outcome, calls_outcome, closed, step, after_blocks}

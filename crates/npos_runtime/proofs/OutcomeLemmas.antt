@@ -1,7 +1,7 @@
 -- How the lines of parts of a step add up.
 use Rattle.std.proofs.Common.{◌≡◌, List, ◌++◌, ◌∙◌, ap, append_assoc}
 use Rattle.npos_runtime.specs.declared.chain.Chain.{Chain}
-use Rattle.npos_runtime.specs.declared.line.Line.{Line}
+use Rattle.block_receipts.specs.declared.line.Line.{Line}
 use Rattle.npos_runtime.specs.Outcome.{Outcome, Told, Goes, after, told_after}
 
 same_told : (a b : Told) → a.state ≡ b.state → a.lines ≡ b.lines → a ≡ b

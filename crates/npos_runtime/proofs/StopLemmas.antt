@@ -4,9 +4,9 @@ use Rattle.npos_base.specs.Refusal.{IsDue}
 use Rattle.voter_lists.specs.declared.refusal.ListRefusal.{ListRefusal}
 use Rattle.voter_lists.specs.declared.refusal.ListRefusal.TheVariants as lists
 use Rattle.npos_runtime.specs.declared.chain.Chain.{Chain}
-use Rattle.npos_runtime.specs.declared.refusal.Refusal.TheVariants.{List}
-use Rattle.npos_runtime.specs.declared.stop.Stop.TheVariants as stops
-use Rattle.npos_runtime.specs.Stops.{list_stop}
+use Rattle.block_receipts.specs.declared.refusal.Refusal.TheVariants.{List}
+use Rattle.block_receipts.specs.declared.stop.Stop.TheVariants as stops
+use Rattle.block_receipts.specs.Stops.{list_stop}
 use Rattle.npos_runtime.specs.Outcome.{Meets}
 
 due_stop : (due : Option ListRefusal) (refusal : ListRefusal) → IsDue lists.NoMemory due refusal

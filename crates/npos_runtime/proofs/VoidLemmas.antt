@@ -7,8 +7,8 @@ use Rattle.election_snapshot.specs.declared.fault.SnapshotFault.TheVariants.{Few
 use Rattle.npos_runtime.specs.declared.chain.Chain.{Chain}
 use Rattle.npos_runtime.specs.declared.round.Round.{Round}
 use Rattle.npos_runtime.specs.declared.round.Round.TheVariants.{Void, Open}
-use Rattle.npos_runtime.specs.declared.line.Line.{Line}
-use Rattle.npos_runtime.specs.declared.line.Line.TheVariants as lines
+use Rattle.block_receipts.specs.declared.line.Line.{Line}
+use Rattle.block_receipts.specs.declared.line.Line.TheVariants as lines
 use Rattle.npos_runtime.specs.Ballots.{ballot_of, snapshot_of, commissions_of}
 use Rattle.chain_params.specs.Rules.{seats_of}
 use Rattle.npos_runtime.specs.Rounds.{is_few, is_poor, round_now, round_line}

@@ -12,11 +12,11 @@ use Rattle.stake_ledger.specs.Calls.{transfer_refusal as book_transfer_refusal, 
 use Rattle.voter_lists.specs.Roles.{role_of, nominate_refusal as list_nominate_refusal, nominated, validate_refusal as list_validate_refusal, validating, chill_refusal as list_chill_refusal, without_role}
 use Rattle.voter_lists.specs.Bags.{removed, moved, rebag_refusal as list_rebag_refusal, put_in_front, put_in_front_refusal as list_put_in_front_refusal}
 use Rattle.npos_runtime.specs.declared.chain.Chain.{Chain}
-use Rattle.npos_runtime.specs.declared.refusal.Refusal.{Refusal}
-use Rattle.npos_runtime.specs.declared.refusal.Refusal.TheVariants.{Ledger as ByLedger, List as ByList}
+use Rattle.block_receipts.specs.declared.refusal.Refusal.{Refusal}
+use Rattle.block_receipts.specs.declared.refusal.Refusal.TheVariants.{Ledger as ByLedger, List as ByList}
 use Rattle.chain_params.specs.Rules.{bonding_eras_of, least_bond_of, era_of}
 use Rattle.npos_runtime.specs.Ballots.{active_of}
-use Rattle.npos_runtime.specs.declared.line.Line.{Line}
+use Rattle.block_receipts.specs.declared.line.Line.{Line}
 use Rattle.npos_runtime.specs.Signed.{submit_refusal, submit_done, submit_told}
 use Rattle.npos_runtime.specs.Offices.{points_refusal, points_done, payout_refusal, payout_done, payout_told, offence_refusal, offence_done, offence_told}
 use Rattle.npos_runtime.specs.Lists.{has_role, is_nominator_role, is_validator_role, placed, with_stake, retired}

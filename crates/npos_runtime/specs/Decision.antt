@@ -14,8 +14,8 @@ use Rattle.election_check.specs.declared.verdict.Verdict.TheVariants.{Yes}
 use Rattle.election_check.specs.Packed.{verdict_packed, weights_decoded}
 use Rattle.quota_fill.specs.Filled.{filled}
 use Rattle.npos_runtime.specs.declared.chain.Chain.{Chain}
-use Rattle.npos_runtime.specs.declared.line.Line.{Line}
-use Rattle.npos_runtime.specs.declared.line.Line.TheVariants as lines
+use Rattle.block_receipts.specs.declared.line.Line.{Line}
+use Rattle.block_receipts.specs.declared.line.Line.TheVariants as lines
 use Rattle.npos_runtime.specs.declared.round.Round.{Round}
 use Rattle.npos_runtime.specs.declared.round.Round.TheVariants as rounds
 use Rattle.npos_runtime.specs.Committee.{Committee}

@@ -5,8 +5,8 @@ use Rattle.npos_base.specs.Account.{same_account}
 use Rattle.stake_ledger.specs.Ledger.{Ledger, row_at, row_of}
 use Rattle.stake_ledger.specs.Calls.{deposit_returned, deposit_burned}
 use Rattle.submission_queue.specs.declared.submission.Submission.{Submission}
-use Rattle.npos_runtime.specs.declared.line.Line.{Line}
-use Rattle.npos_runtime.specs.declared.line.Line.TheVariants as lines
+use Rattle.block_receipts.specs.declared.line.Line.{Line}
+use Rattle.block_receipts.specs.declared.line.Line.TheVariants as lines
 
 -- the deposits of the account's submissions among these
 abbrev pub deposits_of : AccountId → List Submission → ℕ

@@ -1,8 +1,8 @@
 -- What becomes of submissions: each accepted one takes the next number, waits, and is settled once.
 use Rattle.std.specs.Prelude.{ℕ, Bool, false, List, count_by, nat_lt, ◌==◌, if◌then◌else◌}
 use Rattle.submission_queue.specs.declared.submission.Submission.{Submission}
-use Rattle.npos_runtime.specs.declared.line.Line.{Line}
-use Rattle.npos_runtime.specs.declared.line.Line.TheVariants as lines
+use Rattle.block_receipts.specs.declared.line.Line.{Line}
+use Rattle.block_receipts.specs.declared.line.Line.TheVariants as lines
 
 -- the line settles the submission of this number: its deposit is burned, or free again
 abbrev pub settles : ℕ → Line → Bool

@@ -1,5 +1,3 @@
-pub mod Refusals
-pub mod Stops
 pub mod Committee
 pub mod Outcome
 pub mod Ballots

@@ -2,7 +2,7 @@
 use Rattle.std.specs.Prelude.{◌≡◌, ◌≢◌, Bool, true, false, List}
 use Rattle.block_wire.specs.declared.block.Block.{Block}
 use Rattle.npos_runtime.specs.declared.chain.Chain.{Chain}
-use Rattle.npos_runtime.specs.declared.line.Line.{Line}
+use Rattle.block_receipts.specs.declared.line.Line.{Line}
 use Rattle.npos_runtime.specs.declared.runtime.BlockFault.{BlockFault}
 use Rattle.npos_runtime.specs.declared.runtime.BlockFault.TheVariants.{Spent, WrongNumber, NoMemory}
 use Rattle.npos_runtime.specs.Step.{step}

@@ -14,10 +14,10 @@ use Rattle.compact_solution.specs.Decoded.{decoded}
 use Rattle.election_check.specs.declared.verdict.Verdict.TheVariants.{Yes}
 use Rattle.election_check.specs.Packed.{weights_decoded}
 use Rattle.npos_runtime.specs.declared.chain.Chain.{Chain}
-use Rattle.npos_runtime.specs.declared.line.Line.{Line}
-use Rattle.npos_runtime.specs.declared.line.Line.TheVariants.{SeatSigned, SeatFill}
-use Rattle.npos_runtime.specs.declared.refusal.Refusal.{Refusal}
-use Rattle.npos_runtime.specs.declared.refusal.Refusal.TheVariants.{NotBetter}
+use Rattle.block_receipts.specs.declared.line.Line.{Line}
+use Rattle.block_receipts.specs.declared.line.Line.TheVariants.{SeatSigned, SeatFill}
+use Rattle.block_receipts.specs.declared.refusal.Refusal.{Refusal}
+use Rattle.block_receipts.specs.declared.refusal.Refusal.TheVariants.{NotBetter}
 use Rattle.npos_runtime.specs.declared.round.Round.TheVariants as rounds
 use Rattle.chain_params.specs.Rules.{is_decision}
 use Rattle.npos_runtime.specs.Rounds.{round_phase}

@@ -9,10 +9,10 @@ use Rattle.era_book.specs.declared.exposure.Backer.{Backer}
 use Rattle.era_book.specs.declared.payout.Payout.{Payout}
 use Rattle.era_book.specs.Calls.{points_refusal as era_points_refusal, pointed, payout_refusal as era_payout_refusal, payout_in, paid, slash_refusal, slash_in, reported}
 use Rattle.npos_runtime.specs.declared.chain.Chain.{Chain}
-use Rattle.npos_runtime.specs.declared.line.Line.{Line}
-use Rattle.npos_runtime.specs.declared.line.Line.TheVariants as lines
-use Rattle.npos_runtime.specs.declared.refusal.Refusal.{Refusal}
-use Rattle.npos_runtime.specs.declared.refusal.Refusal.TheVariants.{Ledger as ByLedger, Era as ByEra, NotRoot}
+use Rattle.block_receipts.specs.declared.line.Line.{Line}
+use Rattle.block_receipts.specs.declared.line.Line.TheVariants as lines
+use Rattle.block_receipts.specs.declared.refusal.Refusal.{Refusal}
+use Rattle.block_receipts.specs.declared.refusal.Refusal.TheVariants.{Ledger as ByLedger, Era as ByEra, NotRoot}
 use Rattle.chain_params.specs.Rules.{root_of, era_reward_of}
 use Rattle.npos_runtime.specs.Lists.{retired}
 use Rattle.npos_runtime.specs.Outcome.{Outcome, telling, quiet, after}

@@ -4,10 +4,10 @@ use Rattle.npos_base.specs.Refusal.{MeetsWhileRoom}
 use Rattle.election_snapshot.specs.Snapshot.{Snapshot}
 use Rattle.weight_book.specs.Weights.{Weights}
 use Rattle.npos_runtime.specs.declared.chain.Chain.{Chain}
-use Rattle.npos_runtime.specs.declared.line.Line.{Line}
-use Rattle.npos_runtime.specs.declared.refusal.Refusal.{Refusal}
-use Rattle.npos_runtime.specs.declared.stop.Stop.{Stop}
-use Rattle.npos_runtime.specs.declared.stop.Stop.TheVariants as stops
+use Rattle.block_receipts.specs.declared.line.Line.{Line}
+use Rattle.block_receipts.specs.declared.refusal.Refusal.{Refusal}
+use Rattle.block_receipts.specs.declared.stop.Stop.{Stop}
+use Rattle.block_receipts.specs.declared.stop.Stop.TheVariants as stops
 
 -- an election: the number of its round, its snapshot, and the weights of its committee
 pub record Election : Type 0 where

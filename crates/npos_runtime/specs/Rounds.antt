@@ -4,8 +4,8 @@ use Rattle.election_snapshot.specs.Snapshot.{Snapshot, total_stake}
 use Rattle.npos_runtime.specs.declared.chain.Chain.{Chain}
 use Rattle.npos_runtime.specs.declared.round.Round.{Round}
 use Rattle.npos_runtime.specs.declared.round.Round.TheVariants as rounds
-use Rattle.npos_runtime.specs.declared.line.Line.{Line}
-use Rattle.npos_runtime.specs.declared.line.Line.TheVariants as lines
+use Rattle.block_receipts.specs.declared.line.Line.{Line}
+use Rattle.block_receipts.specs.declared.line.Line.TheVariants as lines
 use Rattle.chain_params.specs.Rules.{begun_round}
 use Rattle.npos_runtime.specs.Outcome.{Outcome, telling}
 use Rattle.npos_runtime.specs.Ballots.{snapshot_of, commissions_of}

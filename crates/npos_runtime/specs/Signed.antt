@@ -11,9 +11,9 @@ use Rattle.submission_queue.specs.declared.submission.Submission.{Submission}
 use Rattle.submission_queue.specs.declared.submission.NotBetter.{NotBetter as Worse}
 use Rattle.submission_queue.specs.Ranking.{Ranking, offered, offer_answer}
 use Rattle.npos_runtime.specs.declared.chain.Chain.{Chain}
-use Rattle.npos_runtime.specs.declared.line.Line.{Line}
-use Rattle.npos_runtime.specs.declared.refusal.Refusal.{Refusal}
-use Rattle.npos_runtime.specs.declared.refusal.Refusal.TheVariants.{Ledger as ByLedger, NotBetter, WrongPhase, WrongRound, SolutionTooLong}
+use Rattle.block_receipts.specs.declared.line.Line.{Line}
+use Rattle.block_receipts.specs.declared.refusal.Refusal.{Refusal}
+use Rattle.block_receipts.specs.declared.refusal.Refusal.TheVariants.{Ledger as ByLedger, NotBetter, WrongPhase, WrongRound, SolutionTooLong}
 use Rattle.npos_runtime.specs.declared.round.Round.{Round}
 use Rattle.npos_runtime.specs.declared.round.Round.TheVariants as rounds
 use Rattle.chain_params.specs.Rules.{deposit_of, era_of, is_signed, solution_max_of}

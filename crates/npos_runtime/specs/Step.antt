@@ -5,11 +5,11 @@ use Rattle.block_wire.specs.declared.call.Call.{Call}
 use Rattle.block_wire.specs.declared.block.Block.{Block}
 use Rattle.era_book.specs.Eras.{Eras, started}
 use Rattle.npos_runtime.specs.declared.chain.Chain.{Chain}
-use Rattle.npos_runtime.specs.declared.line.Line.{Line}
-use Rattle.npos_runtime.specs.declared.line.Line.TheVariants as lines
-use Rattle.npos_runtime.specs.declared.refusal.Refusal.{Refusal}
+use Rattle.block_receipts.specs.declared.line.Line.{Line}
+use Rattle.block_receipts.specs.declared.line.Line.TheVariants as lines
+use Rattle.block_receipts.specs.declared.refusal.Refusal.{Refusal}
 use Rattle.chain_params.specs.Rules.{begun_era}
-use Rattle.npos_runtime.specs.Refusals.{code_of}
+use Rattle.block_receipts.specs.Refusals.{code_of}
 use Rattle.npos_runtime.specs.Outcome.{Election, Outcome, telling, quiet, after}
 use Rattle.npos_runtime.specs.Committee.{Committee}
 use Rattle.npos_runtime.specs.Exposed.{exposed}

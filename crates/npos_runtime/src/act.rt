@@ -7,11 +7,11 @@ ghost use Rattle.npos_runtime.specs.Calls.{release_now, refusal_of, done_of, tol
 ghost use Rattle.voter_lists.specs.Bags.{is_listed};
 ghost use Rattle.npos_runtime.specs.Lists.{followed, listed_anew, retired, unlisted};
 
+use crate::Chain;
 use crate::lists::{has_role, is_role, retire};
 use crate::offices::{offence, payout, points};
 use crate::signed::submit;
-use crate::stop::Stop;
-use crate::{Chain, Line};
+use block_receipts::{Line, Stop};
 use block_wire::CallKind;
 use chain_params::{bonding_eras_of, era_of, least_bond_of};
 use npos_base::{AccountId, List, NoMemory};

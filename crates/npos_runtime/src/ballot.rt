@@ -11,7 +11,8 @@ ghost use Rattle.npos_runtime.specs.Polling.{IsPolled, polled};
 ghost use Rattle.npos_runtime.specs.Live.{IsLive};
 
 use crate::guesses::Guesses;
-use crate::{Chain, Line, Round};
+use crate::{Chain, Round};
+use block_receipts::Line;
 use chain_params::seats_of;
 use election_snapshot::{SnapshotFault, SnapshotParts};
 use npos_base::{AccountId, List, MOST_VOTERS, NoMemory};

@@ -11,14 +11,15 @@ ghost use Rattle.election_check.specs.declared.verdict.Verdict.TheVariants.{Yes}
 ghost use Rattle.election_check.specs.Packed.{weights_decoded};
 ghost use Rattle.election_check.specs.Plain.{verdict_plain};
 ghost use Rattle.quota_fill.specs.Filled.{filled};
-ghost use Rattle.npos_runtime.specs.declared.line.Line.TheVariants as told;
+ghost use Rattle.block_receipts.specs.declared.line.Line.TheVariants as told;
 ghost use Rattle.npos_runtime.specs.Outcome.{Goes};
 ghost use Rattle.npos_runtime.specs.Live.{IsLive};
 ghost use Rattle.npos_runtime.specs.Deposits.{AreHeld, burned, all_burned};
 ghost use Rattle.npos_runtime.specs.Decision.{judged, losers, others, decided_weights, forfeit_line, reward_in, rewarded, paid_out, paid_lines, rising, seat_line, member_line, member_lines, books_decided, deposit_lines, decision_phase};
 
 use crate::deposits::{return_all, return_deposit};
-use crate::{Chain, Line, Round, Waiting};
+use crate::{Chain, Round, Waiting};
+use block_receipts::Line;
 use chain_params::{is_decision, reward_of};
 use election_check::laws::{a_packed_yes_is_a_plain_yes, a_plain_yes_is_passing};
 use election_check::{Checker, Elected, Verdict};

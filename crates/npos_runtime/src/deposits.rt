@@ -5,7 +5,7 @@ ghost use Rattle.stake_ledger.specs.Calls.{deposit_held};
 ghost use Rattle.submission_queue.specs.Ranking.{empty_queue};
 ghost use Rattle.npos_runtime.specs.Deposits.{AreHeld, returned, all_returned, return_line, return_lines};
 
-use crate::Line;
+use block_receipts::Line;
 use npos_base::{AccountId, NoMemory};
 use stake_ledger::Book;
 use submission_queue::{Queue, Submission};

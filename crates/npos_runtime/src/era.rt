@@ -9,7 +9,8 @@ ghost use Rattle.npos_runtime.specs.Exposed.{exposed, exposures_of};
 ghost use Rattle.npos_runtime.specs.Step.{era_phase};
 ghost use Rattle.npos_runtime.specs.Live.{IsLive, IsNotedCommittee, AreNoted};
 
-use crate::{Chain, Line, Waiting};
+use crate::{Chain, Waiting};
+use block_receipts::Line;
 use chain_params::begun_era;
 use election_check::Elected;
 use election_snapshot::Snapshot;

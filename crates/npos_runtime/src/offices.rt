@@ -7,9 +7,9 @@ ghost use Rattle.npos_runtime.specs.Outcome.{Goes, Meets, Untold};
 ghost use Rattle.npos_runtime.specs.Live.{IsLive};
 ghost use Rattle.npos_runtime.specs.Offices.{is_root, points_refusal, points_done, payout_refusal, payout_done, payout_told, all_minted, paid_line, offence_refusal, offence_done, offence_told, slash_outcome, slashes};
 
+use crate::Chain;
 use crate::lists::retire_unless;
-use crate::stop::Stop;
-use crate::{Chain, Line, Refusal};
+use block_receipts::{Line, Refusal, Stop};
 use chain_params::{era_reward_of, root_of};
 use era_book::Backer;
 use npos_base::{AccountId, List, NoMemory};

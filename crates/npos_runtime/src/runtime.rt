@@ -10,9 +10,10 @@ ghost use Rattle.npos_runtime.specs.Live.{IsReady, IsJoined};
 ghost use Rattle.npos_runtime.specs.declared.runtime.BlockFault.TheVariants as faults;
 ghost use Rattle.npos_runtime.specs.declared.runtime.BlockFault.TheVariants.{NoMemory as NoMemoryFault};
 
+use crate::Chain;
 use crate::begin::begin;
 use crate::step::take_block;
-use crate::{Chain, Line};
+use block_receipts::Line;
 use block_wire::{Block, Genesis};
 use chain_params::GenesisFault;
 use election_check::Elected;

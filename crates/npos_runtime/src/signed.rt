@@ -6,8 +6,8 @@ ghost use Rattle.npos_runtime.specs.Deposits.{return_lines};
 ghost use Rattle.npos_runtime.specs.Signed.{is_open, form_refusal, offer_refusal, ejected, submitted, submit_refusal, submit_done, submit_told};
 
 use crate::deposits::{hold, return_deposit};
-use crate::stop::Stop;
-use crate::{Chain, Line, Refusal, Round};
+use crate::{Chain, Round};
+use block_receipts::{Line, Refusal, Stop};
 use chain_params::{deposit_of, era_of, is_signed, solution_max_of};
 use npos_base::{AccountId, List, Score};
 use stake_ledger::LedgerRefusal;

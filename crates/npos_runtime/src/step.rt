@@ -5,12 +5,12 @@ ghost use Rattle.npos_runtime.specs.Step.{call_outcome, calls_outcome, opened, s
 ghost use Rattle.npos_runtime.specs.Rounds.{round_phase};
 ghost use Rattle.npos_runtime.specs.Live.{IsLive, IsReady};
 
+use crate::Chain;
 use crate::act::act;
 use crate::ballot::take_snapshot;
 use crate::decision::decide_round;
 use crate::era::begin_era;
-use crate::stop::Stop;
-use crate::{Chain, Line};
+use block_receipts::{Line, Stop};
 use block_wire::Call;
 use chain_params::begun_round;
 use npos_base::NoMemory;

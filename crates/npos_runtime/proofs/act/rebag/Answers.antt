@@ -1,8 +1,8 @@
 use Rattle.std.proofs.Common.{Err, option_map, subst}
 use Rattle.std.proofs.lemmas.Result.{err_from_is_err_and}
 use Rattle.voter_lists.specs.Bags.{rebag_refusal as list_rebag_refusal}
-use Rattle.npos_runtime.specs.declared.refusal.Refusal.TheVariants.{List}
-use Rattle.npos_runtime.specs.Stops.{list_stop}
+use Rattle.block_receipts.specs.declared.refusal.Refusal.TheVariants.{List}
+use Rattle.block_receipts.specs.Stops.{list_stop}
 use Rattle.npos_runtime.specs.Outcome.{Meets}
 use Rattle.npos_runtime.specs.Calls.{rebag_done}
 use Rattle.npos_runtime.proofs.StopLemmas.{list_refused}

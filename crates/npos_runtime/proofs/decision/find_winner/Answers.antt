@@ -3,7 +3,7 @@ use Rattle.stake_ledger.specs.Ledger.{Ledger}
 use Rattle.submission_queue.specs.declared.submission.Submission.{Submission}
 use Rattle.submission_queue.specs.Ranking.{Ranking}
 use Rattle.election_check.specs.Packed.{verdict_packed}
-use Rattle.npos_runtime.specs.declared.line.Line.TheVariants as lines
+use Rattle.block_receipts.specs.declared.line.Line.TheVariants as lines
 use Rattle.npos_runtime.specs.Deposits.{AreHeld, burned, all_burned}
 use Rattle.npos_runtime.specs.Decision.{judged, losers, others, forfeit_line}
 use Rattle.npos_runtime.proofs.DepositLemmas.{front, held_burned}

@@ -1,6 +1,6 @@
 //! Why a call of a block is refused.
 ghost use Rattle.std.specs.Prelude.{◌≡◌};
-ghost use Rattle.npos_runtime.specs.Refusals.{code_of, era_code, ledger_code, list_code};
+ghost use Rattle.block_receipts.specs.Refusals.{code_of, era_code, ledger_code, list_code};
 
 use era_book::EraRefusal;
 use stake_ledger::LedgerRefusal;

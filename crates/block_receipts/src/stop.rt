@@ -1,6 +1,6 @@
 //! Why a call stops: it is refused, or memory ran out.
 ghost use Rattle.std.specs.Prelude.{◌≡◌};
-ghost use Rattle.npos_runtime.specs.declared.stop.Stop.TheVariants.{NoMemory as NoMemoryStop};
+ghost use Rattle.block_receipts.specs.declared.stop.Stop.TheVariants.{NoMemory as NoMemoryStop};
 
 use crate::Refusal;
 use era_book::EraRefusal;
@@ -16,7 +16,7 @@ pub enum Stop {
 }
 
 impl From<LedgerRefusal> for Stop {
-    ghost use Rattle.npos_runtime.specs.Stops.{ledger_stop};
+    ghost use Rattle.block_receipts.specs.Stops.{ledger_stop};
 
     ghost from_gives = { λ refusal stop. stop ≡ ledger_stop refusal };
 
@@ -29,7 +29,7 @@ impl From<LedgerRefusal> for Stop {
 }
 
 impl From<ListRefusal> for Stop {
-    ghost use Rattle.npos_runtime.specs.Stops.{list_stop};
+    ghost use Rattle.block_receipts.specs.Stops.{list_stop};
 
     ghost from_gives = { λ refusal stop. stop ≡ list_stop refusal };
 
@@ -42,7 +42,7 @@ impl From<ListRefusal> for Stop {
 }
 
 impl From<EraRefusal> for Stop {
-    ghost use Rattle.npos_runtime.specs.Stops.{era_stop};
+    ghost use Rattle.block_receipts.specs.Stops.{era_stop};
 
     ghost from_gives = { λ refusal stop. stop ≡ era_stop refusal };
 

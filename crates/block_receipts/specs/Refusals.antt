@@ -6,8 +6,8 @@ use Rattle.voter_lists.specs.declared.refusal.ListRefusal.{ListRefusal}
 use Rattle.voter_lists.specs.declared.refusal.ListRefusal.TheVariants as lists
 use Rattle.era_book.specs.declared.refusal.EraRefusal.{EraRefusal}
 use Rattle.era_book.specs.declared.refusal.EraRefusal.TheVariants as eras
-use Rattle.npos_runtime.specs.declared.refusal.Refusal.{Refusal}
-use Rattle.npos_runtime.specs.declared.refusal.Refusal.TheVariants.{Ledger, List, Era, NotBetter, WrongPhase, WrongRound, SolutionTooLong, NotRoot}
+use Rattle.block_receipts.specs.declared.refusal.Refusal.{Refusal}
+use Rattle.block_receipts.specs.declared.refusal.Refusal.TheVariants.{Ledger, List, Era, NotBetter, WrongPhase, WrongRound, SolutionTooLong, NotRoot}
 
 -- want of memory is no reason to refuse a call, and has no number
 abbrev pub ledger_code : LedgerRefusal → ℕ

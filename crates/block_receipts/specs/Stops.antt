@@ -5,9 +5,9 @@ use Rattle.voter_lists.specs.declared.refusal.ListRefusal.{ListRefusal}
 use Rattle.voter_lists.specs.declared.refusal.ListRefusal.TheVariants as lists
 use Rattle.era_book.specs.declared.refusal.EraRefusal.{EraRefusal}
 use Rattle.era_book.specs.declared.refusal.EraRefusal.TheVariants as eras
-use Rattle.npos_runtime.specs.declared.refusal.Refusal.TheVariants.{Ledger, List, Era}
-use Rattle.npos_runtime.specs.declared.stop.Stop.{Stop}
-use Rattle.npos_runtime.specs.declared.stop.Stop.TheVariants as stops
+use Rattle.block_receipts.specs.declared.refusal.Refusal.TheVariants.{Ledger, List, Era}
+use Rattle.block_receipts.specs.declared.stop.Stop.{Stop}
+use Rattle.block_receipts.specs.declared.stop.Stop.TheVariants as stops
 
 abbrev pub ledger_stop : LedgerRefusal → Stop
 ledger_stop reasons.NoMemory = stops.NoMemory
