@@ -10,10 +10,9 @@ use Rattle.npos_base.specs.Account.{same_account}
 use Rattle.stake_ledger.specs.declared.row.Row.{Row}
 use Rattle.stake_ledger.specs.declared.chunks.Chunk.{Chunk}
 use Rattle.stake_ledger.specs.Rows as rows
-use Rattle.stake_ledger.specs.Rows.{worth}
+use Rattle.stake_ledger.specs.Rows.{worth, is_bonded}
 use Rattle.stake_ledger.specs.Ledger.{Ledger, row_at, row_of, changed, IsBalanced}
 use Rattle.stake_ledger.specs.Chunks.{without_first}
-use Rattle.stake_ledger.specs.Rows.{is_bonded}
 use Rattle.stake_ledger.specs.Calls.{deposit_held, deposit_returned, deposit_burned, minted_free, room_of, slashed, slash_amount}
 use Rattle.stake_ledger.proofs.LedgerLemmas.{schedule_at, total-changed, ordered-changed, schedules-changed}
 use Rattle.stake_ledger.proofs.KeepLemmas.{balanced_minted, balanced_slashed}
@@ -23,9 +22,9 @@ use Rattle.election_snapshot.specs.Snapshot.{Snapshot}
 use Rattle.era_book.specs.declared.exposure.Backer.{Backer}
 use Rattle.era_book.specs.Exposures.{amount_sum}
 use Rattle.npos_runtime.specs.Offices.{all_minted}
-use Rattle.npos_runtime.specs.Decision.{fails, losers, others, reward_in, rewarded, paid_out, books_decided}
-use Rattle.npos_runtime.specs.Deposits.{AreHeld, returned, burned, all_returned, all_burned}
-use Rattle.npos_runtime.proofs.DepositLemmas.{held_within, held_returned, held_burned, held_minted, held_more}
+use Rattle.round_decision.specs.Decision.{fails, losers, others, reward_in, rewarded, paid_out, books_decided}
+use Rattle.round_decision.specs.Deposits.{AreHeld, returned, burned, all_returned, all_burned}
+use Rattle.round_decision.proofs.DepositLemmas.{held_within, held_returned, held_burned, held_minted, held_more}
 
 -- what a chain keeps of its books, where these submissions are not settled
 pub record AreBooks (release : ℕ) (items : List Submission) (book : Ledger) : Type 0 where

@@ -37,8 +37,9 @@ use Rattle.chain_params.specs.Rules.{era_of, place_of, is_signed, is_decision, r
 use Rattle.npos_runtime.specs.Ballots.{snapshot_of, commissions_of}
 use Rattle.npos_runtime.specs.Rounds.{round_after, round_phase, is_few, is_poor}
 use Rattle.npos_runtime.specs.Signed.{is_open, current_round, submission_of, form_refusal, offer_refusal, submit_refusal, submitted}
-use Rattle.npos_runtime.specs.Decision.{judged, is_yes, fails, losers, others, forfeit_line, paid_lines, seat_line, member_lines, committee_of, decision_of, decision_phase}
-use Rattle.npos_runtime.specs.Deposits.{all_burned}
+use Rattle.round_decision.specs.Decision.{judged, is_yes, fails, losers, others, forfeit_line, paid_lines, seat_line, member_lines}
+use Rattle.npos_runtime.specs.Deciding.{committee_of, decision_of, decision_phase}
+use Rattle.round_decision.specs.Deposits.{all_burned}
 use Rattle.npos_runtime.specs.Outcome.{Outcome, quiet}
 use Rattle.npos_runtime.specs.Calls.{refusal_of, done_of}
 use Rattle.npos_runtime.specs.Step.{era_phase, call_after, call_outcome, calls_outcome, closed, step, after_blocks}
@@ -47,7 +48,7 @@ use Rattle.npos_runtime.specs.Genesis.{genesis_chain}
 use Rattle.npos_runtime.specs.Live.{IsLive}
 use Rattle.npos_runtime.specs.Offers.{is_offered, offer_of, offers_in, offers_by, before_calls, LosesTo, FillsAfter}
 use Rattle.npos_runtime.specs.Laws.{CrowdingLaw as RoundsLaw}
-use Rattle.npos_runtime.proofs.DecisionLemmas.{winner_holds, fails_first, holds_first}
+use Rattle.round_decision.proofs.DecisionLemmas.{winner_holds, fails_first, holds_first}
 use Rattle.npos_runtime.proofs.LiveLemmas.{live_before, due_before, live_call, live_step, live_blocks, due_step, due_calls, fixed_calls, params_decision}
 use Rattle.npos_runtime.proofs.BeginLemmas.{live_begun}
 use Rattle.npos_runtime.proofs.LawLemmas.{undecided, decides}

@@ -18,7 +18,7 @@ use Rattle.era_book.proofs.CommitteeLemmas.{filter_sum, spent_law}
 use Rattle.era_book.proofs.BackerLemmas.{apart_at}
 use Rattle.era_book.proofs.SoundLemmas.{sound_law, order_law}
 use Rattle.npos_runtime.specs.Committee.{Committee}
-use Rattle.npos_runtime.specs.Decision.{rising}
+use Rattle.round_decision.specs.Decision.{rising}
 use Rattle.npos_runtime.specs.Exposed.{voters_in, supports_in, edges_in, exposures_of}
 use Rattle.npos_runtime.specs.Live.{AreNoted}
 use Rattle.npos_runtime.specs.EraLaws.{stake_in}

@@ -29,9 +29,10 @@ use Rattle.npos_runtime.specs.declared.round.Round.TheVariants as rounds
 use Rattle.chain_params.specs.Rules.{begun_era, is_decision, reward_of, begun_round}
 use Rattle.npos_runtime.specs.Ballots.{snapshot_of}
 use Rattle.npos_runtime.specs.Rounds.{is_few, is_poor, round_line, round_phase}
-use Rattle.npos_runtime.specs.Deposits.{returned, return_lines, all_burned}
+use Rattle.round_decision.specs.Deposits.{returned, return_lines, all_burned}
 use Rattle.npos_runtime.specs.Signed.{ejected, submission_of, form_refusal, offer_refusal}
-use Rattle.npos_runtime.specs.Decision.{fails, losers, others, forfeit_line, reward_in, paid_lines, seat_line, member_line, committee_of, decided, decision_of, decision_phase}
+use Rattle.round_decision.specs.Decision.{fails, losers, others, forfeit_line, reward_in, paid_lines, seat_line, member_line}
+use Rattle.npos_runtime.specs.Deciding.{committee_of, decided, decision_of, decision_phase}
 use Rattle.npos_runtime.specs.Calls.{refusal_of, done_of, told_of}
 use Rattle.npos_runtime.specs.Outcome.{Outcome, quiet}
 use Rattle.npos_runtime.specs.Step.{era_phase, call_after, call_outcome, calls_outcome, step, after_blocks, told_by}

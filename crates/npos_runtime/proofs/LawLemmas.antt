@@ -17,14 +17,15 @@ use Rattle.npos_runtime.specs.declared.round.Round.TheVariants as rounds
 use Rattle.chain_params.specs.Rules.{era_of, is_decision, place_of, begun_round}
 use Rattle.npos_runtime.specs.Rounds.{round_after, round_phase}
 use Rattle.npos_runtime.specs.Genesis.{genesis_chain}
-use Rattle.npos_runtime.specs.Decision.{others, decided_weights, decision_of, decision_phase}
+use Rattle.round_decision.specs.Decision.{others, decided_weights}
+use Rattle.npos_runtime.specs.Deciding.{decision_of, decision_phase}
 use Rattle.npos_runtime.specs.Outcome.{Election, Outcome, quiet}
 use Rattle.npos_runtime.specs.Calls.{refusal_of}
 use Rattle.npos_runtime.specs.Step.{era_phase, call_after, call_outcome, calls_outcome, step, seated_by}
 use Rattle.npos_runtime.specs.Live.{IsLive, IsSoundRound}
 use Rattle.chain_params.specs.Faults.{AreSound}
 use Rattle.npos_runtime.specs.Laws.{IsSound, SoundStepLaw, SoundLaw, SeatsLaw, HeldLaw}
-use Rattle.npos_runtime.proofs.VerdictLemmas.{decided_passes}
+use Rattle.round_decision.proofs.VerdictLemmas.{decided_passes}
 use Rattle.npos_runtime.proofs.BeginLemmas.{live_begun}
 use Rattle.npos_runtime.specs.Offers.{before_calls}
 use Rattle.chain_params.proofs.PhaseLemmas.{phases_sound}

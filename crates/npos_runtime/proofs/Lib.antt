@@ -15,13 +15,9 @@ pub mod LiveLemmas
 pub mod EndowLemmas
 pub mod BeginLemmas
 pub mod OutcomeLemmas
-pub mod DepositLemmas
 pub mod OfferLemmas
-pub mod DecisionLemmas
 pub mod BookLemmas
 pub mod ElectorateLemmas
-pub mod SeatLemmas
-pub mod VerdictLemmas
 pub mod SubmitLemmas
 pub mod FateLemmas
 pub mod LawLemmas

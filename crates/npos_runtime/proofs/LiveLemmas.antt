@@ -38,11 +38,11 @@ use Rattle.election_snapshot.specs.Snapshot.{Snapshot}
 use Rattle.npos_runtime.specs.declared.round.Round.{Round}
 use Rattle.npos_runtime.specs.declared.round.Round.TheVariants as rounds
 use Rattle.npos_runtime.specs.Committee.{Committee}
-use Rattle.npos_runtime.specs.Deposits.{AreHeld}
+use Rattle.round_decision.specs.Deposits.{AreHeld}
 use Rattle.npos_runtime.specs.Signed.{form_refusal, offer_refusal, submission_of, ejected, submitted}
-use Rattle.npos_runtime.specs.Decision.{decided, decision_of, decision_phase}
+use Rattle.npos_runtime.specs.Deciding.{decided, decision_of, decision_phase}
 use Rattle.npos_runtime.specs.Outcome.{quiet}
-use Rattle.npos_runtime.proofs.DepositLemmas.{held_changed}
+use Rattle.round_decision.proofs.DepositLemmas.{held_changed}
 use Rattle.npos_runtime.proofs.OfferLemmas.{taken}
 use Rattle.npos_runtime.proofs.BookLemmas.{AreBooks, books_held, books_moved, all_books_returned, books_settled, books_slashed, all_books_minted}
 use Rattle.npos_runtime.proofs.OfficeLemmas.{payout_sums}

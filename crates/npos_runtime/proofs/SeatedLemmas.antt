@@ -25,7 +25,8 @@ use Rattle.npos_runtime.specs.Committee.{Committee}
 use Rattle.chain_params.specs.Rules.{era_of, place_of, begun_era, is_decision, begun_round}
 use Rattle.npos_runtime.specs.Ballots.{snapshot_of, commissions_of}
 use Rattle.npos_runtime.specs.Rounds.{round_after, round_phase, is_few, is_poor}
-use Rattle.npos_runtime.specs.Decision.{others, decided_weights, committee_of, decision_of, decision_phase}
+use Rattle.round_decision.specs.Decision.{others, decided_weights}
+use Rattle.npos_runtime.specs.Deciding.{committee_of, decision_of, decision_phase}
 use Rattle.npos_runtime.specs.Exposed.{exposed}
 use Rattle.npos_runtime.specs.Outcome.{Election, Outcome, quiet}
 use Rattle.npos_runtime.specs.Calls.{refusal_of, done_of}
@@ -39,7 +40,7 @@ use Rattle.npos_runtime.proofs.EraLemmas.{era_begun}
 use Rattle.npos_runtime.proofs.ElectedLemmas.{IsGiven, follows_rising, exposures_sound, exposures_within, nobody_sound}
 use Rattle.npos_runtime.proofs.LiveLemmas.{live_era, live_round, fixed_calls, due_calls, due_before}
 use Rattle.npos_runtime.proofs.LawLemmas.{undecided, seats_step}
-use Rattle.npos_runtime.proofs.VerdictLemmas.{decided_passes}
+use Rattle.round_decision.proofs.VerdictLemmas.{decided_passes}
 
 -- ## Elections by their rounds
 

@@ -17,7 +17,7 @@ use Rattle.npos_runtime.specs.declared.chain.Chain.{Chain}
 use Rattle.npos_runtime.specs.Committee.{Committee}
 use Rattle.npos_runtime.specs.Exposed.{exposed}
 use Rattle.chain_params.specs.Rules.{era_of, begun_era, is_decision}
-use Rattle.npos_runtime.specs.Decision.{decision_of}
+use Rattle.npos_runtime.specs.Deciding.{decision_of}
 use Rattle.npos_runtime.specs.Outcome.{Election, quiet}
 use Rattle.npos_runtime.specs.Step.{eras_after, step, after_blocks, seated_by}
 use Rattle.chain_params.specs.Faults.{params_fault}

@@ -6,10 +6,10 @@ use Rattle.stake_ledger.specs.Calls.{deposit_held}
 use Rattle.submission_queue.specs.declared.submission.Submission.{Submission}
 use Rattle.submission_queue.specs.Ranking.{offered, offer_answer}
 use Rattle.npos_runtime.specs.declared.chain.Chain.{Chain}
-use Rattle.npos_runtime.specs.Deposits.{AreHeld}
+use Rattle.round_decision.specs.Deposits.{AreHeld}
 use Rattle.npos_runtime.specs.Signed.{ejected, put_out}
 use Rattle.npos_runtime.specs.Live.{IsLive}
-use Rattle.npos_runtime.proofs.DepositLemmas.{held_more, held_within}
+use Rattle.round_decision.proofs.DepositLemmas.{held_more, held_within}
 use Rattle.npos_runtime.proofs.OfferLemmas.{taken}
 use Rattle.npos_runtime.proofs.BookLemmas.{held_moved}
 

@@ -11,11 +11,12 @@ use Rattle.npos_runtime.specs.declared.chain.Chain.{Chain}
 use Rattle.npos_runtime.specs.declared.round.Round.TheVariants as rounds
 use Rattle.chain_params.specs.Rules.{is_decision}
 use Rattle.npos_runtime.specs.Outcome.{Election}
-use Rattle.npos_runtime.specs.Decision.{others, decided_weights, committee_of}
+use Rattle.round_decision.specs.Decision.{others, decided_weights}
+use Rattle.npos_runtime.specs.Deciding.{committee_of}
 use Rattle.npos_runtime.specs.Genesis.{genesis_fault, genesis_chain}
 use Rattle.npos_runtime.specs.Live.{IsLive}
 use Rattle.npos_runtime.specs.Step.{step, after_blocks, told_by, seated_by}
-use Rattle.npos_runtime.specs.Deposits.{deposits_of}
+use Rattle.round_decision.specs.Deposits.{deposits_of}
 use Rattle.npos_runtime.specs.Fates.{fate, waiting_with, issued}
 use Rattle.npos_runtime.specs.Offers.{IsNoneCrowdedOut}
 use Rattle.npos_base.specs.declared.account.AccountId.{AccountId}

@@ -3,11 +3,10 @@ pub mod Outcome
 pub mod Ballots
 pub mod Rounds
 pub mod Lists
-pub mod Deposits
 pub mod Signed
 pub mod Offices
 pub mod Exposed
-pub mod Decision
+pub mod Deciding
 pub mod Calls
 pub mod Step
 pub mod Genesis

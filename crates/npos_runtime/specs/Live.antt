@@ -17,7 +17,7 @@ use Rattle.election_snapshot.specs.Snapshot.{IsWellFormed}
 use Rattle.submission_queue.specs.Ranking.{IsOrdered}
 use Rattle.npos_runtime.specs.declared.round.Round.{Round}
 use Rattle.npos_runtime.specs.declared.round.Round.TheVariants.{Open}
-use Rattle.npos_runtime.specs.Deposits.{AreHeld}
+use Rattle.round_decision.specs.Deposits.{AreHeld}
 use Rattle.npos_runtime.specs.Lists.{has_role}
 
 -- an account is listed in the bags exactly while it has a role

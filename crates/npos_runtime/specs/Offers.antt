@@ -22,7 +22,8 @@ use Rattle.npos_runtime.specs.declared.round.Round.TheVariants as rounds
 use Rattle.chain_params.specs.Rules.{is_decision}
 use Rattle.npos_runtime.specs.Rounds.{round_phase}
 use Rattle.npos_runtime.specs.Signed.{submission_of, submit_refusal}
-use Rattle.npos_runtime.specs.Decision.{judged, forfeit_line, decision_phase}
+use Rattle.round_decision.specs.Decision.{judged, forfeit_line}
+use Rattle.npos_runtime.specs.Deciding.{decision_phase}
 use Rattle.npos_runtime.specs.Step.{era_phase, call_outcome, step, after_blocks}
 
 -- ## Offers

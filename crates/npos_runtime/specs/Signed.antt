@@ -17,7 +17,7 @@ use Rattle.block_receipts.specs.declared.refusal.Refusal.TheVariants.{Ledger as 
 use Rattle.npos_runtime.specs.declared.round.Round.{Round}
 use Rattle.npos_runtime.specs.declared.round.Round.TheVariants as rounds
 use Rattle.chain_params.specs.Rules.{deposit_of, era_of, is_signed, solution_max_of}
-use Rattle.npos_runtime.specs.Deposits.{all_returned, return_lines}
+use Rattle.round_decision.specs.Deposits.{all_returned, return_lines}
 
 -- a round stands that is not void
 abbrev pub is_open : Option Round → Bool

@@ -14,7 +14,7 @@ use Rattle.npos_runtime.specs.Outcome.{Election, Outcome, telling, quiet, after}
 use Rattle.npos_runtime.specs.Committee.{Committee}
 use Rattle.npos_runtime.specs.Exposed.{exposed}
 use Rattle.npos_runtime.specs.Rounds.{round_phase}
-use Rattle.npos_runtime.specs.Decision.{decision_phase}
+use Rattle.npos_runtime.specs.Deciding.{decision_phase}
 use Rattle.npos_runtime.specs.Calls.{refusal_of, done_of, told_of}
 
 abbrev pub opened : ℕ → Chain → Outcome

@@ -6,7 +6,6 @@ mod ballot;
 mod begin;
 mod chain;
 mod decision;
-mod deposits;
 mod era;
 mod guesses;
 pub mod laws;

@@ -2,14 +2,14 @@
 ghost use Rattle.std.specs.Prelude.{◌≡◌, ◌+◌, ◌++◌, ◌<◌, ◌^◌, None, Some, OnOk, IfErr};
 ghost use Rattle.npos_runtime.specs.Outcome.{Meets, Untold};
 ghost use Rattle.npos_runtime.specs.Live.{IsLive};
-ghost use Rattle.npos_runtime.specs.Deposits.{return_lines};
+ghost use Rattle.round_decision.specs.Deposits.{return_lines};
 ghost use Rattle.npos_runtime.specs.Signed.{is_open, form_refusal, offer_refusal, ejected, submitted, submit_refusal, submit_done, submit_told};
 
-use crate::deposits::{hold, return_deposit};
 use crate::{Chain, Round};
 use block_receipts::{Line, Refusal, Stop};
 use chain_params::{deposit_of, era_of, is_signed, solution_max_of};
 use npos_base::{AccountId, List, Score};
+use round_decision::{hold, return_deposit};
 use stake_ledger::LedgerRefusal;
 use submission_queue::Submission;
 

@@ -3,7 +3,7 @@ use Rattle.npos_runtime.specs.Offers.{before_calls}
 use Rattle.npos_runtime.specs.declared.chain.Chain.{Chain}
 use Rattle.npos_runtime.specs.Step.{era_phase, calls_outcome}
 use Rattle.npos_runtime.specs.Rounds.{round_phase}
-use Rattle.npos_runtime.specs.Decision.{decision_phase}
+use Rattle.npos_runtime.specs.Deciding.{decision_phase}
 use Rattle.npos_runtime.specs.Live.{IsLive}
 use Rattle.chain_params.specs.Rules.{era_of}
 use Rattle.chain_params.proofs.PhaseLemmas.{era_within}

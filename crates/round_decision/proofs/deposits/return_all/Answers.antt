@@ -2,9 +2,9 @@ use Rattle.std.proofs.Common.{◌≡◌, ◌++◌, List, ◌∷◌, [], drop, ap
 use Rattle.stake_ledger.specs.Ledger.{Ledger}
 use Rattle.submission_queue.specs.declared.submission.Submission.{Submission}
 use Rattle.submission_queue.specs.Ranking.{Ranking}
-use Rattle.npos_runtime.specs.Deposits.{AreHeld, returned, all_returned, return_line, return_lines}
-use Rattle.npos_runtime.proofs.DepositLemmas.{front, held_returned}
-use Rattle.npos_runtime.proofs.deposits.return_all.Goals as goal
+use Rattle.round_decision.specs.Deposits.{AreHeld, returned, all_returned, return_line, return_lines}
+use Rattle.round_decision.proofs.DepositLemmas.{front, held_returned}
+use Rattle.round_decision.proofs.deposits.return_all.Goals as goal
 
 pub items-preserved : goal.items-preserved
 items-preserved c =

@@ -1,11 +1,10 @@
 -- The decision of a round: the submissions are judged by rank, the first that holds wins, and its
 -- committee is seated, or the fill where none holds.
-use Rattle.std.specs.Prelude.{ℕ, Bool, true, false, not, min, List, [], ◌∷◌, ◌++◌, length, map, filter, take, drop, get_or, Option, Some, None, if◌then◌else◌}
+use Rattle.std.specs.Prelude.{ℕ, Bool, true, false, not, min, List, [], ◌∷◌, ◌++◌, length, map, filter, take, drop, get_or}
 use Rattle.std.specs.List.{prefix_len, range_with_len}
 use Rattle.stake_ledger.specs.Ledger.{Ledger}
 use Rattle.stake_ledger.specs.Calls.{minted_free, room_of}
 use Rattle.submission_queue.specs.declared.submission.Submission.{Submission}
-use Rattle.submission_queue.specs.Ranking.{empty_queue}
 use Rattle.election_snapshot.specs.Snapshot.{Snapshot, has, no_account}
 use Rattle.weight_book.specs.Weights.{Weights, support}
 use Rattle.compact_solution.specs.Decoded.{decoded}
@@ -13,15 +12,9 @@ use Rattle.election_check.specs.declared.verdict.Verdict.{Verdict}
 use Rattle.election_check.specs.declared.verdict.Verdict.TheVariants.{Yes}
 use Rattle.election_check.specs.Packed.{verdict_packed, weights_decoded}
 use Rattle.quota_fill.specs.Filled.{filled}
-use Rattle.npos_runtime.specs.declared.chain.Chain.{Chain}
 use Rattle.block_receipts.specs.declared.line.Line.{Line}
 use Rattle.block_receipts.specs.declared.line.Line.TheVariants as lines
-use Rattle.npos_runtime.specs.declared.round.Round.{Round}
-use Rattle.npos_runtime.specs.declared.round.Round.TheVariants as rounds
-use Rattle.npos_runtime.specs.Committee.{Committee}
-use Rattle.chain_params.specs.Rules.{reward_of, is_decision}
-use Rattle.npos_runtime.specs.Outcome.{Outcome, quiet}
-use Rattle.npos_runtime.specs.Deposits.{returned, all_returned, all_burned, return_line, return_lines}
+use Rattle.round_decision.specs.Deposits.{returned, all_returned, all_burned, return_line, return_lines}
 
 -- ## Who wins
 
@@ -96,13 +89,6 @@ member_lines snapshot weights = map (member_line snapshot weights) weights.commi
 
 -- ## The decision
 
-abbrev pub committee_of : Snapshot → List ℕ → List Submission → Committee
-committee_of snapshot commissions items = record {
-  snapshot = snapshot;
-  weights = rising snapshot (decided_weights snapshot (others snapshot items));
-  commissions = commissions;
-}
-
 -- the books once the deposits of the losers are burned, and then once all is paid out
 abbrev pub books_decided : ℕ → Snapshot → List Submission → Ledger → Ledger
 books_decided reward snapshot items book =
@@ -114,31 +100,3 @@ deposit_lines number reward snapshot items book =
     map (forfeit_line snapshot) (losers snapshot items)
     ++ (paid_lines reward (others snapshot items) (all_burned (losers snapshot items) book)
     ++ seat_line number (others snapshot items) ∷ [])
-
--- the round of this number, with this snapshot, is decided
-abbrev pub decided : ℕ → Snapshot → List ℕ → Chain → Outcome
-decided number snapshot commissions chain = record {
-  state = record chain {
-    book = books_decided (reward_of chain.params) snapshot chain.queue.items chain.book;
-    round = None;
-    queue = empty_queue chain.queue.places;
-    waiting = Some (committee_of snapshot commissions chain.queue.items);
-  };
-  lines = deposit_lines number (reward_of chain.params) snapshot chain.queue.items chain.book
-      ++ member_lines snapshot (committee_of snapshot commissions chain.queue.items).weights;
-  seated = record {
-    round = number;
-    snapshot = snapshot;
-    weights = decided_weights snapshot (others snapshot chain.queue.items);
-  } ∷ [];
-}
-
--- a void round decides nothing
-abbrev pub decision_of : Option Round → Chain → Outcome
-decision_of (Some (rounds.Open number snapshot commissions)) chain =
-    decided number snapshot commissions chain
-decision_of other chain = quiet chain
-
-abbrev pub decision_phase : Chain → Outcome
-decision_phase chain =
-    if is_decision chain.params chain.due then decision_of chain.round chain else quiet chain

@@ -3,7 +3,7 @@ ghost use Rattle.std.specs.Prelude.{◌≡◌, ◌++◌, ◌≤◌, [], ◌∷�
 ghost use Rattle.stake_ledger.specs.Ledger.{row_at};
 ghost use Rattle.stake_ledger.specs.Calls.{deposit_held};
 ghost use Rattle.submission_queue.specs.Ranking.{empty_queue};
-ghost use Rattle.npos_runtime.specs.Deposits.{AreHeld, returned, all_returned, return_line, return_lines};
+ghost use Rattle.round_decision.specs.Deposits.{AreHeld, returned, all_returned, return_line, return_lines};
 
 use block_receipts::Line;
 use npos_base::{AccountId, NoMemory};

@@ -8,7 +8,7 @@ use Rattle.std.proofs.lemmas.List.Elements.{All-cons, All-head, All-tail}
 use Rattle.election_snapshot.specs.Snapshot.{Snapshot, has}
 use Rattle.weight_book.specs.Weights.{Weights}
 use Rattle.weight_book.proofs.OrderLemmas.{has_permutation}
-use Rattle.npos_runtime.specs.Decision.{rising}
+use Rattle.round_decision.specs.Decision.{rising}
 
 -- each number is below those behind it
 abbrev AreRising : List ℕ → Type 0

@@ -1,6 +1,6 @@
 use Rattle.std.proofs.Common.{◌≡◌, ◌++◌, length}
-use Rattle.npos_runtime.specs.Deposits.{AreHeld, all_returned, return_lines}
-use Rattle.npos_runtime.proofs.deposits.return_all.Given as goal
+use Rattle.round_decision.specs.Deposits.{AreHeld, all_returned, return_lines}
+use Rattle.round_decision.proofs.deposits.return_all.Given as goal
 
 abbrev pub invariant-items : goal.invariant-items
 invariant-items l = record {

@@ -12,8 +12,8 @@ use Rattle.quota_fill.specs.Filled.{filled}
 use Rattle.weight_book.specs.Weights.{Weights}
 use Rattle.block_receipts.specs.declared.line.Line.{Line}
 use Rattle.block_receipts.specs.declared.line.Line.TheVariants as lines
-use Rattle.npos_runtime.specs.Deposits.{all_burned}
-use Rattle.npos_runtime.specs.Decision.{judged, is_yes, fails, losers, others, decided_weights, forfeit_line, paid_out, paid_lines, rising, seat_line, books_decided, deposit_lines}
+use Rattle.round_decision.specs.Deposits.{all_burned}
+use Rattle.round_decision.specs.Decision.{judged, is_yes, fails, losers, others, decided_weights, forfeit_line, paid_out, paid_lines, rising, seat_line, books_decided, deposit_lines}
 
 no_yes : (verdict : Verdict) → (verdict ≡ verdicts.Yes → ⊥) → is_yes verdict ≡ false
 no_yes verdicts.Yes other = absurd (other refl)

@@ -4,11 +4,11 @@ use Rattle.submission_queue.specs.declared.submission.Submission.{Submission}
 use Rattle.submission_queue.specs.Ranking.{Ranking}
 use Rattle.election_check.specs.Packed.{verdict_packed}
 use Rattle.block_receipts.specs.declared.line.Line.TheVariants as lines
-use Rattle.npos_runtime.specs.Deposits.{AreHeld, burned, all_burned}
-use Rattle.npos_runtime.specs.Decision.{judged, losers, others, forfeit_line}
-use Rattle.npos_runtime.proofs.DepositLemmas.{front, held_burned}
-use Rattle.npos_runtime.proofs.DecisionLemmas.{fails_first, fails_by}
-use Rattle.npos_runtime.proofs.decision.find_winner.Goals as goal
+use Rattle.round_decision.specs.Deposits.{AreHeld, burned, all_burned}
+use Rattle.round_decision.specs.Decision.{judged, losers, others, forfeit_line}
+use Rattle.round_decision.proofs.DepositLemmas.{front, held_burned}
+use Rattle.round_decision.proofs.DecisionLemmas.{fails_first, fails_by}
+use Rattle.round_decision.proofs.decision.find_winner.Goals as goal
 
 pub items-preserved : goal.items-preserved
 items-preserved c =

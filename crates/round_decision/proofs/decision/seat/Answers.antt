@@ -1,8 +1,8 @@
 use Rattle.std.proofs.Common.{◌<◌, All, length, subst}
 use Rattle.std.specs.List.Sorted.{IsStrictlyIncreasing}
 use Rattle.election_snapshot.specs.Snapshot.{Snapshot}
-use Rattle.npos_runtime.proofs.SeatLemmas.{in_order}
-use Rattle.npos_runtime.proofs.decision.seat.Goals as goal
+use Rattle.round_decision.proofs.SeatLemmas.{in_order}
+use Rattle.round_decision.proofs.decision.seat.Goals as goal
 
 pub returns-clause-weights : goal.returns-clause-weights
 returns-clause-weights c =

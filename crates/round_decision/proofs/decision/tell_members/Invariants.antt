@@ -1,6 +1,6 @@
 use Rattle.std.proofs.Common.{◌≡◌, ◌++◌, take, map}
-use Rattle.npos_runtime.specs.Decision.{member_line}
-use Rattle.npos_runtime.proofs.decision.tell_members.Given as goal
+use Rattle.round_decision.specs.Decision.{member_line}
+use Rattle.round_decision.proofs.decision.tell_members.Given as goal
 
 abbrev pub invariant-loop-member : goal.invariant-loop-member
 invariant-loop-member l =

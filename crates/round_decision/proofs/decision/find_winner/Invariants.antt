@@ -1,9 +1,9 @@
 use Rattle.std.proofs.Common.{◌≡◌, ◌++◌, map, length}
 use Rattle.weight_book.specs.Weights.{no_weights}
 use Rattle.weight_book.specs.Room.{HasRoom}
-use Rattle.npos_runtime.specs.Deposits.{AreHeld, all_burned}
-use Rattle.npos_runtime.specs.Decision.{losers, others, forfeit_line}
-use Rattle.npos_runtime.proofs.decision.find_winner.Given as goal
+use Rattle.round_decision.specs.Deposits.{AreHeld, all_burned}
+use Rattle.round_decision.specs.Decision.{losers, others, forfeit_line}
+use Rattle.round_decision.proofs.decision.find_winner.Given as goal
 
 abbrev pub invariant-items : goal.invariant-items
 invariant-items l = record {

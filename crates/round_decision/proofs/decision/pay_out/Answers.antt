@@ -1,9 +1,9 @@
 use Rattle.std.proofs.Common.{◌≡◌, true, ◌∷◌, sym, subst, refl, is_some}
 use Rattle.stake_ledger.specs.Ledger.{Ledger, row_of}
-use Rattle.npos_runtime.specs.Deposits.{AreHeld}
-use Rattle.npos_runtime.specs.Decision.{reward_in}
-use Rattle.npos_runtime.proofs.DepositLemmas.{known_returned, held_returned, held_minted}
-use Rattle.npos_runtime.proofs.decision.pay_out.Goals as goal
+use Rattle.round_decision.specs.Deposits.{AreHeld}
+use Rattle.round_decision.specs.Decision.{reward_in}
+use Rattle.round_decision.proofs.DepositLemmas.{known_returned, held_returned, held_minted}
+use Rattle.round_decision.proofs.decision.pay_out.Goals as goal
 
 pub reward-requires : goal.reward-requires
 reward-requires c =

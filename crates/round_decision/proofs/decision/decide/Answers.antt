@@ -2,11 +2,11 @@ use Rattle.std.proofs.Common.{◌≡◌, ◌∷◌, ◌++◌, [], List, map, ref
 use Rattle.election_snapshot.specs.Snapshot.{Snapshot}
 use Rattle.submission_queue.specs.declared.submission.Submission.{Submission}
 use Rattle.submission_queue.specs.Ranking.{Ranking}
-use Rattle.npos_runtime.specs.Deposits.{AreHeld, all_burned}
-use Rattle.npos_runtime.specs.Decision.{losers, others, forfeit_line}
-use Rattle.npos_runtime.proofs.DepositLemmas.{front, nothing_first}
-use Rattle.npos_runtime.proofs.DecisionLemmas.{won_books, lost_books, won_lines, lost_lines, won_weights, lost_weights}
-use Rattle.npos_runtime.proofs.decision.decide.Goals as goal
+use Rattle.round_decision.specs.Deposits.{AreHeld, all_burned}
+use Rattle.round_decision.specs.Decision.{losers, others, forfeit_line}
+use Rattle.round_decision.proofs.DepositLemmas.{front, nothing_first}
+use Rattle.round_decision.proofs.DecisionLemmas.{won_books, lost_books, won_lines, lost_lines, won_weights, lost_weights}
+use Rattle.round_decision.proofs.decision.decide.Goals as goal
 
 -- the others are the winner and those that wait still
 kept : (checker snapshot : Snapshot) (old new : Ranking) (winner : Submission) → checker ≡ snapshot

@@ -10,8 +10,8 @@ use Rattle.election_check.specs.Laws.{PackedYesIsAccepting, PlainYesIsPassing}
 use Rattle.weight_book.specs.Passing.{Passes}
 use Rattle.quota_fill.specs.Filled.{filled}
 use Rattle.quota_fill.specs.Laws.{EveryFillPasses}
-use Rattle.npos_runtime.specs.Decision.{judged, others, decided_weights}
-use Rattle.npos_runtime.proofs.DecisionLemmas.{winner_holds}
+use Rattle.round_decision.specs.Decision.{judged, others, decided_weights}
+use Rattle.round_decision.proofs.DecisionLemmas.{winner_holds}
 
 pub winner_passes : PackedYesIsAccepting → (snapshot : Snapshot) (winner : Submission) → judged snapshot winner ≡ verdicts.Yes
     → verdict_plain snapshot (weights_decoded snapshot (decoded winner.bytes)) ≡ verdicts.Yes

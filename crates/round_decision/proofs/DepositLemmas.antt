@@ -11,7 +11,7 @@ use Rattle.stake_ledger.specs.Ledger.{Ledger, row_at, row_of, changed}
 use Rattle.stake_ledger.specs.Calls.{deposit_held, minted_free}
 use Rattle.stake_ledger.proofs.AccountLemmas.{row_at-changed, row_at-returned, row_at-burned, known-changed, known-returned, known-burned}
 use Rattle.submission_queue.specs.declared.submission.Submission.{Submission}
-use Rattle.npos_runtime.specs.Deposits.{AreHeld, deposits_of, returned, burned}
+use Rattle.round_decision.specs.Deposits.{AreHeld, deposits_of, returned, burned}
 
 -- the first of a list that has one
 pub front : {A : Type 0} (items : List A) (item : A) → slice_get items 0 ≡ Some item → items ≡ item ∷ drop 1 items

@@ -1,6 +1,6 @@
 use Rattle.std.proofs.Common.{◌∙◌, ap}
-use Rattle.npos_runtime.proofs.VerdictLemmas.{winner_passes}
-use Rattle.npos_runtime.proofs.decision.seat_winner.Goals as goal
+use Rattle.round_decision.proofs.VerdictLemmas.{winner_passes}
+use Rattle.round_decision.proofs.decision.seat_winner.Goals as goal
 
 pub seat-requires : goal.seat-requires
 seat-requires c =

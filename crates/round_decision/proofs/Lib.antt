@@ -1,0 +1,4 @@
+pub mod DepositLemmas
+pub mod DecisionLemmas
+pub mod SeatLemmas
+pub mod VerdictLemmas

@@ -1,0 +1,245 @@
+//! The decision of a round.
+ghost use Rattle.std.specs.Prelude.{◌≡◌, ◌++◌, ◌<◌, ◌≤◌, [], ◌∷◌, length, drop, is_some, true, map, slice_get, OnOk, IfOk, IfSome};
+ghost use Rattle.stake_ledger.specs.Ledger.{row_at, row_of};
+ghost use Rattle.stake_ledger.specs.Calls.{minted_free};
+ghost use Rattle.submission_queue.specs.Ranking.{empty_queue};
+ghost use Rattle.election_snapshot.specs.Snapshot.{IsWellFormed};
+ghost use Rattle.weight_book.specs.Weights.{no_weights};
+ghost use Rattle.weight_book.specs.Room.{HasRoom, KeepsRoom};
+ghost use Rattle.compact_solution.specs.Decoded.{decoded};
+ghost use Rattle.election_check.specs.declared.verdict.Verdict.TheVariants.{Yes};
+ghost use Rattle.election_check.specs.Packed.{weights_decoded};
+ghost use Rattle.election_check.specs.Plain.{verdict_plain};
+ghost use Rattle.quota_fill.specs.Filled.{filled};
+ghost use Rattle.block_receipts.specs.declared.line.Line.TheVariants as told;
+ghost use Rattle.round_decision.specs.Deposits.{AreHeld, burned, all_burned};
+ghost use Rattle.round_decision.specs.Decision.{judged, losers, others, decided_weights, forfeit_line, reward_in, rewarded, paid_out, paid_lines, rising, seat_line, member_line, member_lines, books_decided, deposit_lines};
+
+use crate::deposits::{return_all, return_deposit};
+use block_receipts::Line;
+use election_check::laws::{a_packed_yes_is_a_plain_yes, a_plain_yes_is_passing};
+use election_check::{Checker, Elected, Verdict};
+use election_snapshot::Snapshot;
+use npos_base::NoMemory;
+use quota_fill::fill;
+use quota_fill::laws::every_fill_passes;
+use stake_ledger::Book;
+use std::alloc::Global;
+use submission_queue::{Queue, Submission};
+use weight_book::Weights;
+
+/// A checker of the round's snapshot.
+fn checker_of(alloc: Global, snapshot: Snapshot) -> Result<Checker, NoMemory>
+    ensures { IfOk result (λ checker. checker ≡ snapshot) }
+{
+    match Checker::new(alloc, snapshot) {
+        Ok(checker) => Ok(checker),
+        Err((_, want)) => Err(want),
+    }
+}
+
+/// The deposit of a submission that does not hold is gone.
+fn forfeit(
+    book: &mut Book,
+    lines: &mut Vec<Line>,
+    item: &Submission,
+    verdict: Verdict,
+) -> Result<(), NoMemory>
+    requires { item.now.deposit ≤ (row_at book.old item.now.who).held }
+    ensures book { OnOk result (book.new ≡ burned book.old item.now) }
+    ensures line { OnOk result (lines.new.items
+        ≡ lines.old.items ++ told.Forfeit item.now.number item.now.deposit verdict ∷ []) }
+{
+    book.burn_deposit(item.who, item.deposit);
+    lines.push(Line::Forfeit {
+        number: item.number,
+        deposit: item.deposit,
+        verdict,
+    })?;
+    Ok(())
+}
+
+/// Judges the submissions by rank up to the first that holds, which is the winner. The deposits of
+/// those before it are burned. The weights of its solution are then in `weights`.
+#[tactic(auto, using(crate::proofs::DepositLemmas::front, crate::proofs::DepositLemmas::held_within))]
+fn find_winner(
+    alloc: Global,
+    checker: &mut Checker,
+    weights: &mut Weights,
+    queue: &mut Queue,
+    book: &mut Book,
+    lines: &mut Vec<Line>,
+) -> Result<Option<Submission>, NoMemory>
+    requires empty { weights.old.plain ≡ no_weights }
+    requires room { HasRoom checker.old weights.old }
+    requires held { AreHeld book.old queue.old.items }
+    ensures winner { IfOk result
+        (λ winner. winner ≡ slice_get (others checker.old queue.old.items) 0) }
+    ensures queue { OnOk result (queue.new
+        ≡ record queue.old { items = drop 1 (others checker.old queue.old.items) }) }
+    ensures book { OnOk result
+        (book.new ≡ all_burned (losers checker.old queue.old.items) book.old) }
+    ensures lines { OnOk result (lines.new.items ≡ lines.old.items
+        ++ map (forfeit_line checker.old) (losers checker.old queue.old.items)) }
+    ensures held { OnOk result (AreHeld book.new (others checker.old queue.old.items)) }
+    ensures weights { IfOk result (λ winner. IfSome winner
+        (λ item. weights.new.plain ≡ weights_decoded checker.old (decoded item.bytes))) }
+    ensures valid { IfOk result (λ winner. IfSome winner
+        (λ item. judged checker.old item ≡ Yes)) }
+    ensures snapshot { checker.new ≡ checker.old }
+{
+    'items: while let Some(item) = queue.take_best() {
+        let bytes = item.bytes.as_slice();
+        match checker.judge_bytes(alloc, bytes, &item.score, weights)? {
+            Verdict::Yes => return Ok(Some(item)),
+            verdict => {
+                weights.clear();
+                forfeit(book, lines, &item, verdict)?;
+            }
+        }
+    }
+    Ok(None)
+}
+
+/// Mints the reward of the winner, or as much of it as may still be issued.
+fn reward(
+    book: &mut Book,
+    lines: &mut Vec<Line>,
+    winner: &Submission,
+    reward: u64,
+) -> Result<(), NoMemory>
+    requires { is_some (row_of book.old winner.now.who) ≡ true }
+    ensures book { OnOk result (book.new ≡ rewarded reward book.old winner.now) }
+    ensures line { OnOk result (lines.new.items
+        ≡ lines.old.items ++ told.Reward winner.now.number (reward_in reward book.old) ∷ []) }
+{
+    let amount = reward.min(book.room());
+    match book.mint_free(winner.who, amount) {
+        Ok(()) => {}
+        Err(_) => unreachable!(),
+    }
+    lines.push(Line::Reward {
+        number: winner.number,
+        amount,
+    })?;
+    Ok(())
+}
+
+/// The winner gets its deposit and the reward, and those behind it get their deposits.
+fn pay_out(
+    book: &mut Book,
+    lines: &mut Vec<Line>,
+    queue: &mut Queue,
+    winner: &Submission,
+    amount: u64,
+) -> Result<(), NoMemory>
+    requires { AreHeld book.old (winner.now ∷ queue.old.items) }
+    ensures book { OnOk result
+        (book.new ≡ paid_out amount (winner.now ∷ queue.old.items) book.old) }
+    ensures lines { OnOk result (lines.new.items
+        ≡ lines.old.items ++ paid_lines amount (winner.now ∷ queue.old.items) book.old) }
+    ensures queue { OnOk result (queue.new ≡ empty_queue queue.old.places) }
+{
+    return_deposit(book, lines, winner)?;
+    reward(book, lines, winner, amount)?;
+    return_all(book, lines, queue)
+}
+
+/// Seats the committee of weights that pass.
+fn seat(checker: Checker, weights: Weights) -> Elected
+    requires { verdict_plain checker weights.plain ≡ Yes }
+    ensures snapshot { result.snapshot ≡ checker }
+    ensures weights { result.weights.plain ≡ rising checker weights.plain }
+{
+    let elected = checker.elect(weights);
+    let _committee = elected.committee();
+    elected
+}
+
+/// Seats the fill.
+fn seat_fill(alloc: Global, checker: Checker) -> Result<Elected, NoMemory>
+    ensures snapshot { IfOk result (λ elected. elected.snapshot ≡ checker) }
+    ensures weights { IfOk result
+        (λ elected. elected.weights.plain ≡ rising checker (filled checker)) }
+{
+    every_fill_passes();
+    a_plain_yes_is_passing();
+    let _seats = checker.snapshot().seats();
+    let weights = fill(alloc, checker.snapshot())?;
+    Ok(seat(checker, weights))
+}
+
+/// Seats the committee of a solution whose verdict is Yes.
+fn seat_winner(checker: Checker, weights: Weights, winner: &Submission) -> Elected
+    requires valid { judged checker winner.now ≡ Yes }
+    requires weights { weights.plain ≡ weights_decoded checker (decoded winner.now.bytes) }
+    ensures snapshot { result.snapshot ≡ checker }
+    ensures weights { result.weights.plain
+        ≡ rising checker (weights_decoded checker (decoded winner.now.bytes)) }
+{
+    a_packed_yes_is_a_plain_yes();
+    seat(checker, weights)
+}
+
+/// Settles the submissions of the round of this number, and elects its committee.
+pub fn decide(
+    alloc: Global,
+    number: u32,
+    snapshot: Snapshot,
+    amount: u64,
+    queue: &mut Queue,
+    book: &mut Book,
+    lines: &mut Vec<Line>,
+) -> Result<Elected, NoMemory>
+    requires { AreHeld book.old queue.old.items }
+    ensures book { OnOk result
+        (book.new ≡ books_decided amount snapshot queue.old.items book.old) }
+    ensures lines { OnOk result (lines.new.items ≡ lines.old.items
+        ++ deposit_lines number amount snapshot queue.old.items book.old) }
+    ensures queue { OnOk result (queue.new ≡ empty_queue queue.old.places) }
+    ensures snapshot { IfOk result (λ elected. elected.snapshot ≡ snapshot) }
+    ensures weights { IfOk result (λ elected. elected.weights.plain
+        ≡ rising snapshot (decided_weights snapshot (others snapshot queue.old.items))) }
+{
+    let mut weights = Weights::with_room(alloc, &snapshot)?;
+    let mut checker = checker_of(alloc, snapshot)?;
+    match find_winner(alloc, &mut checker, &mut weights, queue, book, lines)? {
+        Some(winner) => {
+            pay_out(book, lines, queue, &winner, amount)?;
+            lines.push(Line::SeatSigned {
+                round: number,
+                number: winner.number,
+            })?;
+            Ok(seat_winner(checker, weights, &winner))
+        }
+        None => {
+            lines.push(Line::SeatFill { round: number })?;
+            let elected = seat_fill(alloc, checker)?;
+            Ok(elected)
+        }
+    }
+}
+
+/// The line of a member.
+#[tactic(auto, using(crate::proofs::SeatLemmas::stands_at))]
+fn member_line(elected: &Elected, member: u16) -> Line
+    requires { member < length elected.now.snapshot.targets }
+    ensures { result ≡ member_line elected.now.snapshot elected.now.weights.plain member }
+{
+    Line::Member {
+        who: elected.snapshot().target(member),
+        support: elected.support(member),
+    }
+}
+
+/// Tells the members by rising position.
+#[tactic(auto, using(crate::proofs::SeatLemmas::member_next))]
+pub fn tell_members(lines: &mut Vec<Line>, elected: &Elected) -> Result<(), NoMemory>
+    ensures { OnOk result (lines.new.items
+        ≡ lines.old.items ++ member_lines elected.now.snapshot elected.now.weights.plain) }
+{
+    for member in elected.committee() {
+        lines.push(member_line(elected, *member))?;
+    }
+    Ok(())
+}
