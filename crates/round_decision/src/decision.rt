@@ -1,11 +1,9 @@
 //! The decision of a round.
 ghost use Rattle.std.specs.Prelude.{◌≡◌, ◌++◌, ◌<◌, ◌≤◌, [], ◌∷◌, length, drop, is_some, true, map, slice_get, OnOk, IfOk, IfSome};
 ghost use Rattle.stake_ledger.specs.Ledger.{row_at, row_of};
-ghost use Rattle.stake_ledger.specs.Calls.{minted_free};
 ghost use Rattle.submission_queue.specs.Ranking.{empty_queue};
-ghost use Rattle.election_snapshot.specs.Snapshot.{IsWellFormed};
 ghost use Rattle.weight_book.specs.Weights.{no_weights};
-ghost use Rattle.weight_book.specs.Room.{HasRoom, KeepsRoom};
+ghost use Rattle.weight_book.specs.Room.{HasRoom};
 ghost use Rattle.compact_solution.specs.Decoded.{decoded};
 ghost use Rattle.election_check.specs.declared.verdict.Verdict.TheVariants.{Yes};
 ghost use Rattle.election_check.specs.Packed.{weights_decoded};
@@ -13,7 +11,7 @@ ghost use Rattle.election_check.specs.Plain.{verdict_plain};
 ghost use Rattle.quota_fill.specs.Filled.{filled};
 ghost use Rattle.block_receipts.specs.declared.line.Line.TheVariants as told;
 ghost use Rattle.round_decision.specs.Deposits.{AreHeld, burned, all_burned};
-ghost use Rattle.round_decision.specs.Decision.{judged, losers, others, decided_weights, forfeit_line, reward_in, rewarded, paid_out, paid_lines, rising, seat_line, member_line, member_lines, books_decided, deposit_lines};
+ghost use Rattle.round_decision.specs.Decision.{judged, losers, others, decided_weights, forfeit_line, reward_in, rewarded, paid_out, paid_lines, rising, member_line, member_lines, books_decided, deposit_lines};
 
 use crate::deposits::{return_all, return_deposit};
 use block_receipts::Line;
@@ -181,7 +179,8 @@ fn seat_winner(checker: Checker, weights: Weights, winner: &Submission) -> Elect
     seat(checker, weights)
 }
 
-/// Settles the submissions of the round of this number, and elects its committee.
+/// Settles the submissions of the round of this number, and elects its committee. The amount is the
+/// reward of the winner.
 pub fn decide(
     alloc: Global,
     number: u32,
