@@ -3,7 +3,7 @@ use Rattle.std.proofs.Common.{◌≡◌, ◌≤◌, ◌<◌, ℕ, Bool, true, Li
 use Rattle.std.proofs.lemmas.List.{take-append-drop, length-take-le}
 use Rattle.npos_base.specs.Outside.{Takes, IsAtEnd}
 use Rattle.scale_wire.specs.Reading.{Place}
-use Rattle.npos_cli.specs.declared.status.Status.TheVariants.{ReadFault, NoMemory}
+use Rattle.bundle_reports.specs.declared.status.Status.TheVariants.{ReadFault, NoMemory}
 use Rattle.npos_cli.specs.Owed.{LeftAfter}
 use Rattle.npos_cli.specs.Ahead.{FeedsMore}
 use Rattle.npos_cli.proofs.EdgeLaws.{left_none}

@@ -4,21 +4,21 @@ use Rattle.std.proofs.lemmas.List.{append-nil}
 use Rattle.npos_base.specs.Outside.{Told, Rose}
 use Rattle.npos_cli.specs.declared.job.Job.{Job}
 use Rattle.npos_cli.specs.declared.job.Job.TheVariants as jobs
-use Rattle.npos_cli.specs.declared.job.Task.{Task}
-use Rattle.npos_cli.specs.declared.job.Task.TheVariants as tasks
-use Rattle.npos_cli.specs.declared.job.Rewriting.{Rewriting}
-use Rattle.npos_cli.specs.declared.job.Miner.TheVariants as miners
-use Rattle.npos_cli.specs.declared.status.Status.{Status}
-use Rattle.npos_cli.specs.declared.status.Status.TheVariants as statuses
+use Rattle.bundle_reports.specs.declared.asked.Task.{Task}
+use Rattle.bundle_reports.specs.declared.asked.Task.TheVariants as tasks
+use Rattle.bundle_reports.specs.declared.asked.Rewriting.{Rewriting}
+use Rattle.bundle_reports.specs.declared.asked.Miner.TheVariants as miners
+use Rattle.bundle_reports.specs.declared.status.Status.{Status}
+use Rattle.bundle_reports.specs.declared.status.Status.TheVariants as statuses
 use Rattle.npos_cli.specs.Report.{IsAnswer, IsJudged, replay_status}
-use Rattle.npos_cli.specs.Verdicts.{most_bundle}
-use Rattle.npos_cli.specs.Tasks.{IsSound}
+use Rattle.bundle_reports.specs.declared.reading.TheConstants.{MOST_BUNDLE}
+use Rattle.bundle_reports.specs.Tasks.{IsSound}
 use Rattle.npos_cli.specs.Words.{usage_line}
 use Rattle.npos_cli.specs.Chain.{npos_machine}
 use Rattle.npos_cli.specs.Owed.{LeftAfter, FindsFor, AnswersFor, BeginsFor, IsDrained, TakesAtMost, DeliversFront, KeepsFlushed, HasRead, HasWrote, ReadsWell, WritesWell}
 use Rattle.npos_cli.specs.Turning.{KeepsUp}
 use Rattle.npos_cli.specs.Streaming.{Delivered, Halts, CutBy, ReplayEnds, ReadsWhile}
-use Rattle.npos_cli.specs.Demo.{demo_report}
+use Rattle.bundle_reports.specs.Demo.{demo_report}
 use Rattle.npos_cli.specs.Ran.{Ran, UsageEnds, DemoEnds}
 use Rattle.npos_cli.proofs.EdgeLaws.{unflushed}
 use Rattle.npos_cli.proofs.RunLaws.{found_unread, nothing_asked, front_found, front_delivered}
@@ -182,7 +182,7 @@ demo_ran seed voters seats left old new reads writes wrote Unread Unwritten stat
 pub report_ran : (task : Task) (left now : Option (List ℕ)) (old new : Option Told) (reads read writes wrote : ℕ) (Unread Unwritten : Type 0) (status : Status)
     → (IsAnswer status → AnswersFor (Some (jobs.OnBundle task)) left old new status) → BeginsFor (Some (jobs.OnBundle task)) left old new
     → HasRead reads read status → HasWrote writes wrote status → ((status ≡ statuses.ReadFault) ⊎ (status ≡ statuses.NoMemory) → Unwritten)
-    → ((IsAnswer status → ⊥) → KeepsFlushed old new) → (IsJudged status → IsDrained left now) → (IsAnswer status → TakesAtMost (most_bundle + 1) left now)
+    → ((IsAnswer status → ⊥) → KeepsFlushed old new) → (IsJudged status → IsDrained left now) → (IsAnswer status → TakesAtMost (MOST_BUNDLE + 1) left now)
     → (status ≡ statuses.Done → IfSome left (IsSound task)) → (task ≡ tasks.Mine miners.Fill → status ≢ statuses.No)
     → Ran (Some (jobs.OnBundle task)) left now old new reads read writes wrote Unread Unwritten status
 report_ran task left now old new reads read writes wrote Unread Unwritten status answers front has_read has_wrote unwritten keeps drained few accepted passes = record {
@@ -210,7 +210,7 @@ report_ran task left now old new reads read writes wrote Unread Unwritten status
 pub rewrite_ran : (way : Rewriting) (left now : Option (List ℕ)) (old new : Option Told) (reads read writes wrote : ℕ) (Unread Unwritten : Type 0) (status : Status)
     → (IsAnswer status → AnswersFor (Some (jobs.Rewrite way)) left old new status) → BeginsFor (Some (jobs.Rewrite way)) left old new
     → HasRead reads read status → HasWrote writes wrote status → ((status ≡ statuses.ReadFault) ⊎ (status ≡ statuses.NoMemory) → Unwritten)
-    → ((IsAnswer status → ⊥) → KeepsFlushed old new) → (IsJudged status → IsDrained left now) → (IsAnswer status → TakesAtMost (most_bundle + 1) left now)
+    → ((IsAnswer status → ⊥) → KeepsFlushed old new) → (IsJudged status → IsDrained left now) → (IsAnswer status → TakesAtMost (MOST_BUNDLE + 1) left now)
     → Ran (Some (jobs.Rewrite way)) left now old new reads read writes wrote Unread Unwritten status
 rewrite_ran way left now old new reads read writes wrote Unread Unwritten status answers front has_read has_wrote unwritten keeps drained few = record {
   answers = answers;

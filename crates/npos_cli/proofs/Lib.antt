@@ -2,9 +2,6 @@ pub mod ReplayLaws
 pub mod EdgeLaws
 pub mod GrowLaws
 pub mod ChainLaws
-pub mod ElectionLaws
-pub mod MineLaws
-pub mod SoundLaws
 pub mod TurnLaws
 pub mod NearLaws
 pub mod StartLaws
@@ -16,9 +13,6 @@ pub mod WholeLaws
 pub mod FaultLaws
 pub mod SeatLaws
 pub mod CrowdingLaws
-pub mod SpelledLaws
-pub mod MinedLaws
-pub mod ReportLaws
 pub mod FeedLaws
 pub mod CourseLaws
 pub mod JobLaws
@@ -26,5 +20,3 @@ pub mod RewriteLaws
 pub mod EraLaws
 pub mod StreamLaws
 pub mod WordsLaws
-pub mod DemoLaws
-pub mod DigitLaws

@@ -3,11 +3,11 @@ use Rattle.std.proofs.Common.{◌≡◌, ◌≢◌, ◌⊎◌, inl, inr, ℕ, Bo
 use Rattle.npos_base.specs.Outside.{Told}
 use Rattle.npos_cli.specs.declared.job.Job.{Job}
 use Rattle.npos_cli.specs.declared.job.Job.TheVariants as jobs
-use Rattle.npos_cli.specs.declared.status.Status.{Status}
-use Rattle.npos_cli.specs.declared.status.Status.TheVariants as statuses
-use Rattle.npos_cli.specs.declared.job.Task.{Task}
-use Rattle.npos_cli.specs.Bundles.{Report, faulty}
-use Rattle.npos_cli.specs.Tasks.{IsBundleReport}
+use Rattle.bundle_reports.specs.declared.status.Status.{Status}
+use Rattle.bundle_reports.specs.declared.status.Status.TheVariants as statuses
+use Rattle.bundle_reports.specs.declared.asked.Task.{Task}
+use Rattle.bundle_reports.specs.Bundles.{Report, faulty}
+use Rattle.bundle_reports.specs.Tasks.{IsBundleReport}
 use Rattle.npos_cli.specs.Words.{HasForm, job_of, usage_line}
 use Rattle.npos_cli.specs.Report.{JobOwes, replay_status, ReadsInput, IsAnswer, IsJudged}
 use Rattle.npos_cli.specs.Replay.{Outcome, IsReplay}

@@ -5,7 +5,8 @@ use Rattle.std.proofs.lemmas.Bool.Decides.{eqb_tells}
 use Rattle.scale_wire.specs.declared.fault.Why.{Why}
 use Rattle.scale_wire.specs.declared.fault.Why.TheVariants.{Trailing}
 use Rattle.scale_wire.specs.Form.{IsWire, IsBytes}
-use Rattle.npos_cli.specs.Texts.{fault_line, number_line, genesis_line}
+use Rattle.bundle_reports.specs.Texts.{fault_line}
+use Rattle.npos_cli.specs.Texts.{number_line, genesis_line}
 use Rattle.npos_cli.specs.Replay.{Machine, Spot, turn, behind, IsTurn, Passes, Reaches, Starts, IsEnd, all_seated, Stops, Refused, OtherNumber, Followed, Ended, Outcome, IsReplay, BadGenesis, FaultyGenesis, Replayed}
 
 pub same_spot : {S : Type 0} (p q : Spot S) → p.at ≡ q.at → p.state ≡ q.state → p.rest ≡ q.rest → p ≡ q

@@ -6,24 +6,21 @@ use Rattle.npos_base.specs.Outside.{Told}
 use Rattle.scale_wire.specs.Form.{IsBytes}
 use Rattle.npos_cli.specs.declared.job.Job.{Job}
 use Rattle.npos_cli.specs.declared.job.Job.TheVariants as jobs
-use Rattle.npos_cli.specs.declared.status.Status.{Status}
-use Rattle.npos_cli.specs.declared.status.Status.TheVariants as statuses
+use Rattle.bundle_reports.specs.declared.status.Status.{Status}
+use Rattle.bundle_reports.specs.declared.status.Status.TheVariants as statuses
 use Rattle.npos_cli.specs.Words.{job_by, job_of, usage_line, KeepsBounds as JobKeepsBounds}
 use Rattle.npos_cli.specs.Report.{JobOwes, Owes, replay_status, IsJudged}
 use Rattle.npos_cli.specs.Replay.{Outcome}
 use Rattle.npos_runtime.specs.declared.chain.Chain.{Chain}
 use Rattle.npos_runtime.specs.Outcome.{Election}
 use Rattle.npos_cli.specs.Chain.{npos_machine}
-use Rattle.scale_wire.specs.WholeReading.{read_as}
-use Rattle.block_wire.specs.Bundles.{bundle_form}
-use Rattle.block_wire.specs.BundleLaws.{bundle_laws}
-use Rattle.npos_cli.specs.Verdicts.{long_line, most_bundle}
-use Rattle.npos_cli.specs.declared.job.Task.{Task}
-use Rattle.npos_cli.specs.declared.reading.Election.{Election as bundle_election}
-use Rattle.npos_cli.specs.Bundles.{Report, faulty, read_election, election_in}
-use Rattle.npos_cli.specs.Demo.{demo_report}
-use Rattle.npos_cli.specs.Rewriting.{rewrite_report}
-use Rattle.npos_cli.specs.Tasks.{IsReportOn, IsBundleReport, IsSound}
+use Rattle.bundle_reports.specs.Verdicts.{long_line}
+use Rattle.bundle_reports.specs.declared.reading.TheConstants.{MOST_BUNDLE}
+use Rattle.bundle_reports.specs.declared.asked.Task.{Task}
+use Rattle.bundle_reports.specs.Bundles.{Report, faulty}
+use Rattle.bundle_reports.specs.Demo.{demo_report}
+use Rattle.bundle_reports.specs.Rewriting.{rewrite_report}
+use Rattle.bundle_reports.specs.Tasks.{IsBundleReport, IsSound}
 use Rattle.npos_cli.specs.Owed.{ReadsUpTo, TakesAtMost, IsDrained, Delivers, DeliversFront, FindsFor, BeginsFor}
 use Rattle.std.specs.Prelude.{option_map}
 use Rattle.npos_words.specs.declared.command.Command.{Command}
@@ -32,9 +29,11 @@ use Rattle.npos_words.specs.declared.command.Miner.{Miner as named_miner}
 use Rattle.npos_words.specs.declared.command.Miner.TheVariants as named
 use Rattle.npos_words.specs.Words.{command_of, KeepsBounds}
 use Rattle.npos_words.proofs.WordLemmas.{keeps_bounds}
-use Rattle.npos_cli.specs.Words.{miner_by, MinerHasRounds}
+use Rattle.npos_cli.specs.Words.{miner_by}
+use Rattle.bundle_reports.specs.Rounds.{MinerHasRounds}
 use Rattle.npos_cli.proofs.ReplayLaws.{one_replay, any_replay}
-use Rattle.npos_cli.proofs.ReportLaws.{one_report, any_report}
+use Rattle.bundle_reports.proofs.ReportLaws.{one_report, any_report}
+use Rattle.bundle_reports.proofs.LongLaws.{long_report, long_reported}
 use Rattle.npos_cli.proofs.ChainLaws.{genesis_laws, turn_laws}
 
 -- what is owed whatever the bytes are
@@ -123,57 +122,42 @@ all_left most left now bytes reads within =
     let empty : t.0 ≡ [] = let e : Some t.0 ≡ Some [] = sym t.1 ∙ reads.ended within in cc in
     sym (t.2 ∙ (ap (λ (rest : List ℕ). bytes ++ rest) empty ∙ append-nil bytes))
 
--- more than the limit is reported alike, whatever follows
-election_long : (bytes : List ℕ) → most_bundle < length bytes → election_in bytes ≡ Err (faulty long_line)
-election_long bytes over = long (nat_lt most_bundle (length bytes)) (lt-ltb most_bundle (length bytes) over) where
-  long : (b : Bool) → b ≡ true → (if b then Err (faulty long_line) else read_election (read_as bundle_form bundle_laws bytes)) ≡ Err (faulty long_line)
-  long true e = refl
-  long false e = absurd (true≢false (sym e))
-
-long_report : (task : Task) (bytes : List ℕ) (report : Report) → most_bundle < length bytes → IsBundleReport task bytes report → report ≡ faulty long_line
-long_report task bytes report over is =
-    subst (λ (e : Result bundle_election Report). IsReportOn task (length bytes) e report) (election_long bytes over) is
-
-long_reported : (task : Task) (bytes : List ℕ) (report : Report) → most_bundle < length bytes → report ≡ faulty long_line → IsBundleReport task bytes report
-long_reported task bytes report over is =
-    subst (λ (e : Result bundle_election Report). IsReportOn task (length bytes) e report) (sym (election_long bytes over)) is
-
 -- what is reported of the bytes that were read is what is reported of all
-pub report_read : (task : Task) (left : List ℕ) (now : Option (List ℕ)) (bytes : List ℕ) (report : Report) → ReadsUpTo most_bundle (Some left) now bytes
+pub report_read : (task : Task) (left : List ℕ) (now : Option (List ℕ)) (bytes : List ℕ) (report : Report) → ReadsUpTo MOST_BUNDLE (Some left) now bytes
     → IsBundleReport task bytes report → IsBundleReport task left report
-report_read task left now bytes report reads is = elim (cases_lt most_bundle (length bytes)) [
+report_read task left now bytes report reads is = elim (cases_lt MOST_BUNDLE (length bytes)) [
   | inl over ↦
       long_reported task left report (let t = reads.taken in
       omega (arith, over, ap length t.2, length-append bytes t.0)) (long_report task bytes report over is)
-  | inr within ↦ subst (λ (b : List ℕ). IsBundleReport task b report) (all_left most_bundle left now bytes reads within) is
+  | inr within ↦ subst (λ (b : List ℕ). IsBundleReport task b report) (all_left MOST_BUNDLE left now bytes reads within) is
 ]
 
-pub bundle_found : (task : Task) (old now : Option (List ℕ)) (bytes text : List ℕ) (status : Status) → ReadsUpTo most_bundle old now bytes
+pub bundle_found : (task : Task) (old now : Option (List ℕ)) (bytes text : List ℕ) (status : Status) → ReadsUpTo MOST_BUNDLE old now bytes
     → IsBundleReport task bytes (record { text = text; status = status }) → FindsFor (Some (jobs.OnBundle task)) old text status
 bundle_found task None now bytes text status reads is = (bytes, tt, is)
 bundle_found task (Some left) now bytes text status reads is = (left, refl, report_read task left now bytes (record { text = text; status = status }) reads is)
 
 -- an answer of Done or No comes of bytes within the limit
 pub bundle_within : (task : Task) (bytes text : List ℕ) (status : Status) → IsBundleReport task bytes (record { text = text; status = status }) → IsJudged status
-    → length bytes ≤ most_bundle
-bundle_within task bytes text status is judged = elim (cases_lt most_bundle (length bytes)) [
+    → length bytes ≤ MOST_BUNDLE
+bundle_within task bytes text status is judged = elim (cases_lt MOST_BUNDLE (length bytes)) [
   | inl over ↦
       let faulty_is : status ≡ statuses.BadInput = ap (λ (r : Report). r.status) (long_report task bytes (record { text = text; status = status }) over is) in
       absurd (subst (λ (s : Status). IsJudged s) faulty_is judged)
   | inr within ↦ within
 ]
 
-pub bundle_drained : (task : Task) (old now : Option (List ℕ)) (bytes text : List ℕ) (status : Status) → ReadsUpTo most_bundle old now bytes
+pub bundle_drained : (task : Task) (old now : Option (List ℕ)) (bytes text : List ℕ) (status : Status) → ReadsUpTo MOST_BUNDLE old now bytes
     → IsBundleReport task bytes (record { text = text; status = status }) → IsJudged status → IsDrained old now
 bundle_drained task old now bytes text status reads is judged = reads.ended (bundle_within task bytes text status is judged)
 
-pub bundle_few : (old now : Option (List ℕ)) (bytes : List ℕ) → ReadsUpTo most_bundle old now bytes → TakesAtMost (most_bundle + 1) old now
+pub bundle_few : (old now : Option (List ℕ)) (bytes : List ℕ) → ReadsUpTo MOST_BUNDLE old now bytes → TakesAtMost (MOST_BUNDLE + 1) old now
 bundle_few old now bytes reads = (bytes, reads.taken, reads.few)
 
-pub bundle_sound : (task : Task) (old now : Option (List ℕ)) (bytes text : List ℕ) (status : Status) → ReadsUpTo most_bundle old now bytes
+pub bundle_sound : (task : Task) (old now : Option (List ℕ)) (bytes text : List ℕ) (status : Status) → ReadsUpTo MOST_BUNDLE old now bytes
     → IsBundleReport task bytes (record { text = text; status = status }) → (status ≡ statuses.Done → IsSound task bytes) → status ≡ statuses.Done
     → IfSome old (IsSound task)
 bundle_sound task None now bytes text status reads is sound done = tt
 bundle_sound task (Some left) now bytes text status reads is sound done =
     let judged : IsJudged status = subst (λ (s : Status). IsJudged s) (sym done) tt in
-    subst (λ (b : List ℕ). IsSound task b) (all_left most_bundle left now bytes reads (bundle_within task bytes text status is judged)) (sound done)
+    subst (λ (b : List ℕ). IsSound task b) (all_left MOST_BUNDLE left now bytes reads (bundle_within task bytes text status is judged)) (sound done)

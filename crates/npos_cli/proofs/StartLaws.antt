@@ -10,7 +10,8 @@ use Rattle.npos_runtime.specs.Outcome.{Election}
 use Rattle.npos_runtime.specs.declared.begin.GenesisFault.{GenesisFault}
 use Rattle.npos_runtime.specs.declared.begin.GenesisFault.TheVariants.{NoMemory}
 use Rattle.npos_runtime.specs.Genesis.{genesis_fault, genesis_chain, fault_numbers, IsFault as IsGenesisFault}
-use Rattle.npos_cli.specs.Texts.{fault_line, genesis_line}
+use Rattle.bundle_reports.specs.Texts.{fault_line}
+use Rattle.npos_cli.specs.Texts.{genesis_line}
 use Rattle.npos_cli.specs.Replay.{Outcome, Starts, BadGenesis, FaultyGenesis}
 use Rattle.npos_cli.specs.Chain.{npos_machine, started}
 use Rattle.npos_cli.specs.Owed.{LeftAfter, IsDrained, Replays, FindsReplay}

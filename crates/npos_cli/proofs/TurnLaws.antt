@@ -14,9 +14,10 @@ use Rattle.npos_runtime.specs.Life.{Life, HasFault}
 use Rattle.npos_cli.specs.declared.replaying.Turn.TheVariants.{Taken, Stopped}
 use Rattle.npos_cli.specs.declared.replaying.Stop.{Stop}
 use Rattle.npos_cli.specs.declared.replaying.Stop.TheVariants.{More, Last}
-use Rattle.npos_cli.specs.declared.status.Status.{Status}
-use Rattle.npos_cli.specs.declared.status.Status.TheVariants as statuses
-use Rattle.npos_cli.specs.Texts.{fault_line, number_line}
+use Rattle.bundle_reports.specs.declared.status.Status.{Status}
+use Rattle.bundle_reports.specs.declared.status.Status.TheVariants as statuses
+use Rattle.bundle_reports.specs.Texts.{fault_line}
+use Rattle.npos_cli.specs.Texts.{number_line}
 use Rattle.npos_cli.specs.Replay.{Spot, Reaches, Passes, behind, turn, Stops, Refused, OtherNumber, Followed, Ended}
 use Rattle.npos_cli.specs.Chain.{npos_machine, end_line}
 use Rattle.npos_cli.specs.Ahead.{IsSure}

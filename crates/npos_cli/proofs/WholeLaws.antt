@@ -3,7 +3,7 @@ use Rattle.std.proofs.Common.{◌≡◌, inl, inr, ℕ, ◌+◌, true, false, So
 use Rattle.scale_wire.specs.Form.{IsWire, IsBytes}
 use Rattle.npos_cli.specs.Replay.{Machine, Spot, turn, behind, IsTurn, IsEnd, Passes, Reaches, Starts, Refused, Ended, Outcome, IsReplay, BadGenesis, FaultyGenesis, Replayed, IsWhole, NoStart, Blocks, IsFront}
 use Rattle.scale_wire.specs.declared.fault.Why.TheVariants.{Short}
-use Rattle.npos_cli.specs.Texts.{fault_line}
+use Rattle.bundle_reports.specs.Texts.{fault_line}
 use Rattle.npos_cli.specs.Turning.{grown, IsCutHere, IsUndecided, InGenesis, Behind}
 use Rattle.npos_cli.proofs.ReplayLaws.{bytes_behind, one_turn, one_way, one_start, stop_ends, begun_once, unreadable, any_way}
 

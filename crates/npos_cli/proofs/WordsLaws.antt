@@ -5,8 +5,8 @@ use Rattle.npos_words.specs.declared.command.Command.{Command}
 use Rattle.npos_words.specs.Words.{command_of, has_verb}
 use Rattle.npos_words.proofs.WordLemmas.{no_verb}
 use Rattle.npos_cli.specs.declared.job.Job.{Job}
-use Rattle.npos_cli.specs.declared.status.Status.{Status}
-use Rattle.npos_cli.specs.declared.status.Status.TheVariants as statuses
+use Rattle.bundle_reports.specs.declared.status.Status.{Status}
+use Rattle.bundle_reports.specs.declared.status.Status.TheVariants as statuses
 use Rattle.npos_cli.specs.Words.{job_by, job_of, KeepsBounds}
 use Rattle.npos_cli.proofs.RunLaws.{job_has_rounds}
 

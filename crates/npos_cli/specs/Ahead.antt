@@ -9,8 +9,8 @@ use Rattle.scale_wire.specs.Form.{IsBytes}
 use Rattle.scale_wire.specs.Reading.{Place, IsRead, IsFault}
 use Rattle.block_wire.specs.declared.genesis.Genesis.{Genesis}
 use Rattle.block_wire.specs.Genesis.{genesis_form}
-use Rattle.npos_cli.specs.declared.status.Status.{Status}
-use Rattle.npos_cli.specs.declared.status.Status.TheVariants as statuses
+use Rattle.bundle_reports.specs.declared.status.Status.{Status}
+use Rattle.bundle_reports.specs.declared.status.Status.TheVariants as statuses
 use Rattle.npos_cli.specs.Owed.{LeftAfter, IsDrained}
 
 -- the first bytes of an input

@@ -14,8 +14,8 @@ use Rattle.npos_runtime.specs.declared.line.Line.TheVariants as lines
 use Rattle.npos_runtime.specs.Genesis.{genesis_fault, genesis_chain, fault_numbers}
 use Rattle.npos_runtime.specs.Step.{step}
 use Rattle.npos_base.specs.declared.account.AccountId.{AccountId}
-use Rattle.npos_cli.specs.Texts.{newline, account_text}
-use Rattle.npos_cli.specs.Verdicts.{member_line, verdict_line}
+use Rattle.bundle_reports.specs.Texts.{newline, account_text}
+use Rattle.bundle_reports.specs.Verdicts.{member_line, verdict_line}
 use Rattle.npos_cli.specs.Replay.{Machine}
 
 -- an account and an amount behind some words

@@ -1,14 +1,6 @@
 pub mod Texts
-pub mod Pieces
 pub mod Replay
-pub mod Status
 pub mod Words
-pub mod Elections
-pub mod Verdicts
-pub mod Bundles
-pub mod Mining
-pub mod Tasks
-pub mod Rewriting
 pub mod Report
 pub mod Owed
 pub mod Ahead
@@ -18,9 +10,7 @@ pub mod Headline
 pub mod Turning
 pub mod Streaming
 pub mod Ran
-pub mod Answer
 pub mod Laws
 pub mod Crowding
-pub mod Demo
 pub mod Eras
 pub mod Streams

@@ -3,14 +3,14 @@ use Rattle.std.specs.Prelude.{◌≡◌, ◌≢◌, ◌⊎◌, ◌<◌, ◌+◌,
 use Rattle.npos_base.specs.Outside.{Told, Rose}
 use Rattle.npos_cli.specs.declared.job.Job.{Job}
 use Rattle.npos_cli.specs.declared.job.Job.TheVariants as jobs
-use Rattle.npos_cli.specs.declared.job.Task.{Task}
-use Rattle.npos_cli.specs.declared.job.Task.TheVariants as tasks
-use Rattle.npos_cli.specs.declared.job.Miner.TheVariants as miners
-use Rattle.npos_cli.specs.declared.status.Status.{Status}
-use Rattle.npos_cli.specs.declared.status.Status.TheVariants as statuses
+use Rattle.bundle_reports.specs.declared.asked.Task.{Task}
+use Rattle.bundle_reports.specs.declared.asked.Task.TheVariants as tasks
+use Rattle.bundle_reports.specs.declared.asked.Miner.TheVariants as miners
+use Rattle.bundle_reports.specs.declared.status.Status.{Status}
+use Rattle.bundle_reports.specs.declared.status.Status.TheVariants as statuses
 use Rattle.npos_cli.specs.Report.{ReadsInput, ReadsBundle, IsAnswer, IsJudged}
-use Rattle.npos_cli.specs.Verdicts.{most_bundle}
-use Rattle.npos_cli.specs.Tasks.{IsSound}
+use Rattle.bundle_reports.specs.declared.reading.TheConstants.{MOST_BUNDLE}
+use Rattle.bundle_reports.specs.Tasks.{IsSound}
 use Rattle.npos_cli.specs.Owed.{AnswersFor, BeginsFor, IsDrained, TakesAtMost, Delivers, DeliversFront, KeepsFlushed}
 use Rattle.npos_cli.specs.Words.{usage_line}
 use Rattle.npos_cli.specs.Streaming.{HaltedReading, HaltedWriting, HaltedStarving, ReadsWhile}
@@ -31,7 +31,7 @@ pub record Ran (job : Option Job) (left now : Option (List ℕ)) (old new : Opti
   pub unflushed : (IsAnswer status → ⊥) → KeepsFlushed old new
   pub unread : (ReadsInput job → ⊥) → Unread
   pub drained : IsJudged status → ReadsInput job → IsDrained left now
-  pub few : ReadsBundle job → IsAnswer status → TakesAtMost (most_bundle + 1) left now
+  pub few : ReadsBundle job → IsAnswer status → TakesAtMost (MOST_BUNDLE + 1) left now
   pub accepted : (task : Task) → job ≡ Some (jobs.OnBundle task) → status ≡ statuses.Done
       → IfSome left (IsSound task)
   pub passes : job ≡ Some (jobs.OnBundle (tasks.Mine miners.Fill)) → status ≢ statuses.No

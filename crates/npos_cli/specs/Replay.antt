@@ -5,7 +5,8 @@ use Rattle.scale_wire.specs.declared.fault.Why.{Why}
 use Rattle.scale_wire.specs.declared.fault.Why.TheVariants.{Trailing}
 use Rattle.scale_wire.specs.Form.{Form}
 use Rattle.scale_wire.specs.Composite.{optional}
-use Rattle.npos_cli.specs.Texts.{fault_line, number_line, genesis_line}
+use Rattle.bundle_reports.specs.Texts.{fault_line}
+use Rattle.npos_cli.specs.Texts.{number_line, genesis_line}
 
 -- How genesis and blocks are spelled, and what each of them does to a state, writes and seats.
 pub record Machine (G B S E : Type 0) : Type 1 where

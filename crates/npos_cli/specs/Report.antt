@@ -4,14 +4,14 @@ use Rattle.npos_runtime.specs.declared.chain.Chain.{Chain}
 use Rattle.npos_runtime.specs.Outcome.{Election}
 use Rattle.npos_cli.specs.declared.job.Job.{Job}
 use Rattle.npos_cli.specs.declared.job.Job.TheVariants as jobs
-use Rattle.npos_cli.specs.declared.status.Status.{Status}
-use Rattle.npos_cli.specs.declared.status.Status.TheVariants as statuses
+use Rattle.bundle_reports.specs.declared.status.Status.{Status}
+use Rattle.bundle_reports.specs.declared.status.Status.TheVariants as statuses
 use Rattle.npos_cli.specs.Words.{job_of, usage_line}
 use Rattle.npos_cli.specs.Replay.{Outcome, IsReplay}
 use Rattle.npos_cli.specs.Chain.{npos_machine}
-use Rattle.npos_cli.specs.Tasks.{IsBundleReport}
-use Rattle.npos_cli.specs.Demo.{demo_report}
-use Rattle.npos_cli.specs.Rewriting.{rewrite_report}
+use Rattle.bundle_reports.specs.Tasks.{IsBundleReport}
+use Rattle.bundle_reports.specs.Demo.{demo_report}
+use Rattle.bundle_reports.specs.Rewriting.{rewrite_report}
 
 -- a replay is done, unless it ends with a fault line
 abbrev pub replay_status : Bool → Status

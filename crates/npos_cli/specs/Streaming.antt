@@ -4,8 +4,8 @@ use Rattle.npos_cli.specs.declared.pieces.TheConstants.{PIECE}
 use Rattle.npos_base.specs.Outside.{Told, Appends}
 use Rattle.npos_runtime.specs.declared.chain.Chain.{Chain}
 use Rattle.npos_cli.specs.declared.job.Job.TheVariants as jobs
-use Rattle.npos_cli.specs.declared.status.Status.{Status}
-use Rattle.npos_cli.specs.declared.status.Status.TheVariants as statuses
+use Rattle.bundle_reports.specs.declared.status.Status.{Status}
+use Rattle.bundle_reports.specs.declared.status.Status.TheVariants as statuses
 use Rattle.npos_cli.specs.Replay.{Spot, Starts, Reaches, IsWhole, IsFront}
 use Rattle.npos_cli.specs.Chain.{npos_machine}
 use Rattle.npos_cli.specs.Ahead.{HasSeen}

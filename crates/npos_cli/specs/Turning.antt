@@ -10,10 +10,10 @@ use Rattle.npos_cli.specs.declared.replaying.Turn.{Turn}
 use Rattle.npos_cli.specs.declared.replaying.Turn.TheVariants.{Taken, Stopped}
 use Rattle.npos_cli.specs.declared.replaying.Stop.{Stop}
 use Rattle.npos_cli.specs.declared.replaying.Stop.TheVariants.{More, Last}
-use Rattle.npos_cli.specs.Texts.{fault_line}
+use Rattle.bundle_reports.specs.Texts.{fault_line}
 use Rattle.npos_cli.specs.Chain.{end_line}
-use Rattle.npos_cli.specs.declared.status.Status.{Status}
-use Rattle.npos_cli.specs.declared.status.Status.TheVariants as statuses
+use Rattle.bundle_reports.specs.declared.status.Status.{Status}
+use Rattle.bundle_reports.specs.declared.status.Status.TheVariants as statuses
 use Rattle.npos_cli.specs.Ahead.{MayFollow}
 use Rattle.npos_cli.specs.Replay.{Machine, Spot, turn, IsTurn, behind, Starts, Reaches, Stops, IsFront}
 

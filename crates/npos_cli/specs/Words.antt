@@ -8,12 +8,12 @@ use Rattle.npos_words.specs.declared.command.Miner.TheVariants as named
 use Rattle.npos_words.specs.Words.{command_of}
 use Rattle.npos_cli.specs.declared.job.Job.{Job}
 use Rattle.npos_cli.specs.declared.job.Job.TheVariants as jobs
-use Rattle.npos_cli.specs.declared.job.Task.{Task}
-use Rattle.npos_cli.specs.declared.job.Task.TheVariants as tasks
-use Rattle.npos_cli.specs.declared.job.Miner.{Miner}
-use Rattle.npos_cli.specs.declared.job.Miner.TheVariants as miners
-use Rattle.npos_cli.specs.declared.job.Rewriting.TheVariants as ways
-use Rattle.npos_cli.specs.Texts.{newline}
+use Rattle.bundle_reports.specs.declared.asked.Task.TheVariants as tasks
+use Rattle.bundle_reports.specs.declared.asked.Miner.{Miner}
+use Rattle.bundle_reports.specs.declared.asked.Miner.TheVariants as miners
+use Rattle.bundle_reports.specs.declared.asked.Rewriting.TheVariants as ways
+use Rattle.bundle_reports.specs.Rounds.{TaskHasRounds}
+use Rattle.bundle_reports.specs.Texts.{newline}
 
 -- the miner that a command names; the rounds are those of PHRAGMMS alone
 abbrev pub miner_by : named_miner → ℕ → Miner
@@ -36,17 +36,8 @@ job_of words = option_map job_by (command_of words)
 abbrev pub HasForm : List (List ℕ) → Type 0
 HasForm words = IsSome (job_of words)
 
--- PHRAGMMS has at least one round
-abbrev pub MinerHasRounds : Miner → Type 0
-MinerHasRounds miners.Fill = ⊤
-MinerHasRounds miners.Seq = ⊤
-MinerHasRounds (miners.Mms rounds) = 1 ≤ rounds
-
-abbrev pub TaskHasRounds : Task → Type 0
-TaskHasRounds tasks.Check = ⊤
-TaskHasRounds (tasks.Mine miner) = MinerHasRounds miner
-
--- and a generated election has voters and seats, and no more than an election may have
+-- PHRAGMMS has at least one round, and a generated election has voters and seats, and no more than
+-- an election may have
 abbrev pub KeepsBounds : Option Job → Type 0
 KeepsBounds None = ⊤
 KeepsBounds (Some jobs.Replay) = ⊤

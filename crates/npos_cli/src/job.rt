@@ -2,6 +2,7 @@
 ghost use Rattle.std.specs.Prelude.{◌≡◌};
 ghost use Rattle.npos_cli.specs.Words.{job_by, miner_by};
 
+use bundle_reports::{Miner, Rewriting, Task};
 use npos_words::{self as words, Command};
 
 /// What the program is to do.
@@ -15,36 +16,6 @@ pub enum Job {
     Rewrite(Rewriting),
     /// To report on the election that the seed generates. Nothing is read.
     Demo { seed: u64, voters: u32, seats: u32 },
-}
-
-/// The form in which a bundle is written.
-#[derive(Clone, Copy, Debug, PartialEq, Eq)]
-pub enum Rewriting {
-    /// In SCALE; it is read in JSON.
-    Pack,
-    /// In JSON; it is read in SCALE.
-    Show,
-}
-
-/// What is to be reported of a bundle.
-#[derive(Clone, Copy, Debug, PartialEq, Eq)]
-pub enum Task {
-    /// The verdict on its work.
-    Check,
-    /// The committee that a miner makes of its election, with the verdict on that. The work of the
-    /// bundle is not looked at.
-    Mine(Miner),
-}
-
-/// Who makes a committee.
-#[derive(Clone, Copy, Debug, PartialEq, Eq)]
-pub enum Miner {
-    /// The greedy fill, which always passes.
-    Fill,
-    /// Sequential Phragmén.
-    Seq,
-    /// PHRAGMMS, with so many balancing rounds after each pick.
-    Mms(u32),
 }
 
 /// The miner that a command names. The rounds are those of PHRAGMMS alone.

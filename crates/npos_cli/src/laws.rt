@@ -1,21 +1,18 @@
 //! What follows for all words and all bytes. Each law is the clause of a function that does
 //! nothing, or no more than the call that it speaks of.
 ghost use Rattle.std.specs.Prelude.{◌≡◌, ℕ, List};
-ghost use Rattle.quota_fill.specs.Filled.{filled};
-ghost use Rattle.election_check.specs.Seats.{IsReordered};
 ghost use Rattle.npos_cli.specs.Chain.{npos_machine};
 ghost use Rattle.npos_cli.specs.Headline.{SeatsAreSound};
 ghost use Rattle.npos_cli.specs.Crowding.{NoneIsCrowdedOut};
 ghost use Rattle.npos_cli.specs.Eras.{ErasAreKept};
 ghost use Rattle.npos_cli.specs.Laws.{OwesOnce, OwesAlways, PacksBack, IsReplayedOnce, IsAlwaysReplayed, IsWholeOnce, IsAlwaysWhole, BeginsWithWhole, WholeGrows, FaultsStand};
 
-use election_check::{Checker, Elected};
+pub use bundle_reports::laws::a_fill_is_sealed;
 use npos_runtime::laws::{
     each_round_is_decided_once, every_seated_committee_is_sound,
     nothing_valid_is_crowded_out_for_free, payouts_are_within_the_reward,
     slashes_are_within_the_stake,
 };
-use weight_book::Weights;
 
 /// Every committee that a replay seats, from a signed solution or from the fill, has a member for
 /// each seat, follows nominations, spends no voter beyond its stake, and is proportional.
@@ -85,16 +82,3 @@ pub fn whole_text_grows()
 pub fn faults_stand()
     ensures { FaultsStand npos_machine }
 {}
-
-/// Sealing the fill of the checker's election always succeeds: no election has a dead end.
-pub fn a_fill_is_sealed(checker: Checker, weights: Weights) -> Elected
-    requires { weights.plain ≡ filled checker }
-    ensures snapshot { result.snapshot ≡ checker }
-    ensures weights { IsReordered weights result.weights }
-{
-    let _seats = checker.snapshot().seats();
-    match checker.seal(weights) {
-        Ok(elected) => elected,
-        Err(_) => unreachable!(),
-    }
-}

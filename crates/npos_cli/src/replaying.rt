@@ -16,8 +16,9 @@ ghost use Rattle.npos_cli.specs.Turning.{spot, IsNear, IsGoing, TakesTurn, Write
 use crate::Status;
 use crate::edges::{flush, put};
 use crate::pieces::{PIECE, blank_piece, read_piece};
-use crate::telling::{tell_end, tell_fault, tell_genesis_fault, tell_lines, tell_other_number};
+use crate::telling::{tell_end, tell_genesis_fault, tell_lines, tell_other_number};
 use block_wire::{Genesis, Next, StreamReader};
+use bundle_reports::tell_fault;
 use npos_base::{NoMemory, Sink, Source};
 use npos_runtime::{BlockFault, Runtime};
 use scale_wire::fault::{ReadFault, Why, WireFault};

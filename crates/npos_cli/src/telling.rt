@@ -1,87 +1,19 @@
-//! The lines that the program writes, made piece by piece.
+//! The lines of blocks, of their faults, and the end line.
 ghost use Rattle.std.specs.Prelude.{◌≡◌, ◌≢◌, ◌++◌, flat_map, decimal, OnOk};
-ghost use Rattle.npos_cli.specs.Texts.{fault_line, number_line, genesis_line, word_of, account_text, newline};
+ghost use Rattle.bundle_reports.specs.Texts.{fault_line, word_of, account_text, newline};
+ghost use Rattle.npos_cli.specs.Texts.{number_line, genesis_line};
 ghost use Rattle.npos_runtime.specs.declared.line.Line.TheVariants as lines;
 ghost use Rattle.npos_runtime.specs.Genesis.{fault_numbers};
 ghost use Rattle.npos_runtime.specs.declared.begin.GenesisFault.TheVariants as faults;
-ghost use Rattle.npos_cli.specs.Pieces.{piece_text};
+ghost use Rattle.bundle_reports.specs.Pieces.{piece_text};
 ghost use Rattle.npos_cli.specs.Chain.{amount_line, end_line, line_text};
 
-use crate::digits::account_digits;
-use crate::numbers::{tell_member, tell_verdict};
+use bundle_reports::{Piece, tell, tell_account, tell_member, tell_verdict};
 use election_check::Verdict;
 use itoa::{Buffer, write_digits};
 use npos_base::{AccountId, NoMemory};
 use npos_runtime::{GenesisFault, Line};
-use scale_wire::fault::Why;
 use stake_ledger::Totals;
-
-/// A piece of a line.
-#[derive(Clone, Copy)]
-pub enum Piece<'a> {
-    Words(&'a str),
-    Number(u64),
-    Account(AccountId),
-}
-
-/// Appends an account in lower-case hexadecimal.
-pub(crate) fn tell_account(text: &mut Vec<u8>, who: AccountId) -> Result<(), NoMemory>
-    ensures { OnOk result (text.new.items ≡ text.old.items ++ account_text who) }
-{
-    text.extend_from_slice(&account_digits(who))?;
-    Ok(())
-}
-
-/// Appends one piece; a number in decimal, an account in hexadecimal.
-fn tell_piece(text: &mut Vec<u8>, piece: &Piece<'_>) -> Result<(), NoMemory>
-    ensures { OnOk result (text.new.items ≡ text.old.items ++ piece_text piece.now) }
-{
-    match piece {
-        Piece::Words(words) => text.extend_from_slice(words.as_bytes())?,
-        Piece::Number(number) => text.extend_from_slice(Buffer::new().format(*number).as_bytes())?,
-        Piece::Account(who) => tell_account(text, *who)?,
-    }
-    Ok(())
-}
-
-/// Appends the pieces in order.
-pub fn tell(text: &mut Vec<u8>, pieces: &[Piece<'_>]) -> Result<(), NoMemory>
-    ensures { OnOk result (text.new.items ≡ text.old.items ++ flat_map piece_text pieces.now) }
-{
-    for piece in pieces {
-        tell_piece(text, piece)?;
-    }
-    Ok(())
-}
-
-fn word(why: Why) -> &'static str
-    ensures { result.now ≡ word_of why }
-{
-    match why {
-        Why::Short => "short",
-        Why::NotShortest => "notshortest",
-        Why::TooWide => "toowide",
-        Why::BadTag => "badtag",
-        Why::TooMany => "toomany",
-        Why::Trailing => "trailing",
-    }
-}
-
-/// Appends the line of bytes that are refused.
-pub fn tell_fault(text: &mut Vec<u8>, at: u64, why: Why) -> Result<(), NoMemory>
-    ensures { OnOk result (text.new.items ≡ text.old.items ++ fault_line at why) }
-{
-    tell(
-        text,
-        &[
-            Piece::Words("fault "),
-            Piece::Number(at),
-            Piece::Words(" "),
-            Piece::Words(word(why)),
-            Piece::Words("\n"),
-        ],
-    )
-}
 
 /// Appends the line of a block whose number is not the due one.
 pub fn tell_other_number(text: &mut Vec<u8>, at: u64, due: u64, found: u32) -> Result<(), NoMemory>

@@ -2,11 +2,12 @@
 ghost use Rattle.std.specs.Prelude.{◌≡◌, ◌≢◌, ◌⊎◌, ◌<◌, ◌+◌, false, None, Some, map, IfOk, IfSome, string_bytes};
 ghost use Rattle.npos_base.specs.Outside.{Rose};
 ghost use Rattle.npos_cli.specs.declared.job.Job.TheVariants as jobs;
-ghost use Rattle.npos_cli.specs.declared.job.Task.{Task as task_kind};
-ghost use Rattle.npos_cli.specs.declared.job.Task.TheVariants as tasks;
-ghost use Rattle.npos_cli.specs.declared.job.Miner.TheVariants as miners;
+ghost use Rattle.bundle_reports.specs.declared.asked.Task.{Task as task_kind};
+ghost use Rattle.bundle_reports.specs.declared.asked.Task.TheVariants as tasks;
+ghost use Rattle.bundle_reports.specs.declared.asked.Miner.TheVariants as miners;
 ghost use Rattle.npos_words.specs.Words.{has_verb};
-ghost use Rattle.npos_cli.specs.Words.{job_of, KeepsBounds, TaskHasRounds};
+ghost use Rattle.npos_cli.specs.Words.{job_of, KeepsBounds};
+ghost use Rattle.bundle_reports.specs.Rounds.{TaskHasRounds};
 ghost use Rattle.npos_cli.specs.Report.{ReadsInput, ReadsBundle, IsAnswer, IsJudged};
 ghost use Rattle.npos_cli.specs.Books.{BooksBalance};
 ghost use Rattle.npos_cli.specs.Headline.{SeatsAreSound};
@@ -14,27 +15,24 @@ ghost use Rattle.npos_cli.specs.Chain.{npos_machine};
 ghost use Rattle.npos_cli.specs.Crowding.{NoneIsCrowdedOut};
 ghost use Rattle.npos_cli.specs.Eras.{ErasAreKept};
 ghost use Rattle.npos_cli.specs.Streams.{LeavesStream};
-ghost use Rattle.npos_cli.specs.Verdicts.{most_bundle};
-ghost use Rattle.npos_cli.specs.Tasks.{IsSound};
-ghost use Rattle.npos_cli.specs.declared.status.Status.TheVariants as statuses;
+ghost use Rattle.bundle_reports.specs.declared.reading.TheConstants.{MOST_BUNDLE};
+ghost use Rattle.bundle_reports.specs.Tasks.{IsSound};
+ghost use Rattle.bundle_reports.specs.declared.status.Status.TheVariants as statuses;
 ghost use Rattle.npos_cli.specs.Owed.{FindsFor, AnswersFor, Answers, BeginsFor, BeginsToAnswer, IsDrained, TakesAtMost, HaltsWell, HasRead, HasWrote, KeepsFlushed};
 ghost use Rattle.npos_cli.specs.Streaming.{HaltedReading, HaltedWriting, HaltedStarving, ReadsWhile};
-ghost use Rattle.npos_cli.specs.Demo.{demo_report};
+ghost use Rattle.bundle_reports.specs.Demo.{demo_report};
 ghost use Rattle.npos_cli.specs.Ran.{Ran, UsageEnds, DemoEnds};
 
 use crate::Status;
-use crate::answers::Answer;
-use crate::demo::demo_text;
 use crate::edges::deliver;
 use crate::input::read_up_to;
-use crate::job::{Job, Task, job_of};
+use crate::job::{Job, job_of};
 use crate::laws::{
     replays_crowd_nothing_out, replays_keep_the_bounds_of_eras, replays_seat_sound_committees,
 };
-use crate::reading::MOST_BUNDLE;
 use crate::replaying::replay;
 use crate::rewriting::rewrite;
-use crate::tasks::answer_bytes;
+use bundle_reports::{Answer, MOST_BUNDLE, Task, answer_bytes, demo_text};
 use npos_base::{Failed, NoMemory, Sink, Source};
 use npos_words::command_of;
 use std::alloc::Global;
@@ -52,7 +50,7 @@ fn bundle_answer<S: Source>(alloc: Global, source: &mut S, task: Task) -> Result
     ensures drained { IfOk result (λ answer. IsJudged answer.status
         → IsDrained (S.left source.old) (S.left source.new)) }
     ensures few { IfOk result
-        (λ _. TakesAtMost (most_bundle + 1) (S.left source.old) (S.left source.new)) }
+        (λ _. TakesAtMost (MOST_BUNDLE + 1) (S.left source.old) (S.left source.new)) }
     ensures sound { IfOk result (λ answer. answer.status ≡ statuses.Done
         → IfSome (S.left source.old) (IsSound task)) }
     ensures passes { task ≡ tasks.Mine miners.Fill
@@ -79,7 +77,7 @@ fn report<S: Source, K: Sink>(alloc: Global, source: &mut S, sink: &mut K, task:
         → KeepsFlushed (K.told sink.old) (K.told sink.new) }
     ensures drained { IsJudged result → IsDrained (S.left source.old) (S.left source.new) }
     ensures few { IsAnswer result
-        → TakesAtMost (most_bundle + 1) (S.left source.old) (S.left source.new) }
+        → TakesAtMost (MOST_BUNDLE + 1) (S.left source.old) (S.left source.new) }
     ensures accepted { result ≡ Status.Done → IfSome (S.left source.old) (IsSound task) }
     ensures passes { task ≡ tasks.Mine miners.Fill → result ≢ Status.No }
 {
@@ -227,7 +225,7 @@ pub fn run<S: Source, K: Sink>(
     ensures crowding { IfSome (S.left source.old) NoneIsCrowdedOut }
     ensures eras { IfSome (S.left source.old) ErasAreKept }
     ensures few { ReadsBundle (job_of (map string_bytes words.now)) → IsAnswer result
-        → TakesAtMost (most_bundle + 1) (S.left source.old) (S.left source.new) }
+        → TakesAtMost (MOST_BUNDLE + 1) (S.left source.old) (S.left source.new) }
     ensures accepted { (task : task_kind)
         → job_of (map string_bytes words.now) ≡ Some (jobs.OnBundle task)
         → result ≡ Status.Done → IfSome (S.left source.old) (IsSound task) }

@@ -2,7 +2,8 @@ use Rattle.std.proofs.Common.{rules, ◌≡◌, ◌++◌, ◌+◌, true, false, 
 use Rattle.scale_wire.specs.Reading.{IsRead, IsFault}
 use Rattle.npos_runtime.specs.declared.runtime.BlockFault.TheVariants.{WrongNumber}
 use Rattle.npos_runtime.specs.Life.{HasFault}
-use Rattle.npos_cli.specs.Texts.{number_line, fault_line}
+use Rattle.bundle_reports.specs.Texts.{fault_line}
+use Rattle.npos_cli.specs.Texts.{number_line}
 use Rattle.npos_cli.specs.Replay.{turn}
 use Rattle.npos_cli.specs.Chain.{npos_machine}
 use Rattle.npos_cli.specs.Ahead.{IsSure}

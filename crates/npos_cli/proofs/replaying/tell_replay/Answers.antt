@@ -2,7 +2,8 @@ use Rattle.std.proofs.Common.{rules, ◌≡◌, ◌++◌, true, Ok, Err, ap, ◌
 use Rattle.std.proofs.lemmas.Result.{err_from_is_err_and}
 use Rattle.npos_runtime.specs.Life.{Life}
 use Rattle.npos_runtime.specs.Genesis.{fault_numbers}
-use Rattle.npos_cli.specs.Texts.{fault_line, genesis_line}
+use Rattle.bundle_reports.specs.Texts.{fault_line}
+use Rattle.npos_cli.specs.Texts.{genesis_line}
 use Rattle.npos_cli.specs.Turning.{spot}
 use Rattle.npos_cli.specs.Ahead.{Begins}
 use Rattle.npos_cli.proofs.NearLaws.{begun_near}

@@ -1,7 +1,7 @@
 use Rattle.std.proofs.Common.{◌≡◌, ◌-◌, ◌+◌, ◌≤◌, ◌^◌, ◌<◌, ℕ, List, [], ◌∷◌, ◌++◌, drop, decimal, length, slice_set, arith, ap, length-append, ◌∙◌}
 use Rattle.std.proofs.lemmas.Fmt.{length-decimal-le}
 use Rattle.std.proofs.lemmas.List.{drop-set, take_all, append_assoc}
-use Rattle.npos_cli.specs.Texts.{account_text}
+use Rattle.bundle_reports.specs.Texts.{account_text}
 use Rattle.npos_cli.proofs.telling.tell_amount.Goals as goal
 
 short : (n : ℕ) → n < 2 ^ 64 → length (decimal n) ≤ 20

@@ -1,0 +1,10 @@
+use Rattle.std.proofs.Common.{subst}
+use Rattle.bundle_reports.specs.declared.reading.Reading.{Reading}
+use Rattle.bundle_reports.specs.Answer.{IsReading}
+use Rattle.bundle_reports.specs.Bundles.{election_in}
+use Rattle.bundle_reports.proofs.SoundLaws.{sound_reading}
+use Rattle.bundle_reports.proofs.tasks.answer_bytes.Goals as goal
+
+pub returns-in-Stands-clause-sound : goal.returns-in-Stands-clause-sound
+returns-in-Stands-clause-sound c = sound_reading c.args.task c.args.bytes.items c.in-Stands.election c.answer_election.result
+    (subst (λ (r : Reading). IsReading (election_in c.args.bytes.items) r) c.in-Stands.is c.in_ok-election.ensures) c.answer_election.ensures.sound

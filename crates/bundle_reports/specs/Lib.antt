@@ -1,0 +1,12 @@
+pub mod Texts
+pub mod Pieces
+pub mod Status
+pub mod Rounds
+pub mod Elections
+pub mod Verdicts
+pub mod Bundles
+pub mod Mining
+pub mod Tasks
+pub mod Rewriting
+pub mod Answer
+pub mod Demo

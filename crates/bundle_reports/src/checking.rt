@@ -1,0 +1,115 @@
+//! What `check` makes of the work on an election.
+ghost use Rattle.std.specs.Prelude.{◌≡◌, ◌≤◌, ◌++◌, length, IfOk};
+ghost use Rattle.election_check.specs.Plain.{verdict_plain};
+ghost use Rattle.election_check.specs.Packed.{verdict_packed};
+ghost use Rattle.bundle_reports.specs.Bundles.{work_report};
+ghost use Rattle.bundle_reports.specs.Answer.{report_of};
+
+use crate::answers::{Answer, told, unsolved};
+use block_wire::Work;
+use election_check::{Checker, Verdict};
+use election_snapshot::Snapshot;
+use npos_base::{Edge, NoMemory, Score};
+use std::alloc::Global;
+use weight_book::Weights;
+
+/// Appends the members, for which there is room.
+fn push_members(weights: &mut Weights, members: &[u16])
+    requires { length members.now ≤ weights.old.member_spare }
+    ensures members { weights.new.plain.committee ≡ weights.old.plain.committee ++ members.now }
+    ensures edges { weights.new.plain.edges ≡ weights.old.plain.edges }
+    ensures spare { weights.new.edge_spare ≡ weights.old.edge_spare }
+{
+    for member in members {
+        weights.push_member(*member);
+    }
+}
+
+/// Appends the edges, for which there is room.
+fn push_edges(weights: &mut Weights, edges: &[Edge])
+    requires { length edges.now ≤ weights.old.edge_spare }
+    ensures edges { weights.new.plain.edges ≡ weights.old.plain.edges ++ edges.now }
+    ensures members { weights.new.plain.committee ≡ weights.old.plain.committee }
+{
+    for edge in edges {
+        weights.push_edge(*edge);
+    }
+}
+
+/// A committee and edges as weights.
+fn weights_of(
+    alloc: Global,
+    snapshot: &Snapshot,
+    committee: &[u16],
+    edges: &[Edge],
+) -> Result<Weights, NoMemory>
+    ensures { IfOk result (λ weights. weights.plain
+        ≡ record { committee = committee.now; edges = edges.now }) }
+{
+    let mut weights = Weights::with_room(alloc, snapshot)?;
+    weights.reserve(committee.len(), edges.len())?;
+    push_members(&mut weights, committee);
+    push_edges(&mut weights, edges);
+    Ok(weights)
+}
+
+/// A checker for this snapshot.
+pub fn checker_of(alloc: Global, snapshot: Snapshot) -> Result<Checker, NoMemory>
+    ensures { IfOk result (λ checker. checker ≡ snapshot) }
+{
+    match Checker::new(alloc, snapshot) {
+        Ok(checker) => Ok(checker),
+        Err((_, want)) => Err(want),
+    }
+}
+
+/// The verdict on a committee and edges.
+fn plain_verdict(
+    alloc: Global,
+    snapshot: Snapshot,
+    committee: &[u16],
+    edges: &[Edge],
+) -> Result<Verdict, NoMemory>
+    ensures { IfOk result (λ verdict. verdict
+        ≡ verdict_plain snapshot (record { committee = committee.now; edges = edges.now })) }
+{
+    let weights = weights_of(alloc, &snapshot, committee, edges)?;
+    let mut checker = checker_of(alloc, snapshot)?;
+    Ok(checker.verdict(&weights))
+}
+
+/// The verdict on bytes with a claimed score.
+fn packed_verdict(
+    alloc: Global,
+    snapshot: Snapshot,
+    claim: &Score,
+    bytes: &[u8],
+) -> Result<Verdict, NoMemory>
+    ensures { IfOk result (λ verdict. verdict ≡ verdict_packed snapshot claim.now bytes.now) }
+{
+    let mut weights = Weights::with_room(alloc, &snapshot)?;
+    let mut checker = checker_of(alloc, snapshot)?;
+    checker.judge_bytes(alloc, bytes, claim, &mut weights)
+}
+
+/// The answer on the work of a bundle that has so many bytes.
+pub fn check_work(
+    alloc: Global,
+    snapshot: Snapshot,
+    work: &Work,
+    size: u64,
+) -> Result<Answer, NoMemory>
+    ensures { IfOk result (λ answer. report_of answer ≡ work_report size snapshot work.now) }
+{
+    match work {
+        Work::Nothing => unsolved(alloc, size.saturating_sub(1)),
+        Work::Packed { claim, bytes } => {
+            let verdict = packed_verdict(alloc, snapshot, claim, bytes.as_slice())?;
+            told(Vec::new(alloc), verdict)
+        }
+        Work::Plain { committee, edges } => {
+            let verdict = plain_verdict(alloc, snapshot, committee.as_slice(), edges.as_slice())?;
+            told(Vec::new(alloc), verdict)
+        }
+    }
+}

@@ -1,0 +1,27 @@
+//! What is answered on the bytes of a bundle, and the report of a generated election.
+#![tactic(auto)]
+
+mod answers;
+mod asked;
+mod checking;
+mod demo;
+mod digits;
+mod election;
+pub mod laws;
+mod mining;
+mod numbers;
+mod reading;
+mod rewriting;
+mod status;
+mod tasks;
+mod telling;
+
+pub use answers::Answer;
+pub use asked::{Miner, Rewriting, Task};
+pub use demo::demo_text;
+pub use numbers::{tell_member, tell_verdict};
+pub use reading::{Election, MOST_BUNDLE};
+pub use rewriting::rewrite_bytes;
+pub use status::Status;
+pub use tasks::answer_bytes;
+pub use telling::{Piece, tell, tell_account, tell_fault};

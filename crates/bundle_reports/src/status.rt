@@ -1,0 +1,50 @@
+//! How a run ends.
+ghost use Rattle.std.specs.Prelude.{◌≡◌};
+ghost use Rattle.bundle_reports.specs.Status.{number_of};
+ghost use Rattle.bundle_reports.specs.declared.status.Status.TheVariants as statuses;
+
+use npos_base::NoMemory;
+
+/// How a run ended. Its number is the exit status of the program.
+#[derive(Clone, Copy, Debug, PartialEq, Eq)]
+pub enum Status {
+    /// The job was done.
+    Done,
+    /// A verdict was not Yes.
+    No,
+    /// The words have no form. Nothing was read.
+    Usage,
+    /// The output ends with a fault line.
+    BadInput,
+    /// A read failed, and the run ended there.
+    ReadFault,
+    /// A write or the flush failed, and the run ended there.
+    WriteFault,
+    /// Memory was refused, and the run ended there.
+    NoMemory,
+}
+
+impl Status {
+    /// The number of the status, 0 to 6.
+    pub fn number(&self) -> u8
+        ensures { result ≡ number_of self.now }
+    {
+        match self {
+            Status::Done => 0,
+            Status::No => 1,
+            Status::Usage => 2,
+            Status::BadInput => 3,
+            Status::ReadFault => 4,
+            Status::WriteFault => 5,
+            Status::NoMemory => 6,
+        }
+    }
+}
+
+impl From<NoMemory> for Status {
+    ghost from_gives = { λ _ status. status ≡ statuses.NoMemory };
+
+    fn from(_memory: NoMemory) -> Status {
+        Status::NoMemory
+    }
+}

@@ -1,6 +1,0 @@
-use Rattle.std.proofs.Common.{◌∙◌, ap₂, ◌++◌}
-use Rattle.npos_cli.specs.Demo.{election_text}
-use Rattle.npos_cli.proofs.demo.demo_text.Goals as goal
-
-pub returns : goal.returns
-returns c = c.in_ok-tell_election.ensures ∙ ap₂ (λ start s. start ++ election_text s) c.new-text.ensures.items c.in_ok-snapshot.ensures
