@@ -3,8 +3,9 @@ use Rattle.std.proofs.Common.{◌≡◌, ℕ, ◌+◌, ◌≤◌, ◌^◌, List,
 use Rattle.block_wire.specs.declared.block.Block.{Block}
 use Rattle.block_wire.specs.declared.genesis.Genesis.{Genesis}
 use Rattle.npos_runtime.specs.declared.chain.Chain.{Chain}
-use Rattle.npos_runtime.specs.declared.begin.GenesisFault.{GenesisFault}
-use Rattle.npos_runtime.specs.Genesis.{genesis_fault, genesis_chain, fault_numbers}
+use Rattle.chain_params.specs.declared.fault.GenesisFault.{GenesisFault}
+use Rattle.npos_runtime.specs.Genesis.{genesis_fault, genesis_chain}
+use Rattle.chain_params.specs.Faults.{fault_numbers}
 use Rattle.npos_runtime.specs.Offers.{IsNoneCrowdedOut}
 use Rattle.npos_runtime.specs.Laws.{CrowdingLaw}
 use Rattle.npos_runtime.proofs.LiveLemmas.{due_step}

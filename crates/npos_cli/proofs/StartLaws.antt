@@ -7,9 +7,10 @@ use Rattle.block_wire.specs.declared.genesis.Genesis.{Genesis}
 use Rattle.block_wire.specs.Genesis.{genesis_form}
 use Rattle.npos_runtime.specs.declared.chain.Chain.{Chain}
 use Rattle.npos_runtime.specs.Outcome.{Election}
-use Rattle.npos_runtime.specs.declared.begin.GenesisFault.{GenesisFault}
-use Rattle.npos_runtime.specs.declared.begin.GenesisFault.TheVariants.{NoMemory}
-use Rattle.npos_runtime.specs.Genesis.{genesis_fault, genesis_chain, fault_numbers, IsFault as IsGenesisFault}
+use Rattle.chain_params.specs.declared.fault.GenesisFault.{GenesisFault}
+use Rattle.chain_params.specs.declared.fault.GenesisFault.TheVariants.{NoMemory}
+use Rattle.npos_runtime.specs.Genesis.{genesis_fault, genesis_chain, IsFault as IsGenesisFault}
+use Rattle.chain_params.specs.Faults.{fault_numbers}
 use Rattle.bundle_reports.specs.Texts.{fault_line}
 use Rattle.npos_cli.specs.Texts.{genesis_line}
 use Rattle.npos_cli.specs.Replay.{Outcome, Starts, BadGenesis, FaultyGenesis}

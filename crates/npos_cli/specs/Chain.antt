@@ -8,10 +8,11 @@ use Rattle.stake_ledger.specs.declared.totals.Totals.{Totals}
 use Rattle.stake_ledger.specs.Ledger.{totals_of}
 use Rattle.npos_runtime.specs.declared.chain.Chain.{Chain}
 use Rattle.npos_runtime.specs.Outcome.{Election}
-use Rattle.npos_runtime.specs.declared.begin.GenesisFault.{GenesisFault}
-use Rattle.npos_runtime.specs.declared.line.Line.{Line}
-use Rattle.npos_runtime.specs.declared.line.Line.TheVariants as lines
-use Rattle.npos_runtime.specs.Genesis.{genesis_fault, genesis_chain, fault_numbers}
+use Rattle.chain_params.specs.declared.fault.GenesisFault.{GenesisFault}
+use Rattle.block_receipts.specs.declared.line.Line.{Line}
+use Rattle.block_receipts.specs.declared.line.Line.TheVariants as lines
+use Rattle.npos_runtime.specs.Genesis.{genesis_fault, genesis_chain}
+use Rattle.chain_params.specs.Faults.{fault_numbers}
 use Rattle.npos_runtime.specs.Step.{step}
 use Rattle.npos_base.specs.declared.account.AccountId.{AccountId}
 use Rattle.bundle_reports.specs.Texts.{newline, account_text}

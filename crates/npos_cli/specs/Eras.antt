@@ -8,7 +8,7 @@ use Rattle.block_wire.specs.declared.block.Block.{Block}
 use Rattle.block_wire.specs.declared.genesis.Genesis.{Genesis}
 use Rattle.era_book.specs.Calls.{slash_in}
 use Rattle.npos_runtime.specs.declared.chain.Chain.{Chain}
-use Rattle.npos_runtime.specs.Rules.{era_reward_of}
+use Rattle.chain_params.specs.Rules.{era_reward_of}
 use Rattle.npos_runtime.specs.Genesis.{genesis_chain, params_of}
 use Rattle.npos_runtime.specs.Calls.{refusal_of, done_of, told_of}
 use Rattle.npos_runtime.specs.Step.{seated_by}

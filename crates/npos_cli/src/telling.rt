@@ -2,9 +2,9 @@
 ghost use Rattle.std.specs.Prelude.{◌≡◌, ◌≢◌, ◌++◌, flat_map, decimal, OnOk};
 ghost use Rattle.bundle_reports.specs.Texts.{fault_line, word_of, account_text, newline};
 ghost use Rattle.npos_cli.specs.Texts.{number_line, genesis_line};
-ghost use Rattle.npos_runtime.specs.declared.line.Line.TheVariants as lines;
-ghost use Rattle.npos_runtime.specs.Genesis.{fault_numbers};
-ghost use Rattle.npos_runtime.specs.declared.begin.GenesisFault.TheVariants as faults;
+ghost use Rattle.block_receipts.specs.declared.line.Line.TheVariants as lines;
+ghost use Rattle.chain_params.specs.Faults.{fault_numbers};
+ghost use Rattle.chain_params.specs.declared.fault.GenesisFault.TheVariants as faults;
 ghost use Rattle.bundle_reports.specs.Pieces.{piece_text};
 ghost use Rattle.npos_cli.specs.Chain.{amount_line, end_line, line_text};
 

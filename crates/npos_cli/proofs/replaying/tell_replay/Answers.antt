@@ -1,7 +1,7 @@
 use Rattle.std.proofs.Common.{rules, ◌≡◌, ◌++◌, true, Ok, Err, ap, ◌∙◌, arith}
 use Rattle.std.proofs.lemmas.Result.{err_from_is_err_and}
 use Rattle.npos_runtime.specs.Life.{Life}
-use Rattle.npos_runtime.specs.Genesis.{fault_numbers}
+use Rattle.chain_params.specs.Faults.{fault_numbers}
 use Rattle.bundle_reports.specs.Texts.{fault_line}
 use Rattle.npos_cli.specs.Texts.{genesis_line}
 use Rattle.npos_cli.specs.Turning.{spot}
