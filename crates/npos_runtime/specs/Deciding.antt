@@ -4,7 +4,6 @@ use Rattle.submission_queue.specs.declared.submission.Submission.{Submission}
 use Rattle.submission_queue.specs.Ranking.{empty_queue}
 use Rattle.election_snapshot.specs.Snapshot.{Snapshot}
 use Rattle.npos_runtime.specs.declared.chain.Chain.{Chain}
-use Rattle.block_receipts.specs.declared.line.Line.TheVariants as lines
 use Rattle.npos_runtime.specs.declared.round.Round.{Round}
 use Rattle.npos_runtime.specs.declared.round.Round.TheVariants as rounds
 use Rattle.npos_runtime.specs.Committee.{Committee}
