@@ -19,7 +19,7 @@ use Rattle.npos_cli.specs.Headline.{SeatsAreSound, IsPromised}
 use Rattle.npos_cli.specs.Owed.{IsDrained, Delivers, DeliversFront, DeliversReplay, DeliversReplayFront, Comes, ComesWith, Answers, IsOwed, BeginsToAnswer}
 use Rattle.npos_cli.proofs.RewriteLaws.{of_rewriting}
 use Rattle.npos_cli.proofs.RunLaws.{one_owed}
-use Rattle.npos_cli.proofs.StatusLaws.{of_bundle}
+use Rattle.bundle_reports.proofs.StatusLaws.{of_bundle}
 
 -- what an answer that is known to be this one says
 at_answer : (words : List (List ℕ)) (left : Option (List ℕ)) (old new : Option Told) (answer due : Status) → answer ≡ due → IsAnswer due
