@@ -1,7 +1,7 @@
 -- From what a run owes and what was delivered to the clauses of `run`.
-use Rattle.std.proofs.Common.{◌≡◌, inl, inr, ℕ, ◌+◌, ◌<◌, ◌≤◌, Bool, true, false, List, [], ◌++◌, length, nat_lt, Option, Some, None, Result, Err, IfSome, if◌then◌else◌, refl, sym, ◌∙◌, ap, subst, arith, length-append}
+use Rattle.std.proofs.Common.{◌≡◌, inl, inr, ℕ, ◌+◌, ◌≤◌, List, [], ◌++◌, length, Option, Some, None, IfSome, refl, sym, ◌∙◌, ap, subst, arith, length-append}
 use Rattle.std.proofs.lemmas.List.{take_all, append-nil}
-use Rattle.std.proofs.lemmas.Bool.{lt-ltb, cases_lt, true≢false}
+use Rattle.std.proofs.lemmas.Bool.{cases_lt}
 use Rattle.npos_base.specs.Outside.{Told}
 use Rattle.scale_wire.specs.Form.{IsBytes}
 use Rattle.npos_cli.specs.declared.job.Job.{Job}
@@ -14,10 +14,9 @@ use Rattle.npos_cli.specs.Replay.{Outcome}
 use Rattle.npos_runtime.specs.declared.chain.Chain.{Chain}
 use Rattle.npos_runtime.specs.Outcome.{Election}
 use Rattle.npos_cli.specs.Chain.{npos_machine}
-use Rattle.bundle_reports.specs.Verdicts.{long_line}
 use Rattle.bundle_reports.specs.declared.reading.TheConstants.{MOST_BUNDLE}
 use Rattle.bundle_reports.specs.declared.asked.Task.{Task}
-use Rattle.bundle_reports.specs.Bundles.{Report, faulty}
+use Rattle.bundle_reports.specs.Bundles.{Report}
 use Rattle.bundle_reports.specs.Demo.{demo_report}
 use Rattle.bundle_reports.specs.Rewriting.{rewrite_report}
 use Rattle.bundle_reports.specs.Tasks.{IsBundleReport, IsSound}
