@@ -1,5 +1,5 @@
 -- A call that may be refused: which answer it owes, and what it makes of its object.
--- `memory` is the error that tells want of memory, the one answer that needs no cause.
+-- `memory` is the error that tells want of memory, the one answer that needs no cause; a room gives it once.
 use Rattle.std.specs.Prelude.{◌≡◌, ◌≢◌, Option, Some, None, Result, Ok, Err, OnOk, OnErr, IfErr}
 
 -- an error other than want of memory is the first refusal that stands
@@ -17,6 +17,13 @@ pub record Meets {S T E : Type 0} (memory : E) (due : Option E) (effect old new 
     (result : Result T E) : Type 0 where
   pub ok : OnOk result ((due ≡ None) × (new ≡ effect))
   pub refused : IfErr result (IsDue memory due)
+  pub unchanged : OnErr result (new ≡ old)
+
+-- the same of a call that takes no memory: each of its errors is the refusal that stands
+pub record MeetsAlways {S T E : Type 0} (due : Option E) (effect old new : S) (result : Result T E)
+    : Type 0 where
+  pub ok : OnOk result ((due ≡ None) × (new ≡ effect))
+  pub refused : IfErr result (λ refusal. due ≡ Some refusal)
   pub unchanged : OnErr result (new ≡ old)
 
 -- the same of a call that may leave its object in any state after want of memory

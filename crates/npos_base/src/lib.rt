@@ -23,7 +23,7 @@ pub use limits::{
 };
 pub use list::List;
 pub use memory::{MemorySink, MemorySource};
-pub use no_memory::NoMemory;
+pub use no_memory::{NoMemory, Reason};
 pub use outside::{Failed, PutFault, Sink, Source, put_all};
 pub use plain::{PlainSink, PlainSource};
 pub use room::Room;

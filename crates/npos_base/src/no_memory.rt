@@ -1,4 +1,5 @@
 //! Want of memory, the one answer that no contract ties to a cause.
+ghost use Rattle.std.specs.Prelude.{◌≡◌, ℕ, Option, None};
 
 use std::alloc::{AllocError, AllocFailed};
 
@@ -17,4 +18,22 @@ impl<T: Drop> From<AllocFailed<T>> for NoMemory {
     fn from(_error: AllocFailed<T>) -> NoMemory {
         NoMemory
     }
+}
+
+/// The error of a call that may be refused: a reason, which has a number, or want of memory, which
+/// is no reason and has none.
+pub trait Reason: Copy {
+    /// The number of the reason.
+    ghost number: { Self → Option ℕ };
+
+    /// The error that tells want of memory.
+    ghost memory: { Self };
+
+    /// The number that is printed; None for want of memory.
+    fn number(self) -> Option<u32>
+        ensures { result ≡ number self };
+
+    ghost memory_has_none: { number memory ≡ None };
+
+    ghost others_have_one: { (error : Self) → number error ≡ None → error ≡ memory };
 }
