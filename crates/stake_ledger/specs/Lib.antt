@@ -4,6 +4,8 @@ pub mod Rows
 pub mod Parts
 pub mod Places
 pub mod Ledger
+pub mod Owed
+pub mod Reasons
 pub mod Kept
 pub mod Calls
 pub mod RowCalls

@@ -2,10 +2,8 @@
 -- answers, what it makes of the row, and what of the books. Each refuses an account that has
 -- nothing.
 use Rattle.std.specs.Prelude.{◌≡◌, ℕ, ◌+◌, ◌≤◌, Option, Result, OnErr, OnOk, IfErr, IfOk, None, Some, All}
-use Rattle.npos_base.specs.Refusal.{IsDue}
 use Rattle.npos_base.specs.declared.account.AccountId.{AccountId}
 use Rattle.stake_ledger.specs.declared.refusal.LedgerRefusal.{LedgerRefusal}
-use Rattle.stake_ledger.specs.declared.refusal.LedgerRefusal.TheVariants.{NoMemory}
 use Rattle.stake_ledger.specs.declared.row.Row.{Row}
 use Rattle.stake_ledger.specs.declared.call.RowCall.{RowCall}
 use Rattle.stake_ledger.specs.declared.call.RowCall.TheVariants.{Bond, BondExtra, Unbond, Rebond, Withdraw, Hold, Return, Burn}
@@ -13,6 +11,7 @@ use Rattle.stake_ledger.specs.declared.parts.Done.{Done}
 use Rattle.stake_ledger.specs.Parts.{parts_of}
 use Rattle.stake_ledger.specs.Rows.{activated, unbonded, rebonded, withdrawn, deposited, returned, forfeited}
 use Rattle.stake_ledger.specs.Ledger.{Ledger, changed}
+use Rattle.stake_ledger.specs.Owed.{IsDue}
 use Rattle.stake_ledger.specs.Calls.{bond_refusal, bond_extra_refusal, unbond_refusal, unbond_amount, rebond_refusal, rebond_amount, withdraw_refusal, withdraw_amount, deposit_refusal, held_refusal}
 
 abbrev pub row_refusal : RowCall → Row → Option LedgerRefusal
@@ -27,7 +26,7 @@ row_refusal (Burn value) row = held_refusal row value
 
 -- only an unbond may want memory, for a chunk
 abbrev pub MayAnswer : RowCall → Option LedgerRefusal → LedgerRefusal → Type 0
-MayAnswer (Unbond value release least) due refusal = IsDue NoMemory due refusal
+MayAnswer (Unbond value release least) due refusal = IsDue due refusal
 MayAnswer call due refusal = due ≡ Some refusal
 
 abbrev pub row_amount : RowCall → Row → ℕ

@@ -1,7 +1,7 @@
 //! The books.
 ghost use Rattle.std.specs.Prelude.{◌≡◌, ◌≢◌, ◌-◌, ◌+◌, ◌≤◌, None, Some, OnErr, OnOk, IfErr, IfOk, is_some, All, true};
-ghost use Rattle.npos_base.specs.Refusal.{IsDue};
-ghost use Rattle.stake_ledger.specs.declared.refusal.LedgerRefusal.TheVariants as refusals;
+ghost use Rattle.npos_base.specs.Refusal.{MeetsAlways};
+ghost use Rattle.stake_ledger.specs.Owed.{Meets};
 ghost use Rattle.stake_ledger.specs.Chunks.{IsSchedule};
 ghost use Rattle.stake_ledger.specs.Rows.{is_bonded, activated, unbonded, rebonded, withdrawn};
 ghost use Rattle.stake_ledger.specs.Ledger.{empty_ledger, row_of, row_at, changed, totals_of, issuance_cap, IsBalanced, OthersStay};
@@ -85,10 +85,8 @@ impl Book {
     pub fn endow(&mut self, who: AccountId, value: u64) -> Result<(), LedgerRefusal>
         requires unknown { row_of self.old who ≡ None }
         requires unminted { self.old.minted ≡ 0 }
-        ensures ok { OnOk result ((endow_refusal self.old value ≡ None)
-            × (self.new ≡ endowed who value self.old)) }
-        ensures err { OnErr result (self.new ≡ self.old) }
-        ensures refused { IfErr result (IsDue refusals.NoMemory (endow_refusal self.old value)) }
+        ensures meets { Meets (endow_refusal self.old value)
+            (endowed who value self.old) self.old self.new result }
         ensures others { OthersStay who self.old self.new }
     {
         if value > CAP - self.genesis {
@@ -110,11 +108,8 @@ impl Book {
         to: AccountId,
         value: u64,
     ) -> Result<(), LedgerRefusal>
-        ensures ok { OnOk result ((transfer_refusal self.old from to value ≡ None)
-            × (self.new ≡ transferred from to value self.old)) }
-        ensures err { OnErr result (self.new ≡ self.old) }
-        ensures refused { IfErr result
-            (IsDue refusals.NoMemory (transfer_refusal self.old from to value)) }
+        ensures meets { Meets (transfer_refusal self.old from to value)
+            (transferred from to value self.old) self.old self.new result }
         ensures others { (other : AccountId) → other ≢ from → other ≢ to
             → row_of self.new other ≡ row_of self.old other }
     {
@@ -132,11 +127,8 @@ impl Book {
     /// It refuses with `ZeroValue`, `AlreadyBonded`, `BelowMinimum` (below `minimum`) or
     /// `LowFunds`.
     pub fn bond(&mut self, who: AccountId, value: u64, minimum: u64) -> Result<(), LedgerRefusal>
-        ensures ok { OnOk result ((bond_refusal (row_at self.old who) value minimum ≡ None)
-            × (self.new ≡ changed who (activated value) self.old)) }
-        ensures err { OnErr result (self.new ≡ self.old) }
-        ensures refused { IfErr result
-            (λ refusal. bond_refusal (row_at self.old who) value minimum ≡ Some refusal) }
+        ensures meets { MeetsAlways (bond_refusal (row_at self.old who) value minimum)
+            (changed who (activated value) self.old) self.old self.new result }
         ensures others { OthersStay who self.old self.new }
     {
         self.call(who, RowCall::Bond { value, minimum })?;
@@ -146,11 +138,8 @@ impl Book {
     /// Moves the value from free to active, for an account that is bonded. It takes no memory.
     /// It refuses with `ZeroValue`, `NotBonded` or `LowFunds`.
     pub fn bond_extra(&mut self, who: AccountId, value: u64) -> Result<(), LedgerRefusal>
-        ensures ok { OnOk result ((bond_extra_refusal (row_at self.old who) value ≡ None)
-            × (self.new ≡ changed who (activated value) self.old)) }
-        ensures err { OnErr result (self.new ≡ self.old) }
-        ensures refused { IfErr result
-            (λ refusal. bond_extra_refusal (row_at self.old who) value ≡ Some refusal) }
+        ensures meets { MeetsAlways (bond_extra_refusal (row_at self.old who) value)
+            (changed who (activated value) self.old) self.old self.new result }
         ensures others { OthersStay who self.old self.new }
     {
         self.call(who, RowCall::BondExtra { value })?;
@@ -169,14 +158,12 @@ impl Book {
         least: u64,
     ) -> Result<u64, LedgerRefusal>
         requires { All (λ chunk. chunk.release ≤ release) (row_at self.old who).chunks }
-        ensures ok { let row = row_at self.old who in
-            OnOk result ((unbond_refusal row value release least ≡ None)
-            × (self.new ≡ changed who (unbonded (unbond_amount row value) release) self.old)) }
+        ensures meets { let row = row_at self.old who in
+            Meets (unbond_refusal row value release least)
+            (changed who (unbonded (unbond_amount row value) release) self.old)
+            self.old self.new result }
         ensures amount { IfOk result
             (λ amount. amount ≡ unbond_amount (row_at self.old who) value) }
-        ensures err { OnErr result (self.new ≡ self.old) }
-        ensures refused { IfErr result
-            (IsDue refusals.NoMemory (unbond_refusal (row_at self.old who) value release least)) }
         ensures others { OthersStay who self.old self.new }
     {
         self.call(
@@ -193,14 +180,12 @@ impl Book {
     /// much. Emptied chunks go. It takes no memory, and refuses with `ZeroValue`, `NotBonded` or
     /// `NoChunk`.
     pub fn rebond(&mut self, who: AccountId, value: u64) -> Result<u64, LedgerRefusal>
-        ensures ok { let row = row_at self.old who in
-            OnOk result ((rebond_refusal row value ≡ None)
-            × (self.new ≡ changed who (rebonded (rebond_amount row value)) self.old)) }
+        ensures meets { let row = row_at self.old who in
+            MeetsAlways (rebond_refusal row value)
+            (changed who (rebonded (rebond_amount row value)) self.old)
+            self.old self.new result }
         ensures amount { IfOk result
             (λ amount. amount ≡ rebond_amount (row_at self.old who) value) }
-        ensures err { OnErr result (self.new ≡ self.old) }
-        ensures refused { IfErr result
-            (λ refusal. rebond_refusal (row_at self.old who) value ≡ Some refusal) }
         ensures others { OthersStay who self.old self.new }
     {
         self.call(who, RowCall::Rebond { value })
@@ -209,13 +194,10 @@ impl Book {
     /// Frees the chunks that are released by this era, and answers how much. It takes no memory,
     /// and refuses with `NotBonded`.
     pub fn withdraw(&mut self, who: AccountId, era: u32) -> Result<u64, LedgerRefusal>
-        ensures ok { OnOk result ((withdraw_refusal (row_at self.old who) ≡ None)
-            × (self.new ≡ changed who (withdrawn era) self.old)) }
+        ensures meets { MeetsAlways (withdraw_refusal (row_at self.old who))
+            (changed who (withdrawn era) self.old) self.old self.new result }
         ensures amount { IfOk result
             (λ amount. amount ≡ withdraw_amount (row_at self.old who) era) }
-        ensures err { OnErr result (self.new ≡ self.old) }
-        ensures refused { IfErr result
-            (λ refusal. withdraw_refusal (row_at self.old who) ≡ Some refusal) }
         ensures others { OthersStay who self.old self.new }
     {
         self.call(who, RowCall::Withdraw { era })
@@ -224,11 +206,8 @@ impl Book {
     /// Holds the value as a deposit: it moves from free to held. The account gets a row where it
     /// has none, also for a deposit of 0. It refuses with `LowFunds`.
     pub fn hold_deposit(&mut self, who: AccountId, value: u64) -> Result<(), LedgerRefusal>
-        ensures ok { OnOk result ((hold_refusal (row_at self.old who) value ≡ None)
-            × (self.new ≡ deposit_held who value self.old)) }
-        ensures err { OnErr result (self.new ≡ self.old) }
-        ensures refused { IfErr result
-            (IsDue refusals.NoMemory (hold_refusal (row_at self.old who) value)) }
+        ensures meets { Meets (hold_refusal (row_at self.old who) value)
+            (deposit_held who value self.old) self.old self.new result }
         ensures others { OthersStay who self.old self.new }
     {
         if value == 0 {
@@ -283,10 +262,8 @@ impl Book {
     /// with `IssuanceCap` where the value is above the room.
     pub fn mint_free(&mut self, who: AccountId, value: u64) -> Result<(), LedgerRefusal>
         requires known { is_some (row_of self.old who) ≡ true }
-        ensures ok { OnOk result ((mint_refusal self.old value ≡ None)
-            × (self.new ≡ minted_free who value self.old)) }
-        ensures err { OnErr result (self.new ≡ self.old) }
-        ensures refused { IfErr result (λ refusal. mint_refusal self.old value ≡ Some refusal) }
+        ensures meets { MeetsAlways (mint_refusal self.old value)
+            (minted_free who value self.old) self.old self.new result }
         ensures others { OthersStay who self.old self.new }
     {
         self.check_room(value)?;
@@ -303,29 +280,17 @@ impl Book {
         self.rows.guess(who)
     }
 
-    /// Makes the value, which is free for the account; its row is opened where it has none. It
-    /// refuses with `IssuanceCap` where the value is above the room.
-    pub fn mint(&mut self, who: AccountId, value: u64) -> Result<(), LedgerRefusal>
-        ensures ok { OnOk result ((mint_refusal self.old value ≡ None)
-            × (self.new ≡ minted_free who value self.old)) }
-        ensures err { OnErr result (self.new ≡ self.old) }
-        ensures refused { IfErr result (IsDue refusals.NoMemory (mint_refusal self.old value)) }
-        ensures others { OthersStay who self.old self.new }
-    {
-        self.mint_from(NOBODY, who, value)
-    }
-
-    /// Does what `mint` does. The account may be found by the guess.
+    /// Makes the value, which is free for the account; its row is opened where it has none. The
+    /// account may be found by the guess. It refuses with `IssuanceCap` where the value is above
+    /// the room.
     pub fn mint_from(
         &mut self,
         guess: usize,
         who: AccountId,
         value: u64,
     ) -> Result<(), LedgerRefusal>
-        ensures ok { OnOk result ((mint_refusal self.old value ≡ None)
-            × (self.new ≡ minted_free who value self.old)) }
-        ensures err { OnErr result (self.new ≡ self.old) }
-        ensures refused { IfErr result (IsDue refusals.NoMemory (mint_refusal self.old value)) }
+        ensures meets { Meets (mint_refusal self.old value)
+            (minted_free who value self.old) self.old self.new result }
         ensures others { OthersStay who self.old self.new }
     {
         self.check_room(value)?;

@@ -1,8 +1,7 @@
 //! Stake on its way out.
 ghost use Rattle.std.specs.Prelude.{◌≡◌, ◌+◌, ◌^◌, ◌<◌, ◌≤◌, ◌↔◌, [], length, IsTrue, OnErr, OnOk, IfErr};
 ghost use Rattle.stake_ledger.specs.declared.chunks.TheConstants.{MOST_CHUNKS};
-ghost use Rattle.npos_base.specs.Refusal.{IsDue};
-ghost use Rattle.stake_ledger.specs.declared.refusal.LedgerRefusal.TheVariants as refusals;
+ghost use Rattle.stake_ledger.specs.Owed.{IsDue};
 ghost use Rattle.stake_ledger.specs.Chunks.{chunk_sum, chunk_refusal, is_empty, with_chunk, without_latest, without_first, released, unreleased};
 ghost use Rattle.stake_ledger.specs.Joining.{joins_last};
 
@@ -87,7 +86,7 @@ impl Chunks {
             × (self.new ≡ with_chunk amount release self.old)) }
         ensures err { OnErr result (self.new ≡ self.old) }
         ensures refused { IfErr result
-            (IsDue refusals.NoMemory (chunk_refusal amount release self.old)) }
+            (IsDue (chunk_refusal amount release self.old)) }
     {
         if self.joins_last(release) {
             let last = self.items.len() - 1;

@@ -2,7 +2,7 @@
 ghost use Rattle.std.specs.Prelude.{◌≡◌};
 ghost use Rattle.stake_ledger.specs.declared.refusal.LedgerRefusal.TheVariants.{NoMemory as NoMemoryRefusal};
 
-use npos_base::NoMemory;
+use npos_base::{NoMemory, Reason};
 use std::alloc::AllocFailed;
 use thiserror::Error;
 
@@ -45,4 +45,33 @@ impl<T: Drop> From<AllocFailed<T>> for LedgerRefusal {
     fn from(_error: AllocFailed<T>) -> LedgerRefusal {
         LedgerRefusal::NoMemory
     }
+}
+
+impl Reason for LedgerRefusal {
+    ghost use Rattle.std.specs.Prelude.{refl};
+    ghost use Rattle.stake_ledger.specs.Reasons.{reason_number, only_memory};
+
+    ghost number = { reason_number };
+
+    ghost memory = { NoMemoryRefusal };
+
+    fn number(self) -> Option<u32> {
+        let number = match self {
+            LedgerRefusal::LowFunds => 1,
+            LedgerRefusal::NotBonded => 2,
+            LedgerRefusal::AlreadyBonded => 3,
+            LedgerRefusal::BelowMinimum => 4,
+            LedgerRefusal::NoMoreChunks => 5,
+            LedgerRefusal::NoChunk => 6,
+            LedgerRefusal::ZeroValue => 7,
+            LedgerRefusal::SameAccount => 8,
+            LedgerRefusal::IssuanceCap => 9,
+            LedgerRefusal::NoMemory => return None,
+        };
+        Some(number)
+    }
+
+    ghost memory_has_none = { refl };
+
+    ghost others_have_one = { only_memory };
 }

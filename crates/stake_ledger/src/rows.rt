@@ -5,8 +5,7 @@ ghost use Rattle.std.specs.Option.{option_copied};
 ghost use Rattle.std.specs.List.Sorted.{IsStrictlySortedBy};
 ghost use Rattle.std.specs.Map.{keys_of};
 ghost use Rattle.npos_base.specs.Account.{account_cmp};
-ghost use Rattle.stake_ledger.specs.declared.refusal.LedgerRefusal.TheVariants as refusals;
-ghost use Rattle.npos_base.specs.Refusal.{IsDue};
+ghost use Rattle.stake_ledger.specs.Owed.{IsDue};
 ghost use Rattle.stake_ledger.specs.Calls.{hold_refusal};
 ghost use Rattle.stake_ledger.specs.Rows.{worth, is_bonded, gained, paid, slashed_row};
 ghost use Rattle.stake_ledger.specs.Parts.{cut_of};
@@ -170,7 +169,7 @@ impl Rows {
             ≡ with_row to (gained value) (with_row from (paid value) self.old)) }
         ensures err { OnErr result (self.new ≡ self.old) }
         ensures refused { IfErr result
-            (IsDue refusals.NoMemory (hold_refusal (row_in self.old from) value)) }
+            (IsDue (hold_refusal (row_in self.old from) value)) }
     {
         self.pay(from, value)?;
         match self.gain(NOBODY, to, value) {
