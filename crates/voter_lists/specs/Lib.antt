@@ -1,6 +1,8 @@
 pub mod Bag
 pub mod BagRows
 pub mod Bags
+pub mod Owed
+pub mod Reasons
 pub mod Ranked
 pub mod Roles
 pub mod Standings

@@ -4,7 +4,7 @@ ghost use Rattle.std.specs.Prelude.{◌≡◌, ◌≢◌, ◌≤◌, [], ◌∷�
 ghost use Rattle.std.specs.List.{IsDistinct};
 ghost use Rattle.npos_base.specs.Account.{same_account};
 ghost use Rattle.npos_base.specs.declared.limits.TheConstants.{MOST_THRESHOLDS};
-ghost use Rattle.npos_base.specs.Refusal.{Meets};
+ghost use Rattle.voter_lists.specs.Owed.{Meets};
 ghost use Rattle.voter_lists.specs.declared.refusal.ListRefusal.TheVariants as refusals;
 ghost use Rattle.voter_lists.specs.Bags.{Listing, IsRisingFrom, bag_of, is_listed, walk, account_after, inserted, removed, moved, updated, is_at_home, rebag_refusal, put_in_front, put_in_front_refusal};
 
@@ -97,7 +97,7 @@ impl Bags {
 
     /// Moves the account to the tail of the bag of this score. It takes no memory.
     pub fn rebag(&mut self, who: AccountId, score: u64) -> Result<(), ListRefusal>
-        ensures meets { Meets refusals.NoMemory (rebag_refusal self.old who score)
+        ensures meets { Meets (rebag_refusal self.old who score)
             (moved self.old who score) self.old self.new result }
         ensures never { IfErr result (λ refusal. refusal ≢ refusals.NoMemory) }
     {
@@ -119,8 +119,7 @@ impl Bags {
         lighter: AccountId,
         lighter_score: u64,
     ) -> Result<(), ListRefusal>
-        ensures meets { Meets refusals.NoMemory
-            (put_in_front_refusal self.old who score lighter lighter_score)
+        ensures meets { Meets (put_in_front_refusal self.old who score lighter lighter_score)
             (put_in_front self.old who lighter) self.old self.new result }
         ensures never { IfErr result (λ refusal. refusal ≢ refusals.NoMemory) }
     {

@@ -2,7 +2,7 @@
 ghost use Rattle.std.specs.Prelude.{◌≡◌};
 ghost use Rattle.voter_lists.specs.declared.refusal.ListRefusal.TheVariants.{NoMemory as NoMemoryRefusal};
 
-use npos_base::NoMemory;
+use npos_base::{NoMemory, Reason};
 use std::alloc::{AllocError, AllocFailed};
 
 /// Why a call of `Roles` or `Bags` was refused. A refusal changes nothing.
@@ -53,4 +53,34 @@ impl<T: Drop> From<AllocFailed<T>> for ListRefusal {
     fn from(_want: AllocFailed<T>) -> ListRefusal {
         ListRefusal::NoMemory
     }
+}
+
+impl Reason for ListRefusal {
+    ghost use Rattle.std.specs.Prelude.{refl};
+    ghost use Rattle.voter_lists.specs.Reasons.{reason_number, only_memory};
+
+    ghost number = { reason_number };
+
+    ghost memory = { NoMemoryRefusal };
+
+    fn number(self) -> Option<u32> {
+        let number = match self {
+            ListRefusal::NoTargets => 10,
+            ListRefusal::TooManyTargets => 11,
+            ListRefusal::RepeatedTarget => 12,
+            ListRefusal::NotValidator => 13,
+            ListRefusal::TooManyValidators => 14,
+            ListRefusal::BadFraction => 15,
+            ListRefusal::NotListed => 16,
+            ListRefusal::SameBag => 17,
+            ListRefusal::OtherBag => 18,
+            ListRefusal::NotHeavier => 19,
+            ListRefusal::NoMemory => return None,
+        };
+        Some(number)
+    }
+
+    ghost memory_has_none = { refl };
+
+    ghost others_have_one = { only_memory };
 }

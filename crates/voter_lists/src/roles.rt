@@ -5,8 +5,8 @@ ghost use Rattle.std.specs.List.{list_any};
 ghost use Rattle.std.specs.List.Sorted.{IsStrictlySortedBy};
 ghost use Rattle.npos_base.specs.Account.{account_cmp, same_account};
 ghost use Rattle.npos_base.specs.declared.limits.TheConstants.{MOST_VALIDATORS};
-ghost use Rattle.npos_base.specs.Refusal.{Meets, answer_of};
-ghost use Rattle.voter_lists.specs.declared.refusal.ListRefusal.TheVariants as refusals;
+ghost use Rattle.npos_base.specs.Refusal.{MeetsAlways, answer_of};
+ghost use Rattle.voter_lists.specs.Owed.{Meets};
 ghost use Rattle.voter_lists.specs.Roles.{role_of, nominated_by, validators_of, is_validator, KeepsOthers, standing_of, has_repeat, is_no_target, nominate_refusal, nominated, validate_refusal, validating, chill_refusal, without_role};
 
 use crate::ListRefusal;
@@ -50,7 +50,7 @@ impl Roles {
 
     /// The account becomes a nominator of these targets, in place of any role that it had.
     pub fn nominate(&mut self, who: AccountId, targets: List<AccountId>) -> Result<(), ListRefusal>
-        ensures meets { Meets refusals.NoMemory (nominate_refusal self.old who targets)
+        ensures meets { Meets (nominate_refusal self.old who targets)
             (nominated self.old who targets) self.old self.new result }
         ensures others { KeepsOthers self.old self.new who }
     {
@@ -64,7 +64,7 @@ impl Roles {
     /// The account becomes a validator with this commission in billionths, in place of any role
     /// that it had.
     pub fn validate(&mut self, who: AccountId, commission: u32) -> Result<(), ListRefusal>
-        ensures meets { Meets refusals.NoMemory (validate_refusal self.old who commission)
+        ensures meets { Meets (validate_refusal self.old who commission)
             (validating self.old who commission) self.old self.new result }
         ensures others { KeepsOthers self.old self.new who }
     {
@@ -82,7 +82,7 @@ impl Roles {
 
     /// The account has no role any more. It takes no memory.
     pub fn chill(&mut self, who: AccountId) -> Result<(), ListRefusal>
-        ensures meets { Meets refusals.NoMemory (chill_refusal self.old who)
+        ensures meets { MeetsAlways (chill_refusal self.old who)
             (without_role self.old who) self.old self.new result }
         ensures answer { result ≡ answer_of (chill_refusal self.old who) }
         ensures others { KeepsOthers self.old self.new who }
