@@ -4,6 +4,8 @@ pub mod Slashes
 pub mod Members
 pub mod Eras
 pub mod Calls
+pub mod Owed
+pub mod Reasons
 pub mod Events
 pub mod Laws
 pub mod Committee

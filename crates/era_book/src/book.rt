@@ -1,8 +1,8 @@
 //! The eras that are kept.
 ghost use Rattle.std.specs.Prelude.{◌≡◌, ◌≤◌, ◌<◌, ◌-◌, ◌^◌, length, map, None, is_none, IfSome, IfOk, OnOk, OnErr, IfErr};
 ghost use Rattle.std.specs.Option.{option_copied};
-ghost use Rattle.npos_base.specs.Refusal.{IsDue, Meets, answer_of};
-ghost use Rattle.era_book.specs.declared.refusal.EraRefusal.TheVariants as refusals;
+ghost use Rattle.npos_base.specs.Refusal.{MeetsAlways, answer_of};
+ghost use Rattle.era_book.specs.Owed.{IsDue};
 ghost use Rattle.era_book.specs.Exposures.{amount_sum, AreSound};
 ghost use Rattle.era_book.specs.Committee.{IsElected, edges_by_voter, exposure_of};
 ghost use Rattle.era_book.specs.Eras.{first_era, started, begun_with, member_in, era_of, is_unknown, OthersStay, EarlierStay, HasExposures, HasNoOther, AreMembers, AreKept};
@@ -80,9 +80,10 @@ impl EraBook {
     }
 
     /// The next era begins with an elected committee, its edges in whatever order: it is what
-    /// `start_era` does with the exposures that `exposures_of` gives by the edges in the order of
-    /// the voters, and takes less time and memory. Accounts, commissions in billionths and supports
-    /// stand by target, and accounts by voter, which are kept with the era.
+    /// `start_era` does with the members' exposures, and takes less time and memory. Of the edges
+    /// with an amount above 0 the validator's own stands first among its backers, then the others in
+    /// the order of the voters. Accounts, commissions in billionths and supports stand by target,
+    /// and accounts by voter, which are kept with the era.
     pub fn start_elected(
         &mut self,
         targets: &[AccountId],
@@ -143,7 +144,7 @@ impl EraBook {
     /// member stay at 2^32 - 1 where they would pass it. It takes no memory, and refuses with
     /// `NotExposed` where one of the accounts is no member.
     pub fn add_points(&mut self, items: &[(AccountId, u32)]) -> Result<(), EraRefusal>
-        ensures meets { Meets refusals.NoMemory (points_refusal self.old items.now)
+        ensures meets { MeetsAlways (points_refusal self.old items.now)
             (pointed items.now self.old) self.old self.new result }
         ensures answer { result ≡ answer_of (points_refusal self.old items.now) }
     {
@@ -166,8 +167,7 @@ impl EraBook {
     ) -> Result<Payout, EraRefusal>
         ensures ok { IfOk result (λ payout. payout ≡ payout_in self.now era validator era_reward) }
         ensures accepted { OnOk result (payout_refusal self.now era validator ≡ None) }
-        ensures refused { IfErr result
-            (IsDue refusals.NoMemory (payout_refusal self.now era validator)) }
+        ensures refused { IfErr result (IsDue (payout_refusal self.now era validator)) }
         ensures markable { OnOk result (IsUnclaimed (member_in self.now era validator)) }
         ensures total { IfOk result (λ payout. payout.total ≡ amount_sum payout.lines) }
         ensures within { IfOk result (λ payout. payout.total ≤ era_reward) }
@@ -218,8 +218,7 @@ impl EraBook {
     ) -> Result<List<Backer>, EraRefusal>
         ensures ok { IfOk result (λ lines. lines ≡ slash_in self.now era validator fraction) }
         ensures accepted { OnOk result (slash_refusal self.now era validator fraction ≡ None) }
-        ensures refused { IfErr result
-            (IsDue refusals.NoMemory (slash_refusal self.now era validator fraction)) }
+        ensures refused { IfErr result (IsDue (slash_refusal self.now era validator fraction)) }
         ensures markable { OnOk result (IsBelow fraction (member_in self.now era validator)) }
     {
         if fraction == 0 || fraction > WHOLE_FRACTION {

@@ -72,9 +72,8 @@ impl Era {
         })
     }
 
-    /// The members of an era that begins with an elected committee: who is exposed, and with what,
-    /// is as `exposures_of` tells by the edges in the order of the voters. The voters are kept as
-    /// the accounts of the backers.
+    /// The members of an era that begins with an elected committee, with their exposures by the
+    /// edges in the order of the voters. The voters are kept as the accounts of the backers.
     pub fn elected(
         alloc: Global,
         targets: &[AccountId],
@@ -156,6 +155,7 @@ impl Era {
     fn gain(&mut self, who: AccountId, points: u32)
         ensures { self.new ≡ with_points self.old (who, points) }
     {
+        // There are fewer members than 2^64, so all their points fit.
         let _count = self.members.len();
         self.points += u128::from(gain(&mut self.members, who, points));
     }

@@ -4,7 +4,6 @@
 #![tactic(auto)]
 
 mod book;
-mod committee;
 mod elected;
 mod era;
 mod exposure;
@@ -18,7 +17,6 @@ mod seat;
 mod shares;
 
 pub use book::EraBook;
-pub use committee::exposures_of;
 pub use exposure::{Backer, Exposure};
 pub use payout::Payout;
 pub use refusal::EraRefusal;

@@ -2,7 +2,7 @@
 ghost use Rattle.std.specs.Prelude.{◌≡◌};
 ghost use Rattle.era_book.specs.declared.refusal.EraRefusal.TheVariants.{NoMemory as NoMemoryRefusal};
 
-use npos_base::NoMemory;
+use npos_base::{NoMemory, Reason};
 
 /// Why a call of `EraBook` was refused. A refusal changes nothing.
 #[derive(Clone, Copy, Debug, PartialEq, Eq, Hash)]
@@ -30,4 +30,31 @@ impl From<NoMemory> for EraRefusal {
     fn from(_want: NoMemory) -> EraRefusal {
         EraRefusal::NoMemory
     }
+}
+
+impl Reason for EraRefusal {
+    ghost use Rattle.std.specs.Prelude.{refl};
+    ghost use Rattle.era_book.specs.Reasons.{reason_number, only_memory};
+
+    ghost number = { reason_number };
+
+    ghost memory = { NoMemoryRefusal };
+
+    fn number(self) -> Option<u32> {
+        let number = match self {
+            EraRefusal::BadFraction => 15,
+            EraRefusal::UnknownEra => 21,
+            EraRefusal::EraNotOver => 22,
+            EraRefusal::NotExposed => 23,
+            EraRefusal::AlreadyClaimed => 24,
+            EraRefusal::NotGreater => 25,
+            EraRefusal::NoPoints => 26,
+            EraRefusal::NoMemory => return None,
+        };
+        Some(number)
+    }
+
+    ghost memory_has_none = { refl };
+
+    ghost others_have_one = { only_memory };
 }

@@ -82,24 +82,6 @@ fn named(alloc: Global, names: &mut Names, backers: &[Backer]) -> Result<List<Sh
     Ok(shares.into_list())
 }
 
-/// The backers with their accounts.
-pub fn backers(
-    alloc: Global,
-    accounts: &[AccountId],
-    shares: &[Share],
-) -> Result<List<Backer>, NoMemory>
-    ensures { IfOk result (λ backers. backers ≡ backers_seen accounts.now shares.now) }
-{
-    let mut backers = Room::with_room(alloc, shares.len())?;
-    for share in shares {
-        backers.push_within(Backer {
-            who: account_at(accounts, share.place),
-            amount: share.amount,
-        });
-    }
-    Ok(backers.into_list())
-}
-
 /// The account at the place.
 pub fn account_at(accounts: &[AccountId], place: u32) -> AccountId
     ensures { result ≡ account_at accounts.now place }
