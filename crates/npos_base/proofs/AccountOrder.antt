@@ -9,6 +9,7 @@ use Rattle.std.proofs.lemmas.Cmp.{then_total, on_total, nat_cmp_total}
 use Rattle.std.proofs.lemmas.Map.Lookups.{exact_pairs, exact_unsigned}
 use Rattle.npos_base.specs.declared.account.AccountId.{AccountId}
 use Rattle.npos_base.specs.Account.{account_cmp, same_account}
+use Rattle.npos_base.proofs.NumberTests.{number_same, number_tie}
 
 pub account_total : IsTotalOrder account_cmp
 account_total = then_total (on_total (λ (a : AccountId). a.hi) nat_cmp_total) (on_total (λ (a : AccountId). a.lo) nat_cmp_total)
@@ -26,9 +27,6 @@ account_apart x y differ = by_order (account_cmp x y) refl where
   by_order Equal e = absurd (differ (account_exact x y e))
   by_order Greater e = refl
 
-number_tie : (a b : ℕ) → nat_eq a b ≡ true → a ≡ b
-number_tie a b e = grind (arith, nat_tests)
-
 -- the test tells accounts apart exactly
 pub same_exact : (x y : AccountId) → same_account x y ≡ true → x ≡ y
 same_exact x y e = ap₂ (λ hi lo. record { hi = hi; lo = lo }) (number_tie x.hi y.hi (both (nat_eq x.hi y.hi) (nat_eq x.lo y.lo) e).0) (number_tie x.lo y.lo (both (nat_eq x.hi y.hi) (nat_eq x.lo y.lo) e).1) where
@@ -37,7 +35,7 @@ same_exact x y e = ap₂ (λ hi lo. record { hi = hi; lo = lo }) (number_tie x.h
   both false c e = absurd (true≢false (sym e))
 
 pub same_itself : (x : AccountId) → same_account x x ≡ true
-same_itself x = let p : nat_eq x.hi x.hi ≡ true = grind (arith, nat_tests) in let q : nat_eq x.lo x.lo ≡ true = grind (arith, nat_tests) in rw (p, q) refl
+same_itself x = rw (number_same x.hi, number_same x.lo) refl
 
 -- the order answers Equal exactly where the test says so
 pub same_ordered : (x y : AccountId) → same_account x y ≡ false → is_eq (account_cmp y x) ≡ false

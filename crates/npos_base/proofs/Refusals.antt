@@ -1,5 +1,5 @@
 -- Answers that were found beforehand meet what a call owes.
-use Rattle.std.proofs.Common.{◌≡◌, refl, ap, subst, Option, Some, None, Ok, Err}
+use Rattle.std.proofs.Common.{◌≡◌, refl, ap, subst, Option, Some, None, Result, Ok, Err, OnOk}
 use Rattle.npos_base.specs.Refusal.{IsDue, answer_of, Meets}
 
 -- the refusal that stands is due
@@ -27,3 +27,8 @@ refused_meets memory due error effect old e = meets_answer memory due error effe
 pub done_meets : {S E : Type 0} (memory : E) (due : Option E) (effect old new : S)
     → due ≡ None → new ≡ effect → Meets {T = Unit {0}} memory due effect old new (Ok tt)
 done_meets memory due effect old new e f = record { ok = (e, f); refused = tt; unchanged = tt }
+
+-- what follows from a fact that holds where there is a value
+pub then_ok : {T E P Q : Type 0} (result : Result T E) → (P → Q) → OnOk result P → OnOk result Q
+then_ok (Ok value) follows holds = follows holds
+then_ok (Err error) follows holds = tt

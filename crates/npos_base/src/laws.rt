@@ -1,4 +1,5 @@
-//! What holds of accounts and scores. Each law is the contract of a function that does nothing.
+//! What holds of accounts and scores. Each law is the contract of a function that does nothing: it
+//! reads its numbers once, since the range of one behind a reference is known where it is read.
 ghost use Rattle.std.specs.Prelude.{◌≡◌, ◌↔◌, IsTrue, true, false};
 ghost use Rattle.std.specs.Ordering.{nat_cmp, is_eq};
 ghost use Rattle.std.specs.Cmp.Lexicographic.{slice_cmp};
