@@ -1,22 +1,16 @@
 -- Why a call stops, where the books, the lists or the eras stop it.
-use Rattle.stake_ledger.specs.declared.refusal.LedgerRefusal.{LedgerRefusal}
-use Rattle.stake_ledger.specs.declared.refusal.LedgerRefusal.TheVariants as reasons
+use Rattle.std.specs.Prelude.{ℕ, Option, Some, None}
 use Rattle.voter_lists.specs.declared.refusal.ListRefusal.{ListRefusal}
-use Rattle.voter_lists.specs.declared.refusal.ListRefusal.TheVariants as lists
-use Rattle.era_book.specs.declared.refusal.EraRefusal.{EraRefusal}
-use Rattle.era_book.specs.declared.refusal.EraRefusal.TheVariants as eras
-use Rattle.block_receipts.specs.declared.refusal.Refusal.TheVariants.{Ledger, List, Era}
+use Rattle.voter_lists.specs.Reasons.{reason_number}
+use Rattle.block_receipts.specs.declared.refusal.Refusal.{Refusal}
+use Rattle.block_receipts.specs.declared.refusal.Refusal.TheVariants.{List}
 use Rattle.block_receipts.specs.declared.stop.Stop.{Stop}
 use Rattle.block_receipts.specs.declared.stop.Stop.TheVariants as stops
 
-abbrev pub ledger_stop : LedgerRefusal → Stop
-ledger_stop reasons.NoMemory = stops.NoMemory
-ledger_stop refusal = stops.Refused (Ledger refusal)
+-- an error of a room below is a refusal where it has a number, and else want of memory
+abbrev pub stop_of : Option ℕ → Refusal → Stop
+stop_of (Some number) refusal = stops.Refused refusal
+stop_of None refusal = stops.NoMemory
 
 abbrev pub list_stop : ListRefusal → Stop
-list_stop lists.NoMemory = stops.NoMemory
-list_stop refusal = stops.Refused (List refusal)
-
-abbrev pub era_stop : EraRefusal → Stop
-era_stop eras.NoMemory = stops.NoMemory
-era_stop refusal = stops.Refused (Era refusal)
+list_stop refusal = stop_of (reason_number refusal) (List refusal)

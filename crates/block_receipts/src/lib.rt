@@ -8,4 +8,4 @@ mod stop;
 
 pub use line::Line;
 pub use refusal::Refusal;
-pub use stop::Stop;
+pub use stop::{Stop, Stops};

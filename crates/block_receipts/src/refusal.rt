@@ -1,8 +1,9 @@
 //! Why a call of a block is refused.
-ghost use Rattle.std.specs.Prelude.{◌≡◌};
-ghost use Rattle.block_receipts.specs.Refusals.{code_of, era_code, ledger_code, list_code};
+ghost use Rattle.std.specs.Prelude.{◌≡◌, unwrap_or};
+ghost use Rattle.block_receipts.specs.Refusals.{code_of};
 
 use era_book::EraRefusal;
+use npos_base::Reason;
 use stake_ledger::LedgerRefusal;
 use voter_lists::ListRefusal;
 
@@ -33,9 +34,9 @@ impl Refusal {
         ensures { result ≡ code_of self }
     {
         match self {
-            Refusal::Ledger(refusal) => ledger_code(refusal),
-            Refusal::List(refusal) => list_code(refusal),
-            Refusal::Era(refusal) => era_code(refusal),
+            Refusal::Ledger(refusal) => code(refusal),
+            Refusal::List(refusal) => code(refusal),
+            Refusal::Era(refusal) => code(refusal),
             Refusal::NotBetter => 20,
             Refusal::NotRoot => 27,
             Refusal::WrongPhase => 28,
@@ -45,55 +46,9 @@ impl Refusal {
     }
 }
 
-/// The number of a reason of the books. Want of memory is none, and has the number 0.
-fn ledger_code(refusal: LedgerRefusal) -> u32
-    ensures { result ≡ ledger_code refusal }
+/// The number of a reason of a room below. Want of memory is none, and would be told as 0.
+fn code<R: Reason>(reason: R) -> u32
+    ensures { result ≡ unwrap_or (R.number reason) 0 }
 {
-    match refusal {
-        LedgerRefusal::LowFunds => 1,
-        LedgerRefusal::NotBonded => 2,
-        LedgerRefusal::AlreadyBonded => 3,
-        LedgerRefusal::BelowMinimum => 4,
-        LedgerRefusal::NoMoreChunks => 5,
-        LedgerRefusal::NoChunk => 6,
-        LedgerRefusal::ZeroValue => 7,
-        LedgerRefusal::SameAccount => 8,
-        LedgerRefusal::IssuanceCap => 9,
-        LedgerRefusal::NoMemory => 0,
-    }
-}
-
-/// The number of a reason of the lists. Want of memory is none, and has the number 0.
-fn list_code(refusal: ListRefusal) -> u32
-    ensures { result ≡ list_code refusal }
-{
-    match refusal {
-        ListRefusal::NoTargets => 10,
-        ListRefusal::TooManyTargets => 11,
-        ListRefusal::RepeatedTarget => 12,
-        ListRefusal::NotValidator => 13,
-        ListRefusal::TooManyValidators => 14,
-        ListRefusal::BadFraction => 15,
-        ListRefusal::NotListed => 16,
-        ListRefusal::SameBag => 17,
-        ListRefusal::OtherBag => 18,
-        ListRefusal::NotHeavier => 19,
-        ListRefusal::NoMemory => 0,
-    }
-}
-
-/// The number of a reason of the eras. Want of memory is none, and has the number 0.
-fn era_code(refusal: EraRefusal) -> u32
-    ensures { result ≡ era_code refusal }
-{
-    match refusal {
-        EraRefusal::BadFraction => 15,
-        EraRefusal::UnknownEra => 21,
-        EraRefusal::EraNotOver => 22,
-        EraRefusal::NotExposed => 23,
-        EraRefusal::AlreadyClaimed => 24,
-        EraRefusal::NotGreater => 25,
-        EraRefusal::NoPoints => 26,
-        EraRefusal::NoMemory => 0,
-    }
+    reason.number().unwrap_or(0)
 }

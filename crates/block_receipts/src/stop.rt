@@ -4,7 +4,7 @@ ghost use Rattle.block_receipts.specs.declared.stop.Stop.TheVariants.{NoMemory a
 
 use crate::Refusal;
 use era_book::EraRefusal;
-use npos_base::NoMemory;
+use npos_base::{NoMemory, Reason};
 use stake_ledger::LedgerRefusal;
 use voter_lists::ListRefusal;
 
@@ -15,41 +15,57 @@ pub enum Stop {
     NoMemory,
 }
 
-impl From<LedgerRefusal> for Stop {
-    ghost use Rattle.block_receipts.specs.Stops.{ledger_stop};
+/// An error of a room below with which a call of a block stops.
+pub trait Stops: Reason {
+    ghost use Rattle.block_receipts.specs.declared.refusal.Refusal.{Refusal};
 
-    ghost from_gives = { λ refusal stop. stop ≡ ledger_stop refusal };
+    /// The refusal that the error is, unless it is want of memory.
+    ghost refusal: { Self → Refusal };
 
-    fn from(refusal: LedgerRefusal) -> Stop {
-        match refusal {
-            LedgerRefusal::NoMemory => Stop::NoMemory,
-            refusal => Stop::Refused(Refusal::Ledger(refusal)),
-        }
+    /// The error as a refusal of a call.
+    fn refusal(self) -> Refusal
+        ensures { result ≡ refusal self };
+}
+
+impl Stops for LedgerRefusal {
+    ghost use Rattle.block_receipts.specs.declared.refusal.Refusal.TheVariants.{Ledger};
+
+    ghost refusal = { λ error. Ledger error };
+
+    fn refusal(self) -> Refusal {
+        Refusal::Ledger(self)
     }
 }
 
-impl From<ListRefusal> for Stop {
-    ghost use Rattle.block_receipts.specs.Stops.{list_stop};
+impl Stops for ListRefusal {
+    ghost use Rattle.block_receipts.specs.declared.refusal.Refusal.TheVariants.{List};
 
-    ghost from_gives = { λ refusal stop. stop ≡ list_stop refusal };
+    ghost refusal = { λ error. List error };
 
-    fn from(refusal: ListRefusal) -> Stop {
-        match refusal {
-            ListRefusal::NoMemory => Stop::NoMemory,
-            refusal => Stop::Refused(Refusal::List(refusal)),
-        }
+    fn refusal(self) -> Refusal {
+        Refusal::List(self)
     }
 }
 
-impl From<EraRefusal> for Stop {
-    ghost use Rattle.block_receipts.specs.Stops.{era_stop};
+impl Stops for EraRefusal {
+    ghost use Rattle.block_receipts.specs.declared.refusal.Refusal.TheVariants.{Era};
 
-    ghost from_gives = { λ refusal stop. stop ≡ era_stop refusal };
+    ghost refusal = { λ error. Era error };
 
-    fn from(refusal: EraRefusal) -> Stop {
-        match refusal {
-            EraRefusal::NoMemory => Stop::NoMemory,
-            refusal => Stop::Refused(Refusal::Era(refusal)),
+    fn refusal(self) -> Refusal {
+        Refusal::Era(self)
+    }
+}
+
+impl<E: Stops> From<E> for Stop {
+    ghost use Rattle.block_receipts.specs.Stops.{stop_of};
+
+    ghost from_gives = { λ error stop. stop ≡ stop_of (E.number error) (E.refusal error) };
+
+    fn from(error: E) -> Stop {
+        match error.number() {
+            Some(_) => Stop::Refused(error.refusal()),
+            None => Stop::NoMemory,
         }
     }
 }
