@@ -7,7 +7,7 @@ use Rattle.npos_base.specs.declared.account.AccountId.{AccountId}
 use Rattle.npos_base.specs.Account.{account_cmp}
 use Rattle.npos_base.proofs.AccountOrder.{account_total, account_apart}
 use Rattle.npos_base.proofs.EntryLemmas.{lookup_put, lookup_other}
-use Rattle.account_places.specs.Index.{slot_in, mark_at, AreTaken, IsFree, IsMarked, IsFound, Finds, IsApart}
+use Rattle.account_places.specs.Index.{slot_in, mark_at, AreTaken, IsFree, IsMarked, IsFound, Finds, StandOnce}
 use Rattle.account_places.proofs.StandLemmas.{slice_left, slice_cases, put_cases}
 
 -- slots that were looked at: none is free, and none has the mark of a place where the account stands
@@ -61,7 +61,7 @@ module _ (slots : List ℕ) (count : ℕ) (crowd : List (AccountId × ℕ)) (acc
     }
 
   -- or joins the crowd
-  pub finds_crowd : IsApart accounts → AreTaken slots (slot_in count who) (slot_in count who + 4) → Finds slots count (insert_entry account_cmp crowd who place) accounts (place + 1)
+  pub finds_crowd : StandOnce accounts → AreTaken slots (slot_in count who) (slot_in count who + 4) → Finds slots count (insert_entry account_cmp crowd who place) accounts (place + 1)
   finds_crowd alone taken = record {
     found = λ q p lt at. elim (cases_eq p place) [
       | inl same ↦

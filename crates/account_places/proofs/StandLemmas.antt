@@ -17,7 +17,7 @@ use Rattle.npos_base.specs.Account.{account_cmp}
 use Rattle.npos_base.proofs.AccountOrder.{account_total, account_exact, account_apart}
 use Rattle.npos_base.proofs.EntryLemmas.{sorted_put, lookup_put, lookup_other}
 use Rattle.account_places.specs.Places.{place_in, join_from, by_account, Stand}
-use Rattle.account_places.specs.Index.{IsApart}
+use Rattle.account_places.specs.Index.{StandOnce}
 
 -- a test that answers yes knows the account
 pub tied : (who other : AccountId) → is_eq (account_cmp who other) ≡ true → who ≡ other
@@ -119,7 +119,7 @@ pub stand_more : (accounts : List AccountId) (who : AccountId) → Stand account
 stand_more accounts who stand nowhere = rw (by_account_more accounts who) (stand_put accounts (by_account accounts) who stand nowhere)
 
 -- accounts that each have a place of their own are apart
-pub stand_apart : (accounts : List AccountId) (places : List (AccountId × ℕ)) → Stand accounts places → IsApart accounts
+pub stand_apart : (accounts : List AccountId) (places : List (AccountId × ℕ)) → Stand accounts places → StandOnce accounts
 stand_apart accounts places stand who one other here there = same_Some one other (sym (stand.placed who one here) ∙ stand.placed who other there)
 
 -- the place of an account is where it is found, and who is not found has none

@@ -49,6 +49,6 @@ pub record Finds (slots : List ℕ) (count : ℕ) (crowd : List (AccountId × �
       → slice_get accounts place ≡ Some who
 
 -- no account stands twice
-abbrev pub IsApart : List AccountId → Type 0
-IsApart accounts = (who : AccountId) (one other : ℕ) → slice_get accounts one ≡ Some who
+abbrev pub StandOnce : List AccountId → Type 0
+StandOnce accounts = (who : AccountId) (one other : ℕ) → slice_get accounts one ≡ Some who
     → slice_get accounts other ≡ Some who → one ≡ other

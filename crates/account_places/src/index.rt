@@ -2,7 +2,7 @@
 //! the slots.
 ghost use Rattle.std.specs.Prelude.{◌≡◌, ◌≢◌, ◌+◌, ◌^◌, ◌<◌, ℕ, List, length, true, Some, IfOk, IfSome, IfNone, OnOk, OnErr, slice_get};
 ghost use Rattle.npos_base.specs.declared.account.AccountId.{AccountId};
-ghost use Rattle.account_places.specs.Index.{mixed, slot_in, mark_at, IsFree, AreTaken, Finds, IsApart};
+ghost use Rattle.account_places.specs.Index.{mixed, slot_in, mark_at, IsFree, AreTaken, Finds, StandOnce};
 
 use npos_base::{AccountId, NoMemory};
 use std::alloc::Global;
@@ -88,7 +88,7 @@ impl Index {
 
     /// An index of these accounts, in so many slots.
     pub(crate) fn of(alloc: Global, accounts: &[AccountId], count: usize) -> Result<Index, NoMemory>
-        requires { IsApart accounts.now }
+        requires { StandOnce accounts.now }
         ensures { IfOk result (λ index. Finds index.slots.items index.count index.crowd.entries
             accounts.now (length accounts.now)) }
     {
@@ -128,7 +128,7 @@ impl Index {
 
     /// Notes the account that comes to the next place.
     pub(crate) fn note(&mut self, who: AccountId, place: usize) -> Result<(), NoMemory>
-        ensures ok { OnOk result ((accounts : List AccountId) → IsApart accounts
+        ensures ok { OnOk result ((accounts : List AccountId) → StandOnce accounts
             → slice_get accounts place ≡ Some who
             → Finds self.old.slots.items self.old.count self.old.crowd.entries accounts place
             → Finds self.new.slots.items self.new.count self.new.crowd.entries accounts

@@ -3,7 +3,7 @@ ghost use Rattle.std.specs.Prelude.{◌≡◌, ◌<◌, [], ◌∷◌, ◌++◌,
 ghost use Rattle.std.specs.BTreeMap.{insert_entry};
 ghost use Rattle.npos_base.specs.Account.{account_cmp};
 ghost use Rattle.account_places.specs.Places.{place_in, by_account, Stand};
-ghost use Rattle.account_places.specs.Index.{Finds, IsApart};
+ghost use Rattle.account_places.specs.Index.{Finds, StandOnce};
 
 use crate::index::{Index, stands_at};
 use npos_base::{AccountId, NoMemory};
@@ -104,7 +104,7 @@ impl Places {
 /// Notes all accounts anew in more slots, where the slots are few. They stay as they are where
 /// there is no memory for more: then more accounts are searched.
 fn widen(alloc: Global, index: &mut Index, accounts: &[AccountId])
-    requires apart { IsApart accounts.now }
+    requires apart { StandOnce accounts.now }
     requires whole { Finds index.old.slots.items index.old.count index.old.crowd.entries
         accounts.now (length accounts.now) }
     ensures { Finds index.new.slots.items index.new.count index.new.crowd.entries

@@ -1,5 +1,5 @@
 -- Proofs: calls and blocks keep the laws of a form.
-use Rattle.std.specs.Prelude.{◌≡◌, refl}
+use Rattle.std.specs.Prelude.{◌≡◌, length, refl}
 use Rattle.std.proofs.Common.{lit<}
 use Rattle.scale_wire.specs.Form.{IsWire}
 use Rattle.scale_wire.specs.Parts.{account_form, compact_u32, compact_u64}
@@ -13,7 +13,7 @@ use Rattle.scale_wire.specs.FormLaws.{nothing_laws, pair_laws, triple_laws, seen
 use Rattle.npos_base.specs.declared.limits.TheConstants.{MOST_SOLUTION_BYTES}
 use Rattle.block_wire.specs.declared.limits.TheConstants.{MOST_CALLS, MOST_NAMED, MOST_POINTS}
 use Rattle.block_wire.specs.declared.call.CallKind.{CallKind}
-use Rattle.block_wire.specs.declared.call.CallKind.TheVariants.{Transfer, Bond, BondExtra, Unbond, Rebond, Withdraw, Nominate, Validate, Chill, Rebag, PutInFront, Submit, Points, Payout, Offence}
+use Rattle.block_wire.specs.declared.call.CallKind.TheVariants as calls
 use Rattle.block_wire.specs.Calls.{kinds, kind_choice, kind_form, call_form, block_form}
 
 -- ## The kinds of calls
@@ -33,49 +33,49 @@ solution_laws = byte_list_laws MOST_SOLUTION_BYTES (length_laws MOST_SOLUTION_BY
 abbrev kinds_are : AreVariants kinds (HasChoice kinds kind_choice)
 kinds_are = (
   pair_laws account_form compact_u64 account_laws compact_u64_laws,
-  (λ values. (Transfer values.0 values.1, refl)),
+  (λ values. (calls.Transfer values.0 values.1, refl)),
   (
     compact_u64_laws,
-    (λ values. (Bond values, refl)),
+    (λ values. (calls.Bond values, refl)),
     (
       compact_u64_laws,
-      (λ values. (BondExtra values, refl)),
+      (λ values. (calls.BondExtra values, refl)),
       (
         compact_u64_laws,
-        (λ values. (Unbond values, refl)),
+        (λ values. (calls.Unbond values, refl)),
         (
           compact_u64_laws,
-          (λ values. (Rebond values, refl)),
+          (λ values. (calls.Rebond values, refl)),
           (
             nothing_laws,
-            (λ values. (Withdraw, refl)),
+            (λ values. (calls.Withdraw, refl)),
             (
               named_laws,
-              (λ values. (Nominate values, refl)),
+              (λ values. (calls.Nominate values, refl)),
               (
                 compact_u32_laws,
-                (λ values. (Validate values, refl)),
+                (λ values. (calls.Validate values, refl)),
                 (
                   nothing_laws,
-                  (λ values. (Chill, refl)),
+                  (λ values. (calls.Chill, refl)),
                   (
                     account_laws,
-                    (λ values. (Rebag values, refl)),
+                    (λ values. (calls.Rebag values, refl)),
                     (
                       account_laws,
-                      (λ values. (PutInFront values, refl)),
+                      (λ values. (calls.PutInFront values, refl)),
                       (
                         triple_laws compact_u32 score_form (byte_list MOST_SOLUTION_BYTES) compact_u32_laws score_laws solution_laws,
-                        (λ values. (Submit values.0 values.1 values.2, refl)),
+                        (λ values. (calls.Submit values.0 values.1 values.2, refl)),
                         (
                           points_laws,
-                          (λ values. (Points values, refl)),
+                          (λ values. (calls.Points values, refl)),
                           (
                             pair_laws compact_u32 account_form compact_u32_laws account_laws,
-                            (λ values. (Payout values.0 values.1, refl)),
+                            (λ values. (calls.Payout values.0 values.1, refl)),
                             (
                               triple_laws compact_u32 account_form compact_u32 compact_u32_laws account_laws compact_u32_laws,
-                              (λ values. (Offence values.0 values.1 values.2, refl)),
+                              (λ values. (calls.Offence values.0 values.1 values.2, refl)),
                               tt,
                             ),
                           ),
@@ -95,24 +95,11 @@ kinds_are = (
 
 -- no other kind has that tag and these fields
 kind_back : (kind : CallKind) → (given_at kinds (HasChoice kinds kind_choice) kinds_are (kind_choice kind).tag (kind_choice kind).values).0 ≡ kind
-kind_back (Transfer to value) = refl
-kind_back (Bond value) = refl
-kind_back (BondExtra value) = refl
-kind_back (Unbond value) = refl
-kind_back (Rebond value) = refl
-kind_back Withdraw = refl
-kind_back (Nominate targets) = refl
-kind_back (Validate commission) = refl
-kind_back Chill = refl
-kind_back (Rebag whom) = refl
-kind_back (PutInFront lighter) = refl
-kind_back (Submit round claim bytes) = refl
-kind_back (Points items) = refl
-kind_back (Payout era validator) = refl
-kind_back (Offence era validator fraction) = refl
+kind_back (calls.Transfer to value) = refl
+kind_back kind = refl
 
 pub kind_laws : IsWire kind_form
-kind_laws = enum_laws kinds kind_choice kinds_are kind_back (tag_laws 15)
+kind_laws = enum_laws kinds kind_choice kinds_are kind_back (tag_laws (length kinds))
 
 -- ## Calls and blocks
 

@@ -9,7 +9,7 @@ use Rattle.block_wire.specs.declared.limits.TheConstants.{MOST_CALLS, MOST_NAMED
 use Rattle.block_wire.specs.declared.block.Block.{Block}
 use Rattle.block_wire.specs.declared.call.Call.{Call}
 use Rattle.block_wire.specs.declared.call.CallKind.{CallKind}
-use Rattle.block_wire.specs.declared.call.CallKind.TheVariants.{Transfer, Bond, BondExtra, Unbond, Rebond, Withdraw, Nominate, Validate, Chill, Rebag, PutInFront, Submit, Points, Payout, Offence}
+use Rattle.block_wire.specs.declared.call.CallKind.TheVariants as calls
 
 -- ## The kinds of calls
 
@@ -35,21 +35,21 @@ kinds =
 
 -- the tag and the fields of a kind
 abbrev pub kind_choice : CallKind → Choice kinds
-kind_choice (Transfer to value) = record { tag = 0; values = (to, value) }
-kind_choice (Bond value) = record { tag = 1; values = value }
-kind_choice (BondExtra value) = record { tag = 2; values = value }
-kind_choice (Unbond value) = record { tag = 3; values = value }
-kind_choice (Rebond value) = record { tag = 4; values = value }
-kind_choice Withdraw = record { tag = 5; values = tt }
-kind_choice (Nominate targets) = record { tag = 6; values = targets }
-kind_choice (Validate commission) = record { tag = 7; values = commission }
-kind_choice Chill = record { tag = 8; values = tt }
-kind_choice (Rebag whom) = record { tag = 9; values = whom }
-kind_choice (PutInFront lighter) = record { tag = 10; values = lighter }
-kind_choice (Submit round claim bytes) = record { tag = 11; values = (round, claim, bytes) }
-kind_choice (Points items) = record { tag = 12; values = items }
-kind_choice (Payout era validator) = record { tag = 13; values = (era, validator) }
-kind_choice (Offence era validator fraction) =
+kind_choice (calls.Transfer to value) = record { tag = 0; values = (to, value) }
+kind_choice (calls.Bond value) = record { tag = 1; values = value }
+kind_choice (calls.BondExtra value) = record { tag = 2; values = value }
+kind_choice (calls.Unbond value) = record { tag = 3; values = value }
+kind_choice (calls.Rebond value) = record { tag = 4; values = value }
+kind_choice calls.Withdraw = record { tag = 5; values = tt }
+kind_choice (calls.Nominate targets) = record { tag = 6; values = targets }
+kind_choice (calls.Validate commission) = record { tag = 7; values = commission }
+kind_choice calls.Chill = record { tag = 8; values = tt }
+kind_choice (calls.Rebag whom) = record { tag = 9; values = whom }
+kind_choice (calls.PutInFront lighter) = record { tag = 10; values = lighter }
+kind_choice (calls.Submit round claim bytes) = record { tag = 11; values = (round, claim, bytes) }
+kind_choice (calls.Points items) = record { tag = 12; values = items }
+kind_choice (calls.Payout era validator) = record { tag = 13; values = (era, validator) }
+kind_choice (calls.Offence era validator fraction) =
     record { tag = 14; values = (era, validator, fraction) }
 
 abbrev pub kind_form : Form CallKind

@@ -3,8 +3,9 @@ ghost use Rattle.std.specs.Prelude.{◌<◌};
 ghost use Rattle.scale_wire.specs.Reading.{Reads, Writes};
 ghost use Rattle.scale_wire.specs.Composite.{behind_tag};
 ghost use Rattle.block_wire.specs.Calls.{kinds, kind_choice, kind_form};
+ghost use Rattle.block_wire.specs.declared.limits.TheConstants.{KINDS};
 
-use crate::limits::{MOST_NAMED, MOST_POINTS, MOST_SOLUTION_BYTES};
+use crate::limits::{KINDS, MOST_NAMED, MOST_POINTS, MOST_SOLUTION_BYTES};
 use crate::writing::{write_fields, write_listed, write_packed};
 use npos_base::{AccountId, List, NoMemory, Score};
 use scale_wire::fault::ReadFault;
@@ -122,7 +123,7 @@ impl Wire for CallKind {
 
     fn read(alloc: Global, cursor: &mut Cursor<'_>) -> Result<CallKind, ReadFault> {
         let mut here = cursor.fork();
-        let tag = here.take_tag(15)?;
+        let tag = here.take_tag(KINDS)?;
         let kind = read_fields(alloc, tag, &mut here)?;
         *cursor = here;
         Ok(kind)
@@ -164,7 +165,7 @@ fn write_kind(kind: &CallKind, pen: &mut Pen) -> Result<(), NoMemory>
 // The fields of the kind with this number. Each kind has a function of its own, since a function
 // clears the room of all its values where it begins.
 fn read_fields(alloc: Global, tag: u8, cursor: &mut Cursor<'_>) -> Result<CallKind, ReadFault>
-    requires { tag < 15 }
+    requires { tag < KINDS }
     ensures { Reads (behind_tag kinds kind_choice tag) cursor.old result cursor.new }
 {
     match tag {

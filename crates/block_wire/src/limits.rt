@@ -2,6 +2,9 @@
 //! keep too.
 pub(crate) use npos_base::{MOST_ENDOWMENTS, MOST_SOLUTION_BYTES, MOST_THRESHOLDS};
 
+/// Kinds of call.
+pub(crate) const KINDS: u8 = 15;
+
 /// Calls of a block.
 pub(crate) const MOST_CALLS: u32 = 64;
 

@@ -74,7 +74,7 @@ fn many_bytes(bytes: &[u8], most: usize) -> Result<u64, Why>
     if bytes.len() < 1 + count {
         return Err(Why::Short);
     }
-    let number = number_of(&bytes[1..1 + count]);
+    let number = number_from(&bytes[1..1 + count]);
     if number < 1 << 30 {
         return Err(Why::NotShortest);
     }
@@ -86,7 +86,7 @@ fn many_bytes(bytes: &[u8], most: usize) -> Result<u64, Why>
 }
 
 // The number that up to eight bytes are, the least significant first.
-fn number_of(bytes: &[u8]) -> u64
+fn number_from(bytes: &[u8]) -> u64
     requires { length bytes.now ≤ 8 }
     ensures { result ≡ number_from bytes.now }
 {

@@ -1,7 +1,7 @@
 use Rattle.std.proofs.Common.{◌≡◌, List, [], ◌∷◌, ◌++◌, ℕ, length, drop, ap, ◌∙◌}
 use Rattle.std.specs.Int.{w64, from_le_bytes}
 use Rattle.scale_wire.proofs.Modes.{wide_number}
-use Rattle.scale_wire.proofs.compact.number_of.Goals as goal
+use Rattle.scale_wire.proofs.compact.number_from.Goals as goal
 
 pub returns : goal.returns
 returns c =
