@@ -9,7 +9,8 @@ use Rattle.npos_base.specs.declared.figures.Edge.{Edge}
 use Rattle.npos_base.specs.Account.{same_account}
 use Rattle.npos_base.proofs.AccountOrder.{same_exact, same_itself}
 use Rattle.era_book.specs.declared.exposure.Backer.{Backer}
-use Rattle.era_book.specs.Committee.{account_at, gives_to, backer_of, is_of, backers_among, same_pair, BackersLaw}
+use Rattle.npos_base.specs.Edge.{same_pair}
+use Rattle.era_book.specs.Committee.{account_at, gives_to, backer_of, is_of, backers_among, BackersLaw}
 
 unlike : (x y : AccountId) → same_account x y ≡ false → same_account y x ≡ false
 unlike x y e = at (same_account y x) refl where

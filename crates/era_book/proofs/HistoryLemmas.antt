@@ -7,6 +7,7 @@ use Rattle.std.proofs.lemmas.List.{get_or-take, get_or-set_same, get_or-set_othe
 use Rattle.std.proofs.lemmas.List.Elements.{All-nil, All-set}
 use Rattle.npos_base.specs.declared.account.AccountId.{AccountId}
 use Rattle.npos_base.specs.declared.limits.TheConstants.{MOST_PAST_ERAS, WHOLE_FRACTION}
+use Rattle.npos_base.proofs.NumberTests.{number_tie, other_number}
 use Rattle.era_book.specs.declared.exposure.Exposure.{Exposure}
 use Rattle.era_book.specs.declared.refusal.EraRefusal.TheVariants.{BadFraction, UnknownEra, EraNotOver, AlreadyClaimed, NoPoints, NotGreater}
 use Rattle.era_book.specs.Exposures.{IsSound}
@@ -16,12 +17,6 @@ use Rattle.era_book.specs.Calls.{payout_refusal, claim_refusal, claiming, slash_
 use Rattle.era_book.specs.Events.{Event, Started, Pointed, Paid, Reported, IsAccepted, after}
 use Rattle.era_book.proofs.MemberLemmas.{all_changed, all_with}
 use Rattle.era_book.proofs.EraLemmas.{sound_changed, sound_pointed, kept_started, known_within, all_at}
-
-pub same_number : (a b : ℕ) → nat_eq a b ≡ true → a ≡ b
-same_number a b e = grind (arith, nat_tests)
-
-pub other_number : (a b : ℕ) → nat_eq a b ≡ false → a ≢ b
-other_number a b e = λ same. grind (arith, nat_tests, same)
 
 -- ---- which eras are known
 pub known_numbers : (eras : Eras) (era : ℕ) → is_unknown eras era ≡ false → (era ≤ eras.current) × (eras.current ≤ era + MOST_PAST_ERAS)
@@ -66,7 +61,7 @@ members_set eras other era members kept known = at (nat_eq other era) refl where
 
   at : (b : Bool) → nat_eq other era ≡ b → members_in after era ≡ cond b members (members_in eras era)
   at true e =
-      let same : other ≡ era = same_number other era e in
+      let same : other ≡ era = number_tie other era e in
       ap (λ n. members_in after n) (sym same)
       ∙ place_known after other known
       ∙ get_or-set_same eras.kept (eras.current - other) members [] within.1
@@ -198,7 +193,7 @@ fine_after era (Started exposures) eras ok kept fine = at (nat_lt eras.current e
 
   later : (b : Bool) → nat_eq era (eras.current + 1) ≡ b → eras.current < era → All P (values_of (members_in (started exposures eras) era))
   later true e before =
-      let same : era ≡ eras.current + 1 = same_number era (eras.current + 1) e in
+      let same : era ≡ eras.current + 1 = number_tie era (eras.current + 1) e in
       subst (λ (members : Members). All P (values_of members)) (sym (ap (λ n. members_in (started exposures eras) n) same ∙ members_enter eras exposures))
       (all_with P [] exposures (λ k d within. record { fraction = omega arith; unclaimed = λ _. refl }) (All-nil P))
   later false e before = none (none_before (started exposures eras) era (past (other_number era (eras.current + 1) e) before)) where
@@ -223,7 +218,7 @@ fine_after era (Pointed items) eras ok kept fine =
     (sym (members_set eras eras.current era (fold with_points (members_in eras eras.current) items) kept (current_known eras)))
     (either era eras.current (nat_eq eras.current era) (fold with_points (members_in eras eras.current) items) (members_in eras era)
     (λ e. all_pointed (IsFine era eras.current) (λ member points p. record { fraction = p.fraction; unclaimed = p.unclaimed }) (members_in eras eras.current) items
-    (subst (λ n. All (IsFine era eras.current) (values_of (members_in eras n))) (sym (same_number eras.current era e)) fine))
+    (subst (λ n. All (IsFine era eras.current) (values_of (members_in eras n))) (sym (number_tie eras.current era e)) fine))
     fine)
 fine_after era (Paid other who) eras ok kept fine =
     let facts = paid_facts eras other who ok in
@@ -231,8 +226,8 @@ fine_after era (Paid other who) eras ok kept fine =
     (sym (members_set eras other era (with_member who claiming (members_in eras other)) kept facts.0))
     (either era eras.current (nat_eq other era) (with_member who claiming (members_in eras other)) (members_in eras era)
     (λ e. all_changed (IsFine era eras.current) who claiming
-    (λ member p. record { fraction = p.fraction; unclaimed = λ more. absurd (facts.1 (over (same_number other era e) more (known_numbers eras other facts.0).0)) }) (members_in eras other)
-    (subst (λ n. All (IsFine era eras.current) (values_of (members_in eras n))) (sym (same_number other era e)) fine))
+    (λ member p. record { fraction = p.fraction; unclaimed = λ more. absurd (facts.1 (over (number_tie other era e) more (known_numbers eras other facts.0).0)) }) (members_in eras other)
+    (subst (λ n. All (IsFine era eras.current) (values_of (members_in eras n))) (sym (number_tie other era e)) fine))
     fine) where
       over : other ≡ era → eras.current ≤ era → other ≤ eras.current → other ≡ eras.current
       over same more begun = omega arith
@@ -242,5 +237,5 @@ fine_after era (Reported other who fraction) eras ok kept fine =
     (sym (members_set eras other era (with_member who (keeping fraction) (members_in eras other)) kept facts.1))
     (either era eras.current (nat_eq other era) (with_member who (keeping fraction) (members_in eras other)) (members_in eras era)
     (λ e. all_changed (IsFine era eras.current) who (keeping fraction) (λ member p. record { fraction = facts.0; unclaimed = p.unclaimed }) (members_in eras other)
-    (subst (λ n. All (IsFine era eras.current) (values_of (members_in eras n))) (sym (same_number other era e)) fine))
+    (subst (λ n. All (IsFine era eras.current) (values_of (members_in eras n))) (sym (number_tie other era e)) fine))
     fine)

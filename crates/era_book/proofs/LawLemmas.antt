@@ -20,7 +20,8 @@ use Rattle.era_book.specs.Laws.{RewardLaw, DueLaw}
 use Rattle.era_book.proofs.PartLemmas.{part_whole, part_within, parts_within, due_after}
 use Rattle.era_book.proofs.LineLemmas.{kept_sum, payout_within}
 use Rattle.era_book.proofs.MemberLemmas.{sum_changed, sum_stays, sum_with, nothing_with, all_with}
-use Rattle.era_book.proofs.HistoryLemmas.{same_number, other_number, none_before, members_set, members_stay, members_enter, paid_facts, reported_facts, current_known, members_sound, kept_after, IsFine, AreFine, fine_after, all_pointed}
+use Rattle.npos_base.proofs.NumberTests.{number_tie, other_number}
+use Rattle.era_book.proofs.HistoryLemmas.{none_before, members_set, members_stay, members_enter, paid_facts, reported_facts, current_known, members_sound, kept_after, IsFine, AreFine, fine_after, all_pointed}
 
 -- ---- sums over members
 sum_under : (P : Member → Type 0) (f g : Member → ℕ) → ((member : Member) → P member → f member ≤ g member) → (members : List Member) → All P members
@@ -70,7 +71,7 @@ started_step : (f : Members → ℕ) → f [] ≡ 0 → ((exposures : List Expos
 started_step f none new era eras exposures late = at (nat_lt eras.current era) refl where
   enter : (b : Bool) → nat_eq era (eras.current + 1) ≡ b → eras.current < era → f (members_in (started exposures eras) era) ≡ 0
   enter true e before =
-      ap (λ n. f (members_in (started exposures eras) n)) (same_number era (eras.current + 1) e) ∙ ap f (members_enter eras exposures) ∙ new exposures
+      ap (λ n. f (members_in (started exposures eras) n)) (number_tie era (eras.current + 1) e) ∙ ap f (members_enter eras exposures) ∙ new exposures
   enter false e before = ap f (none_before (started exposures eras) era (past (other_number era (eras.current + 1) e))) ∙ none where
     past : era ≢ eras.current + 1 → eras.current + 1 < era
     past apart = omega (arith, before)
@@ -143,7 +144,7 @@ got_after era reward (Pointed items) eras ok kept fine late =
     ∙ at (nat_eq eras.current era) refl where
       at : (b : Bool) → nat_eq eras.current era ≡ b → all_got reward (cond b (fold with_points (members_in eras eras.current) items) (members_in eras era)) ≡ all_got reward (members_in eras era) + 0
       at true e =
-          let same : eras.current ≡ era = same_number eras.current era e in
+          let same : eras.current ≡ era = number_tie eras.current era e in
           let unclaimed : All (λ (member : Member). member.claimed ≡ false) (values_of (members_in eras era)) = λ k d within. (fine k d within).unclaimed (omega (arith, same)) in
           let here : All (λ (member : Member). member.claimed ≡ false) (values_of (members_in eras eras.current)) =
           subst (λ n. All (λ (member : Member). member.claimed ≡ false) (values_of (members_in eras n))) (sym same) unclaimed in
@@ -160,7 +161,7 @@ got_after era reward (Paid other who) eras ok kept fine late =
           → all_got reward (cond b (with_member who claiming (members_in eras other)) (members_in eras era)) ≡ all_got reward (members_in eras era) + cond b (payout_in eras other who reward).total 0
       at true e unclaimed_yet =
           claim_adds reward (members_in eras other) who unclaimed_yet
-          ∙ ap (λ n. all_got reward (members_in eras n) + (payout_in eras other who reward).total) (same_number other era e)
+          ∙ ap (λ n. all_got reward (members_in eras n) + (payout_in eras other who reward).total) (number_tie other era e)
       at false e unclaimed_yet = omega arith
 got_after era reward (Reported other who fraction) eras ok kept fine late =
     let facts = reported_facts eras other who fraction ok in
@@ -168,7 +169,7 @@ got_after era reward (Reported other who fraction) eras ok kept fine late =
     ∙ at (nat_eq other era) refl where
       at : (b : Bool) → nat_eq other era ≡ b → all_got reward (cond b (with_member who (keeping fraction) (members_in eras other)) (members_in eras era)) ≡ all_got reward (members_in eras era) + 0
       at true e =
-          report_keeps reward (members_in eras other) who fraction ∙ ap (λ n. all_got reward (members_in eras n)) (same_number other era e) ∙ omega arith
+          report_keeps reward (members_in eras other) who fraction ∙ ap (λ n. all_got reward (members_in eras n)) (number_tie other era e) ∙ omega arith
       at false e = omega arith
 
 pays_silent : (era reward : ℕ) (event : Event) (eras : Eras) → IsAccepted event eras → is_unknown eras era ≡ true → pays era reward event eras ≡ 0
@@ -176,7 +177,7 @@ pays_silent era reward (Started exposures) eras ok unknown = refl
 pays_silent era reward (Pointed items) eras ok unknown = refl
 pays_silent era reward (Paid other who) eras ok unknown = at (nat_eq other era) refl where
   at : (b : Bool) → nat_eq other era ≡ b → cond b (payout_in eras other who reward).total 0 ≡ 0
-  at true e = absurd (true≢false (sym unknown ∙ ap (λ n. is_unknown eras n) (sym (same_number other era e)) ∙ (paid_facts eras other who ok).0))
+  at true e = absurd (true≢false (sym unknown ∙ ap (λ n. is_unknown eras n) (sym (number_tie other era e)) ∙ (paid_facts eras other who ok).0))
   at false e = refl
 pays_silent era reward (Reported other who fraction) eras ok unknown = refl
 
@@ -335,14 +336,14 @@ taken_after era who (Pointed items) eras ok kept late =
       at : (b : Bool) → nat_eq eras.current era ≡ b → all_taken who (cond b (fold with_points (members_in eras eras.current) items) (members_in eras era)) ≡ all_taken who (members_in eras era) + 0
       at true e =
           sum_pointed (taken who) (λ member points. refl) (members_in eras eras.current) items
-          ∙ ap (λ n. all_taken who (members_in eras n)) (same_number eras.current era e) ∙ omega arith
+          ∙ ap (λ n. all_taken who (members_in eras n)) (number_tie eras.current era e) ∙ omega arith
       at false e = omega arith
 taken_after era who (Paid other validator) eras ok kept late =
     ap (all_taken who) (members_set eras other era (with_member validator claiming (members_in eras other)) kept (paid_facts eras other validator ok).0)
     ∙ at (nat_eq other era) refl where
       at : (b : Bool) → nat_eq other era ≡ b → all_taken who (cond b (with_member validator claiming (members_in eras other)) (members_in eras era)) ≡ all_taken who (members_in eras era) + 0
       at true e =
-          sum_stays (taken who) validator claiming (λ member. refl) (members_in eras other) ∙ ap (λ n. all_taken who (members_in eras n)) (same_number other era e) ∙ omega arith
+          sum_stays (taken who) validator claiming (λ member. refl) (members_in eras other) ∙ ap (λ n. all_taken who (members_in eras n)) (number_tie other era e) ∙ omega arith
       at false e = omega arith
 taken_after era who (Reported other validator fraction) eras ok kept late =
     let facts = reported_facts eras other validator fraction ok in
@@ -353,7 +354,7 @@ taken_after era who (Reported other validator fraction) eras ok kept late =
           ≡ all_taken who (members_in eras era) + cond b (amount_for who (slash_in eras other validator fraction)) 0
       at true e below =
           report_adds who (members_in eras other) validator fraction below
-          ∙ ap (λ n. all_taken who (members_in eras n) + amount_for who (slash_in eras other validator fraction)) (same_number other era e)
+          ∙ ap (λ n. all_taken who (members_in eras n) + amount_for who (slash_in eras other validator fraction)) (number_tie other era e)
       at false e below = omega arith
 
 -- what the exposures of an era hold stays
@@ -365,19 +366,19 @@ held_after era who (Pointed items) eras ok kept started_yet late =
     ∙ at (nat_eq eras.current era) refl where
       at : (b : Bool) → nat_eq eras.current era ≡ b → all_held who (cond b (fold with_points (members_in eras eras.current) items) (members_in eras era)) ≡ all_held who (members_in eras era)
       at true e =
-          sum_pointed (held who) (λ member points. refl) (members_in eras eras.current) items ∙ ap (λ n. all_held who (members_in eras n)) (same_number eras.current era e)
+          sum_pointed (held who) (λ member points. refl) (members_in eras eras.current) items ∙ ap (λ n. all_held who (members_in eras n)) (number_tie eras.current era e)
       at false e = refl
 held_after era who (Paid other validator) eras ok kept started_yet late =
     ap (all_held who) (members_set eras other era (with_member validator claiming (members_in eras other)) kept (paid_facts eras other validator ok).0)
     ∙ at (nat_eq other era) refl where
       at : (b : Bool) → nat_eq other era ≡ b → all_held who (cond b (with_member validator claiming (members_in eras other)) (members_in eras era)) ≡ all_held who (members_in eras era)
-      at true e = sum_stays (held who) validator claiming (λ member. refl) (members_in eras other) ∙ ap (λ n. all_held who (members_in eras n)) (same_number other era e)
+      at true e = sum_stays (held who) validator claiming (λ member. refl) (members_in eras other) ∙ ap (λ n. all_held who (members_in eras n)) (number_tie other era e)
       at false e = refl
 held_after era who (Reported other validator fraction) eras ok kept started_yet late =
     ap (all_held who) (members_set eras other era (with_member validator (keeping fraction) (members_in eras other)) kept (reported_facts eras other validator fraction ok).1)
     ∙ at (nat_eq other era) refl where
       at : (b : Bool) → nat_eq other era ≡ b → all_held who (cond b (with_member validator (keeping fraction) (members_in eras other)) (members_in eras era)) ≡ all_held who (members_in eras era)
-      at true e = sum_stays (held who) validator (keeping fraction) (λ member. refl) (members_in eras other) ∙ ap (λ n. all_held who (members_in eras n)) (same_number other era e)
+      at true e = sum_stays (held who) validator (keeping fraction) (λ member. refl) (members_in eras other) ∙ ap (λ n. all_held who (members_in eras n)) (number_tie other era e)
       at false e = refl
 
 dues_silent : (era : ℕ) (who : AccountId) (event : Event) (eras : Eras) → IsAccepted event eras → is_unknown eras era ≡ true → makes_due era who event eras ≡ 0
@@ -386,7 +387,7 @@ dues_silent era who (Pointed items) eras ok unknown = refl
 dues_silent era who (Paid other validator) eras ok unknown = refl
 dues_silent era who (Reported other validator fraction) eras ok unknown = at (nat_eq other era) refl where
   at : (b : Bool) → nat_eq other era ≡ b → cond b (amount_for who (slash_in eras other validator fraction)) 0 ≡ 0
-  at true e = absurd (true≢false (sym unknown ∙ ap (λ n. is_unknown eras n) (sym (same_number other era e)) ∙ (reported_facts eras other validator fraction ok).1))
+  at true e = absurd (true≢false (sym unknown ∙ ap (λ n. is_unknown eras n) (sym (number_tie other era e)) ∙ (reported_facts eras other validator fraction ok).1))
   at false e = refl
 
 all_taken_within : (era : ℕ) (who : AccountId) (eras : Eras) → AreFine era eras → all_taken who (members_in eras era) ≤ all_held who (members_in eras era)
@@ -440,7 +441,7 @@ due_before era who (Started exposures ∷ more) eras ok kept fine before =
           → (now.current < era → given_by (makes_due era who) more now ≤ exposed_for who (unwrap_or (slice_get (begun more) (era - (now.current + 1))) []))
           → 0 + given_by (makes_due era who) more now ≤ exposed_for who (unwrap_or (slice_get (exposures ∷ begun more) (era - (eras.current + 1))) [])
       at true e begins waits =
-          let same : era ≡ eras.current + 1 = same_number era (eras.current + 1) e in
+          let same : era ≡ eras.current + 1 = number_tie era (eras.current + 1) e in
           let place : era - (eras.current + 1) ≡ zero = omega (arith, same) in
           let entered : members_in now era ≡ members_with exposures = ap (λ n. members_in now n) same ∙ members_enter eras exposures in
           omega (

@@ -10,7 +10,8 @@ use Rattle.std.proofs.lemmas.List.Elements.{All-nil, All-cons, All-head, All-tai
 use Rattle.npos_base.specs.declared.account.AccountId.{AccountId}
 use Rattle.npos_base.specs.declared.figures.Edge.{Edge}
 use Rattle.npos_base.specs.Account.{same_account}
-use Rattle.era_book.specs.Committee.{account_at, gives_to, is_of, backer_of, backers_of, exposure_of, given_to, spent_by, same_pair, edges_by_voter}
+use Rattle.npos_base.specs.Edge.{same_pair}
+use Rattle.era_book.specs.Committee.{account_at, gives_to, is_of, backer_of, backers_of, exposure_of, given_to, spent_by, edges_by_voter}
 use Rattle.era_book.proofs.CommitteeLemmas.{filter_sum}
 
 -- ---- the edges by voter weigh what the edges do

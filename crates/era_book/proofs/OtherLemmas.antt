@@ -14,7 +14,8 @@ use Rattle.npos_base.proofs.EntryLemmas.{lookup_put, lookup_other}
 use Rattle.era_book.specs.declared.exposure.Exposure.{Exposure}
 use Rattle.era_book.specs.Members.{Member, Members, member_of, newcomer, with_exposure, put_member, changed, with_member}
 use Rattle.era_book.specs.Eras.{Eras, started, is_unknown, members_in, member_in, with_member_in, OthersStay, EarlierStay, HasExposures, HasNoOther, AreKept}
-use Rattle.era_book.proofs.HistoryLemmas.{same_number, known_numbers, members_set, members_stay, members_enter}
+use Rattle.npos_base.proofs.NumberTests.{number_tie}
+use Rattle.era_book.proofs.HistoryLemmas.{known_numbers, members_set, members_stay, members_enter}
 
 -- another account has what it had
 set_other : (rows : Members) (who account : AccountId) (member : Member) → account ≢ who
@@ -47,7 +48,7 @@ others_stay eras era who change kept known = λ other account apart.
       at : (other : ℕ) (account : AccountId) → (other ≡ era → account ≢ who) → (b : Bool) → nat_eq era other ≡ b
           → member_of (cond b (with_member who change (members_in eras era)) (members_in eras other)) account ≡ member_in eras other account
       at other account apart true e =
-          let same : era ≡ other = same_number era other e in
+          let same : era ≡ other = number_tie era other e in
           member_other who account change (members_in eras era) (apart (sym same)) ∙ ap (λ n. member_in eras n account) same
       at other account apart false e = refl
 

@@ -8,7 +8,8 @@ use Rattle.npos_base.specs.declared.limits.TheConstants.{WHOLE_FRACTION}
 use Rattle.npos_base.specs.Account.{same_account}
 use Rattle.era_book.specs.declared.exposure.Exposure.{Exposure}
 use Rattle.era_book.specs.Exposures.{IsSound, AreSound}
-use Rattle.era_book.specs.Committee.{account_at, exposure_of, given_to, same_pair, edges_by_voter, IsWithin, IsElected, SoundLaw, OrderLaw}
+use Rattle.npos_base.specs.Edge.{same_pair}
+use Rattle.era_book.specs.Committee.{account_at, exposure_of, given_to, edges_by_voter, IsWithin, IsElected, SoundLaw, OrderLaw}
 use Rattle.era_book.proofs.CommitteeLemmas.{support_law}
 use Rattle.era_book.proofs.BackerLemmas.{apart_at, backers_law}
 use Rattle.era_book.proofs.OrderLemmas.{all_by_voter, pairs_by_voter, given_by_voter, spent_by_voter}

@@ -4,6 +4,7 @@ use Rattle.std.specs.List.{IsDistinct}
 use Rattle.npos_base.specs.declared.account.AccountId.{AccountId}
 use Rattle.npos_base.specs.declared.figures.Edge.{Edge}
 use Rattle.npos_base.specs.Account.{same_account}
+use Rattle.npos_base.specs.Edge.{same_pair}
 use Rattle.npos_base.specs.declared.limits.TheConstants.{WHOLE_FRACTION}
 use Rattle.era_book.specs.declared.exposure.Backer.{Backer}
 use Rattle.era_book.specs.declared.exposure.Exposure.{Exposure}
@@ -66,10 +67,6 @@ SpentLaw = (targets voters : List AccountId) (commissions supports : List ℕ) (
     (members : List ℕ) (who : AccountId) → IsDistinct nat_eq members →
     exposed_for who (map (exposure_of targets commissions supports voters edges) members)
     ≤ spent_by voters who edges
-
--- the edges lead from one voter to one target
-abbrev pub same_pair : Edge → Edge → Bool
-same_pair a b = nat_eq a.voter b.voter && nat_eq a.target b.target
 
 -- where no account is two voters and no voter gives twice to a target, no account backs it twice
 abbrev pub BackersLaw : Type 0

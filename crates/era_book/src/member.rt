@@ -108,7 +108,7 @@ fn billionths_of(value: u64, billionths: u32) -> u64
 
 /// The part of the value that goes to one of the amounts that make up the support. A product that
 /// fits 64 bits, as most do, is divided there, which is faster.
-fn share_of(value: u64, amount: u64, support: u64) -> u64
+fn part_for(value: u64, amount: u64, support: u64) -> u64
     requires { amount ≤ support }
     ensures part { result ≡ part value amount support }
     ensures within { result ≤ value }
@@ -181,7 +181,7 @@ fn payout_lines(
     let mut lines = Room::with_room(alloc, shares.len() + 1)?;
     let commission = billionths_of(value, seat.commission);
     let rest = value - commission;
-    let own = share_of(rest, own_part(accounts, seat), seat.support);
+    let own = part_for(rest, own_part(accounts, seat), seat.support);
     put_line(&mut lines, seat.validator, commission + own);
     put_others(&mut lines, accounts, seat, rest);
     Ok(lines.into_list())
@@ -198,7 +198,7 @@ fn put_others(lines: &mut Room<Backer>, accounts: &[AccountId], seat: &Seat, res
     for share in seat.shares.as_slice() {
         let who = account_at(accounts, share.place);
         if who != seat.validator {
-            let amount = share_of(rest, share.amount, seat.support);
+            let amount = part_for(rest, share.amount, seat.support);
             put_line(lines, who, amount);
         }
     }

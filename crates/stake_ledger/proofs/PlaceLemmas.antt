@@ -1,7 +1,5 @@
 -- Accounts keep their places, and rows that stand at the places are rows by account.
-use Rattle.std.proofs.Common.{◌≡◌, ◌≢◌, ◌∙◌, ℕ, ◌+◌, ◌<◌, Bool, true, false, cond, List, [], ◌∷◌, ◌++◌, length, get_or, slice_set, Option, Some, None, option_map, unwrap_or, is_some, OnOk, OnSome, refl, ap, ap₂, sym, subst, arith, true≢false}
-use Rattle.std.specs.declared.result.Result.{Result}
-use Rattle.std.specs.declared.result.Result.TheVariants.{Ok, Err}
+use Rattle.std.proofs.Common.{◌≡◌, ◌≢◌, ◌∙◌, ℕ, ◌+◌, ◌<◌, Bool, true, false, cond, List, [], ◌∷◌, ◌++◌, length, get_or, slice_set, Option, Some, None, option_map, unwrap_or, is_some, OnSome, refl, ap, ap₂, sym, subst, arith, true≢false}
 use Rattle.std.specs.BTreeMap.{insert_entry, is_at}
 use Rattle.std.specs.Map.{keys_of, lookup}
 use Rattle.std.specs.List.Sorted.{IsStrictlySortedBy}
@@ -146,10 +144,6 @@ row_becomes rows places entries who place row new change placed view there is be
     ∙ ap₂ (λ es r. insert_entry account_cmp es who r) view (becomes ∙ ap change (row_found rows places entries who place row placed view there is))
 
 -- what follows from what an Ok or a Some says holds of it too
-pub then_ok : {T E P Q : Type 0} (result : Result T E) → (P → Q) → OnOk result P → OnOk result Q
-then_ok (Ok value) follows holds = follows holds
-then_ok (Err error) follows holds = tt
-
 pub then_some : {T P Q : Type 0} (result : Option T) → (P → Q) → OnSome result P → OnSome result Q
 then_some (Some value) follows holds = follows holds
 then_some None follows holds = tt

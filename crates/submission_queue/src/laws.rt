@@ -13,6 +13,7 @@ pub fn the_rank_is_a_stable_sort(items: &[Submission])
     ensures sorted { IsSortedBy outranks (ranked items.now) }
     ensures stable { IsStableBy outranks items.now (ranked items.now) }
 {
+    // Nothing is done with them: the clauses speak of any items.
     let _items = items;
 }
 

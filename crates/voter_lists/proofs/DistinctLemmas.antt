@@ -10,7 +10,8 @@ use Rattle.voter_lists.specs.BagRows.{falling, holds, walk_from, AreNoted}
 use Rattle.voter_lists.specs.Rings.{items, IsIn, IsApart}
 use Rattle.voter_lists.specs.declared.nodes.Nodes.{Nodes}
 use Rattle.voter_lists.specs.Nodes.{account_at, bags_in, home_of, AreLinked}
-use Rattle.voter_lists.proofs.HomeLemmas.{by_same, number_test, number_tie}
+use Rattle.npos_base.proofs.NumberTests.{number_test, number_tie}
+use Rattle.voter_lists.proofs.HomeLemmas.{by_same}
 use Rattle.voter_lists.proofs.NodeLemmas.{only_key, bag_read, bags_length}
 use Rattle.voter_lists.proofs.WalkLemmas.{falling_apart, walk_falls}
 

@@ -4,23 +4,14 @@ use Rattle.std.proofs.Math.Nat.{eq-or-lt_of_le}
 use Rattle.std.specs.List.{slice_set}
 use Rattle.std.proofs.lemmas.List.{append-nil}
 use Rattle.std.proofs.lemmas.List.Elements.{filter-append}
-use Rattle.std.proofs.lemmas.Bool.Decides.{nat_tests}
 use Rattle.npos_base.specs.declared.account.AccountId.{AccountId}
 use Rattle.npos_base.specs.Account.{same_account}
 use Rattle.npos_base.proofs.AccountOrder.{same_exact, same_itself}
+use Rattle.npos_base.proofs.NumberTests.{number_same, number_test, number_tie}
 use Rattle.voter_lists.specs.Bags.{Order, OnlyIn, in_bag, joined, left, placed_before, number_of, is_in}
 use Rattle.voter_lists.specs.Bag.{without, with_before}
 use Rattle.voter_lists.specs.BagRows.{numbered, walk_from, holds, AreNoted}
 use Rattle.voter_lists.specs.Nodes.{NotedAnew}
-
-pub number_test : (a b : ℕ) → a ≢ b → nat_eq a b ≡ false
-number_test a b differ = grind (arith, nat_tests)
-
-pub number_same : (a : ℕ) → nat_eq a a ≡ true
-number_same a = grind (arith, nat_tests)
-
-pub number_tie : (a b : ℕ) → nat_eq a b ≡ true → a ≡ b
-number_tie a b e = grind (arith, nat_tests)
 
 -- an account is this one, or the test tells it apart
 pub by_same : {P : Type 0} (q who : AccountId) → (q ≡ who → P) → (same_account q who ≡ false → P) → P

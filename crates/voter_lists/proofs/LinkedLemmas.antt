@@ -17,10 +17,6 @@ use Rattle.voter_lists.proofs.NodeLemmas.{only_key, bags_length, bag_read, accou
 use Rattle.voter_lists.proofs.WalkLemmas.{or_first, after_walk, walk_falls, falling_take}
 
 -- what holds where a call is done, or where it is refused
-pub then_ok : {E A B : Type 0} (result : Result (Unit {0}) E) → (A → B) → OnOk result A → OnOk result B
-then_ok (Ok done) f h = f h
-then_ok (Err error) f h = tt
-
 by_result : {E A B C : Type 0} (result : Result (Unit {0}) E) → OnOk result A → OnErr result B → (A → C) → (B → C) → C
 by_result (Ok done) a b f g = f a
 by_result (Err error) a b f g = g b

@@ -12,7 +12,8 @@ use Rattle.voter_lists.specs.Bag.{without, with_before}
 use Rattle.voter_lists.specs.BagRows.{numbered, walk_from, holds, AreNoted, AreHomes}
 use Rattle.voter_lists.specs.Nodes.{moved_bags, NotedAnew}
 use Rattle.npos_base.specs.declared.limits.TheConstants.{MOST_THRESHOLDS}
-use Rattle.voter_lists.proofs.HomeLemmas.{by_same, joined_other, joined_here, left_other, left_here, before_other, before_here, only_left, only_walk, noted_at, noted_join, noted_leave, noted_before, number_noted, noted_alike, noted_empty, number_same, number_test}
+use Rattle.npos_base.proofs.NumberTests.{number_same, number_test}
+use Rattle.voter_lists.proofs.HomeLemmas.{by_same, joined_other, joined_here, left_other, left_here, before_other, before_here, only_left, only_walk, noted_at, noted_join, noted_leave, noted_before, number_noted, noted_alike, noted_empty}
 use Rattle.voter_lists.proofs.WalkLemmas.{Lists, walk_lists, walk_of_lists, lists_at, lists_set}
 
 module _ (thresholds : List ℕ) (bags : List (List AccountId)) (home : AccountId → Option ℕ) (h : AreHomes thresholds bags home) where

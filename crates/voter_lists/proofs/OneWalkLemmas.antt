@@ -7,7 +7,8 @@ use Rattle.npos_base.specs.declared.account.AccountId.{AccountId}
 use Rattle.npos_base.specs.Account.{same_account}
 use Rattle.voter_lists.specs.Bags.{Order, OnlyIn, in_bag, from_bag, in_walk_order, joined, left, placed_before, number_of, number_at, bag_of, put_in_front, inserted, removed, moved}
 use Rattle.voter_lists.specs.OneWalk.{IsOneWalk, StandsIn, listing_of, appended, taken_out, appended_anew, put_before}
-use Rattle.voter_lists.proofs.HomeLemmas.{number_test, number_tie, left_in_bag, before_other, before_in_bag, only_left}
+use Rattle.npos_base.proofs.NumberTests.{number_test, number_tie}
+use Rattle.voter_lists.proofs.HomeLemmas.{left_in_bag, before_other, before_in_bag, only_left}
 
 -- lists whose bags are alike are walked alike
 same_walk : (number count : ℕ) (a b : Order) → ((k : ℕ) → number ≤ k → k < number + count → in_bag k a ≡ in_bag k b) → from_bag number count a ≡ from_bag number count b

@@ -5,7 +5,7 @@ use Rattle.std.proofs.lemmas.Bool.Decides.{nat_tests}
 use Rattle.npos_base.specs.declared.account.AccountId.{AccountId}
 use Rattle.voter_lists.specs.Bags.{Listing, number_of, arranged, placed_before, left, put_in_front, put_in_front_refusal}
 use Rattle.npos_base.specs.Account.{same_account}
-use Rattle.voter_lists.proofs.HomeLemmas.{number_test, number_same}
+use Rattle.npos_base.proofs.NumberTests.{number_test, number_same}
 
 -- when an account is put in front of another
 module _ (listing : Listing) (who lighter : AccountId) (score lighter_score : ℕ) where

@@ -1,6 +1,7 @@
 -- The lists of the bags and the one list of the walk.
 use Rattle.std.proofs.Common.{◌≡◌, ◌≢◌, ℕ, zero, suc, ◌+◌, ◌<◌, ◌≤◌, Bool, true, false, ◌||◌, nat_eq, if◌then◌else◌, List, [], ◌∷◌, ◌++◌, length, get_or, refl, ap, ap₂, sym, ◌∙◌, subst, append_assoc, arith, Option, Some, None, true≢false, add-zero, slice_get, is_some, take, zero-add}
-use Rattle.voter_lists.proofs.HomeLemmas.{noted_at, number_test, number_same}
+use Rattle.npos_base.proofs.NumberTests.{number_test, number_same}
+use Rattle.voter_lists.proofs.HomeLemmas.{noted_at}
 use Rattle.std.specs.List.{slice_set}
 use Rattle.std.proofs.lemmas.List.{append-nil, take_more}
 use Rattle.std.proofs.lemmas.List.Elements.{filter-append}

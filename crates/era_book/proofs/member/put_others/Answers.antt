@@ -3,8 +3,8 @@ use Rattle.era_book.specs.declared.seat.Share.{Share}
 use Rattle.era_book.proofs.LineLemmas.{share_within}
 use Rattle.era_book.proofs.member.put_others.Goals as goal
 
-pub share_of-amount-requires : goal.share_of-amount-requires
-share_of-amount-requires c =
+pub part_for-amount-requires : goal.part_for-amount-requires
+part_for-amount-requires c =
     let d : Share = record { place = 0; amount = 0 } in
     let items : c.as_slice-share-items.result.now ≡ c.args.seat.now.shares = search rules in
     let few : c.loop-share.share-index < length c.args.seat.now.shares = omega (arith, c.loop-share-test.true, ap length items) in

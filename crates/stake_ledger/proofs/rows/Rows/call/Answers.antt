@@ -1,6 +1,7 @@
 use Rattle.std.proofs.Common.{◌≡◌, None, IfErr, IfOk, OnOk, sym, ◌∙◌, subst}
 use Rattle.stake_ledger.specs.RowCalls.{MayAnswer, row_refusal, row_after, done_of}
-use Rattle.stake_ledger.proofs.PlaceLemmas.{row_found, row_becomes, then_ok}
+use Rattle.npos_base.proofs.Refusals.{then_ok}
+use Rattle.stake_ledger.proofs.PlaceLemmas.{row_found, row_becomes}
 use Rattle.stake_ledger.proofs.rows.Rows.call.Goals as goal
 
 pub done-requires-clause-few : goal.done-requires-clause-few

@@ -1,7 +1,8 @@
 use Rattle.std.proofs.Common.{◌≡◌, ◌≤◌, Some, IfErr, OnOk, ap, sym, ◌∙◌, subst}
 use Rattle.stake_ledger.specs.Calls.{hold_refusal}
 use Rattle.stake_ledger.specs.Rows.{paid}
-use Rattle.stake_ledger.proofs.PlaceLemmas.{row_found, row_found_there, row_becomes, then_ok}
+use Rattle.npos_base.proofs.Refusals.{then_ok}
+use Rattle.stake_ledger.proofs.PlaceLemmas.{row_found, row_found_there, row_becomes}
 use Rattle.stake_ledger.proofs.rows.Rows.pay.Goals as goal
 
 pub returns-in-Some-clause-accepted : goal.returns-in-Some-clause-accepted

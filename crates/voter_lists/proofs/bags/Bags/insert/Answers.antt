@@ -4,7 +4,8 @@ use Rattle.voter_lists.specs.Bags.{is_listed, in_walk_order, joined, bag_of}
 use Rattle.voter_lists.specs.BagRows.{walk_from}
 use Rattle.voter_lists.specs.Nodes.{bags_in, home_of}
 use Rattle.voter_lists.proofs.ListingLemmas.{not_listed, joined_walk}
-use Rattle.voter_lists.proofs.LinkedLemmas.{linked_joined, then_ok}
+use Rattle.npos_base.proofs.Refusals.{then_ok}
+use Rattle.voter_lists.proofs.LinkedLemmas.{linked_joined}
 use Rattle.voter_lists.proofs.bags.Bags.insert.Goals as goal
 
 pub join-requires-clause-absent : goal.join-requires-clause-absent
