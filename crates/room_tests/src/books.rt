@@ -229,8 +229,8 @@ fn stake_is_minted(rt: HostRuntime) -> Result<(), Fail> {
 /// may be issued is refused.
 fn opening_mints(alloc: Global) -> Result<(u64, bool), LedgerRefusal> {
     let mut book = Book::new(alloc);
-    book.mint(SECOND, 7)?;
-    let refused = matches!(book.mint(FIRST, u64::MAX), Err(LedgerRefusal::IssuanceCap));
+    book.mint_from(0, SECOND, 7)?;
+    let refused = matches!(book.mint_from(0, FIRST, u64::MAX), Err(LedgerRefusal::IssuanceCap));
     Ok((book.free(SECOND), refused && !book.knows(FIRST)))
 }
 

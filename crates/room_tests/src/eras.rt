@@ -3,8 +3,8 @@
 ghost use Rattle.std.specs.Prelude.{◌≡◌, IfOk};
 ghost use Rattle.era_book.specs.Exposures.{AreSound};
 
-use era_book::{Backer, EraBook, EraRefusal, Exposure, exposures_of, laws};
-use npos_base::{AccountId, Edge, List, NoMemory};
+use era_book::{Backer, EraBook, EraRefusal, Exposure, laws};
+use npos_base::{AccountId, Edge, List, NoMemory, Reason};
 use std::alloc::Global;
 use std::fmt::Write;
 use std::test::Fail;
@@ -39,19 +39,6 @@ const fn at(n: u8) -> AccountId
     AccountId {
         hi: 0,
         lo: n as u128,
-    }
-}
-
-fn number(refusal: EraRefusal) -> u32 {
-    match refusal {
-        EraRefusal::BadFraction => 15,
-        EraRefusal::UnknownEra => 21,
-        EraRefusal::EraNotOver => 22,
-        EraRefusal::NotExposed => 23,
-        EraRefusal::AlreadyClaimed => 24,
-        EraRefusal::NotGreater => 25,
-        EraRefusal::NoPoints => 26,
-        EraRefusal::NoMemory => 0,
     }
 }
 
@@ -122,7 +109,7 @@ fn claimed(alloc: Global, book: &mut EraBook, era: u32, n: u8) -> Result<String,
             }
             write!(text, "{}", payout.total)?;
         }
-        Err(refusal) => write!(text, "refused {}", number(refusal))?,
+        Err(refusal) => write!(text, "refused {}", refusal.number().unwrap_or(0))?,
     }
     Ok(text)
 }
@@ -143,7 +130,7 @@ fn reported(
                 write!(text, "{} {}, ", line.who.lo, line.amount)?;
             }
         }
-        Err(refusal) => write!(text, "refused {}", number(refusal))?,
+        Err(refusal) => write!(text, "refused {}", refusal.number().unwrap_or(0))?,
     }
     Ok(text)
 }
@@ -189,40 +176,6 @@ fn eighty_four_eras_stay(rt: HostRuntime) -> Result<(), Fail> {
     Ok(())
 }
 
-const EDGES: [Edge; 4] = [
-    Edge {
-        voter: 0,
-        target: 0,
-        amount: 40,
-    },
-    Edge {
-        voter: 0,
-        target: 1,
-        amount: 0,
-    },
-    Edge {
-        voter: 1,
-        target: 0,
-        amount: 50,
-    },
-    Edge {
-        voter: 2,
-        target: 1,
-        amount: 5,
-    },
-];
-
-#[test]
-fn the_validator_stands_before_its_other_backers(rt: HostRuntime) -> Result<(), Fail> {
-    let alloc = rt.alloc();
-    let targets = [at(1), at(2)];
-    let voters = [at(3), at(1), at(4)];
-    let exposures = exposures_of(alloc, &targets, &[7, 8], &[90, 5], &voters, &[0, 1], &EDGES)?;
-    let text = backers_of(alloc, exposures.as_slice())?;
-    assert_eq!(rt; text.as_str(), "1 7 90: 1 50, 3 40,2 8 5: 4 5,");
-    Ok(())
-}
-
 /// The edges of three voters to the first target, not by voter.
 const MIXED: [Edge; 3] = [
     Edge {
@@ -258,22 +211,6 @@ fn the_others_stand_in_the_order_of_the_voters(rt: HostRuntime) -> Result<(), Fa
     assert_eq!(rt; told.as_str(), "1 50, 3 40, 4 5, ");
     assert_eq!(rt; reported(alloc, &mut book, 1, 2, 1)?.as_str(), "");
     Ok(())
-}
-
-/// Each exposure with its backers.
-fn backers_of(alloc: Global, exposures: &[Exposure]) -> Result<String, Fail> {
-    let mut text = String::new(alloc);
-    for seat in exposures {
-        write!(
-            text,
-            "{} {} {}:",
-            seat.validator.lo, seat.commission, seat.support
-        )?;
-        for backer in seat.backers.as_slice() {
-            write!(text, " {} {},", backer.who.lo, backer.amount)?;
-        }
-    }
-    Ok(text)
 }
 
 #[test]
