@@ -81,8 +81,8 @@ impl EraBook {
 
     /// The next era begins with an elected committee, its edges in whatever order: it is what
     /// `start_era` does with the members' exposures, and takes less time and memory. Of the edges
-    /// with an amount above 0 the validator's own stands first among its backers, then the others in
-    /// the order of the voters. Accounts, commissions in billionths and supports stand by target,
+    /// with an amount above 0 the validator's own stands first among its backers, then the others
+    /// in the order of the voters. Accounts, commissions in billionths and supports stand by target,
     /// and accounts by voter, which are kept with the era.
     pub fn start_elected(
         &mut self,

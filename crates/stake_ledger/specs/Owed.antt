@@ -10,5 +10,6 @@ abbrev pub IsDue : Option LedgerRefusal → LedgerRefusal → Type 0
 IsDue due refusal = every.IsDue NoMemory due refusal
 
 -- no refusal stands and the books are these, or nothing changed and the answer is the refusal that is due
-abbrev pub Meets : {T : Type 0} → Option LedgerRefusal → Ledger → Ledger → Ledger → Result T LedgerRefusal → Type 0
+abbrev pub Meets : {T : Type 0} → Option LedgerRefusal → Ledger → Ledger → Ledger
+    → Result T LedgerRefusal → Type 0
 Meets due effect old new result = every.Meets NoMemory due effect old new result
