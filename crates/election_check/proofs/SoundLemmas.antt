@@ -18,7 +18,7 @@ use Rattle.weight_book.proofs.SumLemmas.{sum_covered, sum_filter-cons, sum_of_on
 use Rattle.compact_solution.specs.declared.entry.Share.{Share}
 use Rattle.compact_solution.specs.Solution.{Entry, targets_of, parts_of}
 use Rattle.compact_solution.specs.declared.entry.TheConstants.{WHOLE_STAKE}
-use Rattle.election_check.specs.declared.verdict.Verdict.TheVariants.{NoVoter, NoTarget, VoterTwice, TargetTwice, NotNominated, BadShare, WrongSize}
+use Rattle.election_check.specs.declared.fault.Fault.TheVariants.{NoVoter, NoTarget, VoterTwice, TargetTwice, NotNominated, BadShare, WrongSize}
 use Rattle.election_check.specs.First.{when}
 use Rattle.election_check.specs.Steps.{size_fault}
 use Rattle.election_check.specs.Packed.{amount_of, edge_of, rest_of, edges_of, listed_in, weights_of, first_repeat, unknown_target, repeated_target, unnominated_target, has_bad_share, entry_fault, voters_in, entries_fault}

@@ -18,7 +18,7 @@ use Rattle.weight_book.specs.Weights.{Weights}
 use Rattle.weight_book.specs.Room.{WeightBook, HasRoom, KeepsRoom, vote_count}
 use Rattle.compact_solution.specs.Solution.{Entry, targets_of, entries_of}
 use Rattle.compact_solution.specs.declared.entry.TheConstants.{WHOLE_STAKE}
-use Rattle.election_check.specs.declared.verdict.Verdict.{Verdict}
+use Rattle.election_check.specs.declared.fault.Fault.{Fault}
 use Rattle.election_check.specs.First.{answer_of, first_of}
 use Rattle.election_check.specs.Packed.{edges_of, listed_in, weights_of, entry_fault, voters_in, entries_fault}
 use Rattle.election_check.specs.Taking.{AreTaken}
@@ -36,11 +36,11 @@ parts_of_whole stake parts =
     regroup : (s q r w p : ℕ) → q * w + r ≡ s → q * p * w + r * p ≡ s * p
     regroup s q r w p split = subst (λ (n : ℕ). q * p * w + r * p ≡ n * p) split (omega arith)
 
-pub no_error : (o : Option Verdict) → answer_of o ≡ Ok tt → o ≡ None
+pub no_error : (o : Option Fault) → answer_of o ≡ Ok tt → o ≡ None
 no_error None e = refl
 no_error (Some fault) e = absurd (cc)
 
-pub an_error : (o : Option Verdict) (fault : Verdict) → answer_of o ≡ Err fault → o ≡ Some fault
+pub an_error : (o : Option Fault) (fault : Fault) → answer_of o ≡ Err fault → o ≡ Some fault
 an_error None fault e = absurd (cc)
 an_error (Some other) fault e = ap (λ v. Some v) (cc)
 
@@ -86,11 +86,11 @@ has_room_then snapshot old new has keeps = record { members = omega (arith, has.
 
 -- ## Entries one after the other
 
-pub alone : (o : Option Verdict) → first_of (o ∷ []) ≡ o
+pub alone : (o : Option Fault) → first_of (o ∷ []) ≡ o
 alone None = refl
 alone (Some fault) = refl
 
-regroup_first : (a b c d : Option Verdict) → c ≡ first_of (b ∷ d ∷ []) → first_of (a ∷ c ∷ []) ≡ first_of (first_of (a ∷ b ∷ []) ∷ d ∷ [])
+regroup_first : (a b c d : Option Fault) → c ≡ first_of (b ∷ d ∷ []) → first_of (a ∷ c ∷ []) ≡ first_of (first_of (a ∷ b ∷ []) ∷ d ∷ [])
 regroup_first None b c d e = alone c ∙ (e ∙ ap (λ o. first_of (o ∷ d ∷ [])) (sym (alone b)))
 regroup_first (Some fault) b c d e = refl
 
@@ -133,7 +133,7 @@ module _ (snapshot : Snapshot) where
       (first_none (entries_fault snapshot [] before) (entries_fault snapshot before xs ∷ []) (sym (entries-append snapshot [] before xs) ∙ none)).0
 
   -- the first fault of a group, after groups that have none and entries of its own that have none
-  pub stops_in : (before xs : List Entry) (i : ℕ) (entry : Entry) (fault : Verdict) → i < length xs → entry ≡ get_or xs i entry
+  pub stops_in : (before xs : List Entry) (i : ℕ) (entry : Entry) (fault : Fault) → i < length xs → entry ≡ get_or xs i entry
       → entries_fault snapshot [] (before ++ take i xs) ≡ None → entry_fault snapshot (has (voters_in (before ++ take i xs)) entry.voter) entry ≡ Some fault
       → entries_fault snapshot before xs ≡ Some fault
   stops_in before xs i entry fault below is none faulty =
@@ -147,7 +147,7 @@ module _ (snapshot : Snapshot) where
       ∙ ap (λ o. first_of (o ∷ entries_fault snapshot ((before ++ take i xs) ++ entry ∷ []) rest ∷ [])) faulty)))
 
   -- the first fault of a solution, after groups that have none
-  pub stops_at_group : (solution : List (List Entry)) (place : ℕ) (fault : Verdict) → place < length solution
+  pub stops_at_group : (solution : List (List Entry)) (place : ℕ) (fault : Fault) → place < length solution
       → entries_fault snapshot [] (entries_of (take place solution)) ≡ None
       → entries_fault snapshot (entries_of (take place solution)) (get_or solution place []) ≡ Some fault
       → entries_fault snapshot [] (entries_of solution) ≡ Some fault
