@@ -34,6 +34,6 @@ abbrev pub empty_groups : ℕ → List (List Entry)
 empty_groups groups = map (λ group. []) (range_with_len 0 groups)
 
 -- each target that a u16 can name is marked exactly where an edge to it is kept
-pub record AreMarks (kept : List (List Edge)) (marks : List Bool) : Type 0 where
+pub record AreKeptMarks (kept : List (List Edge)) (marks : List Bool) : Type 0 where
   pub count : length marks ≡ NAMES
   pub are : (target : ℕ) → target < NAMES → slice_index_or marks target false ≡ is_kept kept target

@@ -5,8 +5,7 @@ use Rattle.std.specs.List.{list_any, range_with_len, IsDistinct}
 use Rattle.npos_base.specs.declared.figures.Edge.{Edge}
 use Rattle.npos_base.specs.declared.limits.TheConstants.{MOST_VOTERS}
 use Rattle.compact_solution.specs.declared.entry.Share.{Share}
-use Rattle.compact_solution.specs.declared.entry.TheConstants.{WHOLE_STAKE}
-use Rattle.compact_solution.specs.Solution.{Entry, plain_groups}
+use Rattle.compact_solution.specs.Solution.{Entry, plain_groups, whole_stake}
 
 -- ## What a voter keeps
 
@@ -17,9 +16,9 @@ edges_of edges voter = filter (λ edge. nat_eq edge.voter voter) edges
 abbrev pub stake_at : List ℕ → ℕ → ℕ
 stake_at stakes voter = slice_index_or stakes voter 0
 
--- how many parts of its voter's stake an edge gives, of WHOLE_STAKE in all, rounded down
+-- how many parts of its voter's stake an edge gives, of whole_stake in all, rounded down
 abbrev pub parts_in : ℕ → Edge → ℕ
-parts_in stake edge = edge.amount * WHOLE_STAKE / stake
+parts_in stake edge = edge.amount * whole_stake / stake
 
 abbrev pub has_part : ℕ → Edge → Bool
 has_part stake edge = nat_lt 0 (parts_in stake edge)
@@ -117,9 +116,13 @@ abbrev pub lower : Option ℕ → ℕ → Option ℕ
 lower None number = Some number
 lower (Some least) number = Some (min least number)
 
+-- the lowest number that passes, if there is one
+abbrev pub lowest_where : (ℕ → Bool) → List ℕ → Option ℕ
+lowest_where test numbers = fold lower None (filter test numbers)
+
 -- the lowest of the members to which no edge is kept, if there is one
 abbrev pub lost_among : List (List Edge) → List ℕ → Option ℕ
-lost_among kept members = fold lower None (filter (λ member. not (is_kept kept member)) members)
+lost_among kept members = lowest_where (λ member. not (is_kept kept member)) members
 
 -- ## The solution
 

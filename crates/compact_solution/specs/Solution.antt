@@ -20,11 +20,15 @@ pub record Entry : Type 0 where
   pub shares : List Share
   pub last : ℕ
 
+-- the whole of a voter's stake, of which its shares are parts
+abbrev pub whole_stake : ℕ
+whole_stake = 65535
+
 -- the targets of an entry, in order
 abbrev pub targets_of : Entry → List ℕ
 targets_of entry = map (λ share. share.target) entry.shares ++ entry.last ∷ []
 
--- the shares of its targets but the last, in parts of WHOLE_STAKE
+-- the shares of its targets but the last, in parts of whole_stake
 abbrev pub parts_of : Entry → List ℕ
 parts_of entry = map (λ share. share.parts) entry.shares
 

@@ -1,8 +1,8 @@
 //! The entries of kept edges, and the members that are lost.
-ghost use Rattle.std.specs.Prelude.{◌≡◌, ◌≢◌, ◌<◌, ◌≤◌, ◌-◌, ◌||◌, ℕ, All, [], ◌∷◌, ◌++◌, false, map, length, IfOk, OnOk, slice_index_or, slice_set};
+ghost use Rattle.std.specs.Prelude.{◌≡◌, ◌≢◌, ◌<◌, ◌≤◌, ◌-◌, ◌||◌, ℕ, All, [], ◌∷◌, ◌++◌, false, not, map, length, IfOk, OnOk, slice_index_or, slice_set};
 ghost use Rattle.std.specs.List.{list_any};
-ghost use Rattle.compact_solution.specs.Packing.{leads_to, lost_among, entry_of, share_of, grouped, lower as lower_of};
-ghost use Rattle.compact_solution.specs.Choosing.{Fits, AreMarks, AllKeptFit, empty_groups};
+ghost use Rattle.compact_solution.specs.Packing.{leads_to, lost_among, lowest_where, entry_of, share_of, grouped, lower as lower_of};
+ghost use Rattle.compact_solution.specs.Choosing.{Fits, AreKeptMarks, AllKeptFit, empty_groups};
 
 use crate::choosing::parts_in;
 use crate::entry::{Entry, Share};
@@ -22,7 +22,7 @@ pub(crate) fn lowest_lost(
 {
     let mut marks = no_marks(alloc, NAMES)?;
     mark_all(&mut marks, kept);
-    Ok(lowest_unmarked(&marks, kept, members))
+    Ok(lowest_unmarked(&marks, members))
 }
 
 /// As many marks, none of them set.
@@ -37,8 +37,8 @@ fn no_marks(alloc: Global, count: usize) -> Result<Vec<bool>, NoMemory>
 /// Marks the targets of all edges.
 #[tactic(auto, using(crate::proofs::PackLemmas::marks_more))]
 fn mark_all(marks: &mut [bool], kept: &[List<Edge>])
-    requires { AreMarks [] marks.old }
-    ensures { AreMarks kept.now marks.new }
+    requires { AreKeptMarks [] marks.old }
+    ensures { AreKeptMarks kept.now marks.new }
 {
     for edges in kept {
         mark(marks, edges.as_slice());
@@ -59,10 +59,11 @@ fn mark(marks: &mut [bool], edges: &[Edge])
 }
 
 /// The lowest member that is not marked.
-#[tactic(auto, using(crate::proofs::PackLemmas::lost_more))]
-fn lowest_unmarked(marks: &[bool], _kept: &[List<Edge>], members: &[u16]) -> Option<u16>
-    requires { AreMarks _kept.now marks.now }
-    ensures { result ≡ lost_among _kept.now members.now }
+#[tactic(auto, using(crate::proofs::PackLemmas::lowest_more))]
+fn lowest_unmarked(marks: &[bool], members: &[u16]) -> Option<u16>
+    requires { length marks.now ≡ NAMES }
+    ensures { result
+        ≡ lowest_where (λ member. not (slice_index_or marks.now member false)) members.now }
 {
     let mut lowest = None;
     for member in members {

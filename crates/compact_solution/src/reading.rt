@@ -1,5 +1,5 @@
 //! Reading the groups of a solution.
-ghost use Rattle.std.specs.Prelude.{◌<◌, ◌≤◌};
+ghost use Rattle.std.specs.Prelude.{◌≡◌, ◌<◌, ◌≤◌, ◌+◌, ◌*◌, ◌/◌, min};
 ghost use Rattle.scale_wire.specs.Composite.{items as items_of};
 ghost use Rattle.scale_wire.specs.Reading.{Takes, Reads};
 ghost use Rattle.compact_solution.specs.Solution.{share_form, entry_form, group_form, groups_form};
@@ -61,8 +61,18 @@ fn read_entries(
     }
 }
 
+// How many of so many entries the bytes left can hold, at a byte for each number: an entry with
+// this many shares has the voter, a target and a share each, and the last target.
+fn room_for(count: u32, left: usize, shares: usize) -> usize
+    requires { shares < MOST_NOMINATIONS }
+    ensures held { 2 * result ≤ left }
+    ensures room { result ≡ min (left / (2 * shares + 2)) count }
+{
+    (left / (2 * shares + 2)).min(count as usize)
+}
+
 // This many entries of a single target. Room is made at once for those that the bytes left can
-// hold, at a byte for each number, so none is wanting. A function by itself keeps what its loop
+// hold, so none is wanting. A function by itself keeps what its loop
 // needs in registers.
 #[inline(never)]
 fn read_singles(
@@ -73,8 +83,8 @@ fn read_singles(
     ensures { Reads (items_of (entry_form 0) count) cursor.old result cursor.new }
 {
     let mut here = cursor.fork();
-    let room = here.rest().len() / 2;
-    let mut entries = Vec::with_capacity(alloc, room.min(count as usize))?;
+    let room = room_for(count, here.rest().len(), 0);
+    let mut entries = Vec::with_capacity(alloc, room)?;
     for _ in 0..count {
         entries.push_reserved(take_single(alloc, &mut here)?);
     }
@@ -93,8 +103,7 @@ fn take_single(alloc: Global, cursor: &mut Cursor<'_>) -> Result<Entry, WireFaul
     Ok(Entry::new(voter, List::new(alloc), target))
 }
 
-// This many entries with shares. Room is made at once for those that the bytes left can hold, at
-// two bytes for each target.
+// This many entries with shares. Room is made at once for those that the bytes left can hold.
 fn read_shared(
     alloc: Global,
     cursor: &mut Cursor<'_>,
@@ -105,8 +114,8 @@ fn read_shared(
     ensures { Reads (items_of (entry_form shares) count) cursor.old result cursor.new }
 {
     let mut here = cursor.fork();
-    let room = here.rest().len() / (2 * shares + 2);
-    let mut entries = Vec::with_capacity(alloc, room.min(count as usize))?;
+    let room = room_for(count, here.rest().len(), shares);
+    let mut entries = Vec::with_capacity(alloc, room)?;
     for _ in 0..count {
         entries.push(read_entry(alloc, &mut here, shares)?)?;
     }
