@@ -1,19 +1,18 @@
 -- A packed Yes is a plain Yes.
-use Rattle.std.proofs.Common.{◌≡◌, ℕ, Bool, true, false, not, ◌&&◌, nat_eq, List, [], ◌∷◌, ◌++◌, Option, Some, None, option_map, find, refl, ap, ◌∙◌}
-use Rattle.std.specs.Prelude.{nat_le, length, Result, Ok, Err}
-use Rattle.std.specs.List.{AllByRecursion}
+use Rattle.std.proofs.Common.{◌≡◌, ℕ, true, not, ◌&&◌, nat_eq, List, [], ◌∷◌, refl, ap, ◌∙◌}
+use Rattle.std.specs.Prelude.{Result, Ok, Err}
 use Rattle.std.proofs.lemmas.Bool.{not-false, eqb-true, and_parts}
 use Rattle.npos_base.specs.declared.figures.Score.{Score}
 use Rattle.scale_wire.specs.declared.fault.WireFault.{WireFault}
-use Rattle.election_snapshot.specs.Snapshot.{Snapshot, has, nominates}
+use Rattle.election_snapshot.specs.Snapshot.{Snapshot}
 use Rattle.weight_book.specs.Scoring.{score_of}
-use Rattle.compact_solution.specs.Solution.{Entry, targets_of, entries_of}
+use Rattle.compact_solution.specs.Solution.{Entry, entries_of}
 use Rattle.compact_solution.specs.Decoded.{decoded}
 use Rattle.election_check.specs.declared.fault.Fault.TheVariants.{WrongScore}
 use Rattle.election_check.specs.declared.verdict.Verdict.TheVariants.{Yes}
-use Rattle.election_check.specs.First.{when, first_of, or_yes}
+use Rattle.election_check.specs.First.{or_yes}
 use Rattle.election_check.specs.Laws.{IsAccepted}
-use Rattle.election_check.specs.Packed.{expanded, first_repeat, unknown_target, repeated_target, unnominated_target, has_bad_share, entry_fault, voters_in, entries_fault, expand_fault, same_score, score_fault, solution_fault, verdict_solution, verdict_decoded, verdict_packed, weights_decoded, given}
+use Rattle.election_check.specs.Packed.{expanded, entries_fault, expand_fault, same_score, score_fault, solution_fault, verdict_solution, verdict_decoded, verdict_packed, weights_decoded, given}
 use Rattle.election_check.specs.Steps.{size_fault, outweighed}
 use Rattle.election_check.proofs.FaultLemmas.{yes_is_none}
 use Rattle.election_check.proofs.FirstLemmas.{when_none, first_none}

@@ -16,8 +16,7 @@ use Rattle.weight_book.specs.Weights.{Follows, IsFeasible, same_pair, spent, amo
 use Rattle.weight_book.specs.Room.{vote_count}
 use Rattle.weight_book.proofs.SumLemmas.{sum_covered, sum_filter-cons, sum_of_ones, sum_le}
 use Rattle.compact_solution.specs.declared.entry.Share.{Share}
-use Rattle.compact_solution.specs.Solution.{Entry, targets_of, parts_of}
-use Rattle.compact_solution.specs.declared.entry.TheConstants.{WHOLE_STAKE}
+use Rattle.compact_solution.specs.Solution.{Entry, targets_of, parts_of, whole_stake}
 use Rattle.election_check.specs.declared.fault.Fault.TheVariants.{NoVoter, NoTarget, VoterTwice, TargetTwice, NotNominated, BadShare, WrongSize}
 use Rattle.election_check.specs.First.{when}
 use Rattle.election_check.specs.Steps.{size_fault}
@@ -57,7 +56,7 @@ pub record IsSound (snapshot : Snapshot) (entry : Entry) : Type 0 where
   pub targets : All (λ target. target < length snapshot.targets) (targets_of entry)
   pub distinct : IsDistinct nat_eq (targets_of entry)
   pub nominated : All (λ target. nominates snapshot entry.voter target ≡ true) (targets_of entry)
-  pub shares : sum (parts_of entry) < WHOLE_STAKE
+  pub shares : sum (parts_of entry) < whole_stake
 
 pub entry_sound : (snapshot : Snapshot) (is_repeated : Bool) (entry : Entry) → entry_fault snapshot is_repeated entry ≡ None
     → IsSound snapshot entry × (is_repeated ≡ false)
@@ -83,8 +82,8 @@ entry_sound snapshot is_repeated entry none =
         targets = λ k d below. leb-false (length snapshot.targets) (get_or (targets_of entry) k d) (known k d below);
         distinct = (no_repeat [] (targets_of entry) (mapped_none TargetTwice (first_repeat [] (targets_of entry)) p4)).1;
         nominated = λ k d below. not-false (nominates snapshot entry.voter (get_or (targets_of entry) k d)) (voted k d below);
-        shares = leb-false WHOLE_STAKE (sum (parts_of entry))
-            (or_parts (list_any (λ parts. nat_eq parts 0) (parts_of entry)) (nat_le WHOLE_STAKE (sum (parts_of entry))) (when_none (has_bad_share entry) (BadShare entry.voter) p6)).1;
+        shares = leb-false whole_stake (sum (parts_of entry))
+            (or_parts (list_any (λ parts. nat_eq parts 0) (parts_of entry)) (nat_le whole_stake (sum (parts_of entry))) (when_none (has_bad_share entry) (BadShare entry.voter) p6)).1;
       },
       when_none is_repeated (VoterTwice entry.voter) p3,
     )
@@ -120,19 +119,19 @@ length_of_edges stake entry =
 more_within : (a b w s p q : ℕ) → a * w ≤ s * p → b * w ≤ s * q → (a + b) * w ≤ s * (p + q)
 more_within a b w s p q here there = grind arith
 
-amounts_within : (stake : ℕ) (shares : List Share) → sum_by (amount_of stake) shares * WHOLE_STAKE ≤ stake * sum_by (λ (share : Share). share.parts) shares
+amounts_within : (stake : ℕ) (shares : List Share) → sum_by (amount_of stake) shares * whole_stake ≤ stake * sum_by (λ (share : Share). share.parts) shares
 amounts_within stake [] = omega arith
 amounts_within stake (share ∷ shares) =
     rw (sum_by-cons (amount_of stake) share shares, sum_by-cons (λ (s : Share). s.parts) share shares)
-    (more_within (amount_of stake share) (sum_by (amount_of stake) shares) WHOLE_STAKE stake share.parts (sum_by (λ (s : Share). s.parts) shares)
-    (div-mul-le_self (stake * share.parts) WHOLE_STAKE) (amounts_within stake shares))
+    (more_within (amount_of stake share) (sum_by (amount_of stake) shares) whole_stake stake share.parts (sum_by (λ (s : Share). s.parts) shares)
+    (div-mul-le_self (stake * share.parts) whole_stake) (amounts_within stake shares))
 
 -- the shares are within the stake
-pub shares_within : (stake : ℕ) (entry : Entry) → sum (parts_of entry) < WHOLE_STAKE → sum_by (amount_of stake) entry.shares ≤ stake
+pub shares_within : (stake : ℕ) (entry : Entry) → sum (parts_of entry) < whole_stake → sum_by (amount_of stake) entry.shares ≤ stake
 shares_within stake entry fits =
     let parts : sum (parts_of entry) ≡ sum_by (λ (share : Share). share.parts) entry.shares = sum-map (λ (share : Share). share.parts) entry.shares in
-    let within : sum_by (amount_of stake) entry.shares * WHOLE_STAKE ≤ stake * sum_by (λ (share : Share). share.parts) entry.shares = amounts_within stake entry.shares in
-    let most : stake * sum_by (λ (share : Share). share.parts) entry.shares ≤ stake * WHOLE_STAKE = mul-le-mul_left stake (omega (arith, fits, parts)) in
+    let within : sum_by (amount_of stake) entry.shares * whole_stake ≤ stake * sum_by (λ (share : Share). share.parts) entry.shares = amounts_within stake entry.shares in
+    let most : stake * sum_by (λ (share : Share). share.parts) entry.shares ≤ stake * whole_stake = mul-le-mul_left stake (omega (arith, fits, parts)) in
     omega (arith, within, most)
 
 -- ## What entries spend
@@ -144,7 +143,7 @@ edge_amounts stake voter (share ∷ shares) =
     ∙ (ap (λ n. amount_of stake share + n) (edge_amounts stake voter shares) ∙ sym (sum_by-cons (amount_of stake) share shares))
 
 -- the edges of an entry give the whole stake
-pub amounts_of_edges : (stake : ℕ) (entry : Entry) → sum (parts_of entry) < WHOLE_STAKE → amount_sum (edges_of stake entry) ≡ stake
+pub amounts_of_edges : (stake : ℕ) (entry : Entry) → sum (parts_of entry) < whole_stake → amount_sum (edges_of stake entry) ≡ stake
 amounts_of_edges stake entry fits =
     let last : Edge = record { voter = entry.voter; target = entry.last; amount = rest_of stake entry.shares } in
     let both : amount_sum (edges_of stake entry) ≡ amount_sum (map (edge_of stake entry.voter) entry.shares) + amount_sum (last ∷ []) =

@@ -16,8 +16,7 @@ use Rattle.election_snapshot.specs.Snapshot.{Snapshot, has, stake_of}
 use Rattle.npos_base.specs.declared.figures.Edge.{Edge}
 use Rattle.weight_book.specs.Weights.{Weights}
 use Rattle.weight_book.specs.Room.{WeightBook, HasRoom, KeepsRoom, vote_count}
-use Rattle.compact_solution.specs.Solution.{Entry, targets_of, entries_of}
-use Rattle.compact_solution.specs.declared.entry.TheConstants.{WHOLE_STAKE}
+use Rattle.compact_solution.specs.Solution.{Entry, targets_of, entries_of, whole_stake}
 use Rattle.election_check.specs.declared.fault.Fault.{Fault}
 use Rattle.election_check.specs.First.{answer_of, first_of}
 use Rattle.election_check.specs.Packed.{edges_of, listed_in, weights_of, entry_fault, voters_in, entries_fault}
@@ -27,7 +26,7 @@ use Rattle.election_check.proofs.ListFacts.{find_none_all}
 use Rattle.election_check.proofs.SoundLemmas.{entry_sound, edges_within, length_of_edges}
 
 -- a stake that is split at a multiple of all parts
-pub parts_of_whole : (stake parts : ℕ) → stake / 65535 * parts + stake % 65535 * parts / 65535 ≡ stake * parts / WHOLE_STAKE
+pub parts_of_whole : (stake parts : ℕ) → stake / 65535 * parts + stake % 65535 * parts / 65535 ≡ stake * parts / whole_stake
 parts_of_whole stake parts =
     let split : stake / 65535 * 65535 + stake % 65535 ≡ stake = omega arith in
     let product : stake / 65535 * parts * 65535 + stake % 65535 * parts ≡ stake * parts = regroup stake (stake / 65535) (stake % 65535) 65535 parts split in

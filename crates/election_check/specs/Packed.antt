@@ -9,8 +9,7 @@ use Rattle.election_snapshot.specs.Snapshot.{Snapshot, has, nominates, stake_of}
 use Rattle.weight_book.specs.Weights.{Weights, no_weights}
 use Rattle.weight_book.specs.Scoring.{score_of}
 use Rattle.compact_solution.specs.declared.entry.Share.{Share}
-use Rattle.compact_solution.specs.declared.entry.TheConstants.{WHOLE_STAKE}
-use Rattle.compact_solution.specs.Solution.{Entry, targets_of, parts_of, entries_of}
+use Rattle.compact_solution.specs.Solution.{Entry, targets_of, parts_of, entries_of, whole_stake}
 use Rattle.compact_solution.specs.Decoded.{decoded}
 use Rattle.election_check.specs.declared.fault.Fault.{Fault}
 use Rattle.election_check.specs.declared.fault.Fault.TheVariants.{NoVoter, NoTarget, VoterTwice, TargetTwice, NotNominated, BadShare, WrongScore}
@@ -23,7 +22,7 @@ use Rattle.election_check.specs.Steps.{size_fault, outweighed}
 
 -- what a share of this stake is, rounded down
 abbrev pub amount_of : ℕ → Share → ℕ
-amount_of stake share = stake * share.parts / WHOLE_STAKE
+amount_of stake share = stake * share.parts / whole_stake
 
 -- the edge of a share, of a voter with this stake
 abbrev pub edge_of : ℕ → ℕ → Share → Edge
@@ -78,7 +77,7 @@ unnominated_target snapshot entry =
 -- a share is nothing, or the shares leave nothing for the last target
 abbrev pub has_bad_share : Entry → Bool
 has_bad_share entry =
-    list_any (λ parts. nat_eq parts 0) (parts_of entry) || nat_le WHOLE_STAKE (sum (parts_of entry))
+    list_any (λ parts. nat_eq parts 0) (parts_of entry) || nat_le whole_stake (sum (parts_of entry))
 
 -- the first fault of an entry, whose voter stands in an earlier one or not
 abbrev pub entry_fault : Snapshot → Bool → Entry → Option Fault
