@@ -146,7 +146,9 @@ mark_more edges i d first old h count short before target below = elim (eqb_tell
 -- one number more
 pub lowest_more : (test : ℕ → Bool) (numbers : List ℕ) (i d : ℕ) → i < length numbers
     → lowest_where test (take (i + 1) numbers)
-    ≡ (if test (get_or numbers i d) then lower (lowest_where test (take i numbers)) (get_or numbers i d) else lowest_where test (take i numbers))
+    ≡ (if test (get_or numbers i d)
+    then lower (lowest_where test (take i numbers)) (get_or numbers i d)
+    else lowest_where test (take i numbers))
 lowest_more test numbers i d h =
     ap (λ (passed : List ℕ). fold lower None passed) (filter_more test numbers i d h) ∙ at (test (get_or numbers i d)) where
       before : List ℕ
@@ -158,14 +160,16 @@ lowest_more test numbers i d h =
       at false = ap (λ (passed : List ℕ). fold lower None passed) (append-nil before)
 
 -- the members that are not marked are those that are lost
-pub unmarked_lost : (kept : List (List Edge)) (marks : List Bool) (members : List ℕ) → AreKeptMarks kept marks → ((i : ℕ) → get_or members i 0 < 65536)
+pub unmarked_lost : (kept : List (List Edge)) (marks : List Bool) (members : List ℕ) → AreKeptMarks kept marks
+    → ((i : ℕ) → get_or members i 0 < 65536)
     → lowest_where (λ member. not (get_or marks member false)) members ≡ lost_among kept members
 unmarked_lost kept marks members are small = ap (fold lower None) (same members small) where
   same : (members : List ℕ) → ((i : ℕ) → get_or members i 0 < 65536)
       → filter (λ member. not (get_or marks member false)) members ≡ filter (λ member. not (is_kept kept member)) members
   same [] small = refl
   same (member ∷ members) small =
-      ap (λ (b : Bool). cond (not b) (member ∷ filter (λ m. not (get_or marks m false)) members) (filter (λ m. not (get_or marks m false)) members)) (are.are member (small 0))
+      let rest = filter (λ m. not (get_or marks m false)) members in
+      ap (λ (b : Bool). cond (not b) (member ∷ rest) rest) (are.are member (small 0))
       ∙ ap (λ (rest : List ℕ). cond (not (is_kept kept member)) (member ∷ rest) rest) (same members (λ i. small (suc i)))
 
 pub all_lower : (edge : Edge) (edges : List Edge) (n : ℕ) → length edges ≤ n → All (λ (other : Edge). other.target ≤ edge.target) (take n edges) → insert edges (length edges) edge ≡ placed edges edge

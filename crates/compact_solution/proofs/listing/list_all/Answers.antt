@@ -15,10 +15,22 @@ pub list_entry-requires-clause-few : goal.list_entry-requires-clause-few
 list_entry-requires-clause-few c =
     let here = c.as_slice.ensures ∙ get_or_read_under c.args.kept.now c.loop-voter.voter (length c.args.stakes.now) c.index-kept-voter.result [] c.index-kept-voter.is c.loop-voter-test.true (sym c.requires.lists) in
     let few = All-get_or (λ edges. length edges ≤ length c.args.groups.now) c.args.kept.now c.loop-voter.voter [] (omega (arith, c.loop-voter-test.true, c.requires.lists)) c.requires.few in
-    omega (arith, ap length here, few, ap length c.loop-voter.invariant, many_groups (length c.args.groups.now) c.args.stakes.now c.args.kept.now 0 c.loop-voter.voter)
+    omega (
+      arith,
+      ap length here,
+      few,
+      ap length c.loop-voter.invariant,
+      many_groups (length c.args.groups.now) c.args.stakes.now c.args.kept.now 0 c.loop-voter.voter,
+    )
 
 pub list_entry-requires-clause-most : goal.list_entry-requires-clause-most
-list_entry-requires-clause-most c = omega (arith, c.requires.most, ap length c.loop-voter.invariant, many_groups (length c.args.groups.now) c.args.stakes.now c.args.kept.now 0 c.loop-voter.voter)
+list_entry-requires-clause-most c =
+    omega (
+      arith,
+      c.requires.most,
+      ap length c.loop-voter.invariant,
+      many_groups (length c.args.groups.now) c.args.stakes.now c.args.kept.now 0 c.loop-voter.voter,
+    )
 
 pub loop-voter-preserved : goal.loop-voter-preserved
 loop-voter-preserved c =

@@ -27,4 +27,5 @@ returns c =
     let behind = drop (length c.list_all.new.groups) c.in_ok-groups.groups.items in
     c.from_vec.ensures
     ∙ (ap (λ n. take n (c.list_all.new.groups ++ behind)) long ∙ take-append_seam c.list_all.new.groups behind
-    ∙ (c.in_ok-list_all.ensures ∙ ap (λ n. grouped n c.args.stakes.now c.args.kept.now (length c.args.stakes.now)) (ap length made ∙ many_empty c.args.count)))
+    ∙ (c.in_ok-list_all.ensures
+    ∙ ap (λ n. grouped n c.args.stakes.now c.args.kept.now (length c.args.stakes.now)) (ap length made ∙ many_empty c.args.count)))

@@ -9,7 +9,8 @@ returns c =
     let marks = c.mark_all.new.marks in
     let long : c.in_ok-marks.marks.len ≡ length marks = search rules in
     let behind = drop (length marks) c.in_ok-marks.marks.items in
-    let same : c.deref.result.now ≡ marks = c.deref.ensures.value ∙ (ap (λ n. take n (marks ++ behind)) long ∙ take-append_seam marks behind) in
+    let same : c.deref.result.now ≡ marks =
+    c.deref.ensures.value ∙ (ap (λ n. take n (marks ++ behind)) long ∙ take-append_seam marks behind) in
     c.lowest_unmarked.ensures
     ∙ (ap (λ (table : List Bool). lowest_where (λ member. not (get_or table member false)) c.args.members.now) same
     ∙ unmarked_lost c.args.kept.now marks c.args.members.now c.mark_all.ensures (λ i. omega (arith, c.type_inv.members i)))

@@ -4,7 +4,9 @@ use Rattle.compact_solution.proofs.reading.room_for.Goals as goal
 
 pub returns-clause-held : goal.returns-clause-held
 returns-clause-held c =
-    let whole : (2 * c.args.shares + 2) * (c.args.left / (2 * c.args.shares + 2)) ≤ c.args.left = mul-div-le c.args.left (2 * c.args.shares + 2) in
-    let within : c.min.result ≤ c.args.left / (2 * c.args.shares + 2) = search rules in
-    let pairs : 2 * (c.args.left / (2 * c.args.shares + 2)) ≤ (2 * c.args.shares + 2) * (c.args.left / (2 * c.args.shares + 2)) = mul-le-mul_right (c.args.left / (2 * c.args.shares + 2)) (omega arith) in
+    let size = 2 * c.args.shares + 2 in
+    let most = c.args.left / size in
+    let whole : size * most ≤ c.args.left = mul-div-le c.args.left size in
+    let within : c.min.result ≤ most = search rules in
+    let pairs : 2 * most ≤ size * most = mul-le-mul_right most (omega arith) in
     omega (arith, whole, within, pairs)
