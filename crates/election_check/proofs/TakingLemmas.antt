@@ -19,7 +19,7 @@ use Rattle.weight_book.specs.Room.{WeightBook, HasRoom, KeepsRoom, vote_count}
 use Rattle.compact_solution.specs.Solution.{Entry, targets_of, entries_of, whole_stake}
 use Rattle.election_check.specs.declared.fault.Fault.{Fault}
 use Rattle.election_check.specs.First.{answer_of, first_of}
-use Rattle.election_check.specs.Packed.{edges_of, listed_in, weights_of, entry_fault, voters_in, entries_fault}
+use Rattle.election_check.specs.Packed.{entry_edges, listed_in, weights_of, entry_fault, voters_in, entries_fault}
 use Rattle.election_check.specs.Taking.{AreTaken}
 use Rattle.election_check.proofs.FirstLemmas.{first_none}
 use Rattle.election_check.proofs.ListFacts.{find_none_all}
@@ -171,9 +171,9 @@ module _ (snapshot : Snapshot) where
     still_sound : entries_fault snapshot [] (done ++ entry ∷ []) ≡ None
     still_sound = sound_more done entry taken.sound fine_behind
 
-    edges_more : (weights_of snapshot (done ++ entry ∷ [])).edges ≡ (weights_of snapshot done).edges ++ edges_of (stake_of snapshot entry.voter) entry
-    edges_more = flat_map-append (λ (e : Entry). edges_of (stake_of snapshot e.voter) e) done (entry ∷ [])
-        ∙ ap (λ es. (weights_of snapshot done).edges ++ es) (append-nil (edges_of (stake_of snapshot entry.voter) entry))
+    edges_more : (weights_of snapshot (done ++ entry ∷ [])).edges ≡ (weights_of snapshot done).edges ++ entry_edges (stake_of snapshot entry.voter) entry
+    edges_more = flat_map-append (λ (e : Entry). entry_edges (stake_of snapshot e.voter) e) done (entry ∷ [])
+        ∙ ap (λ es. (weights_of snapshot done).edges ++ es) (append-nil (entry_edges (stake_of snapshot entry.voter) entry))
 
     -- there is room for the edges of one entry more
     pub room_for : length (targets_of entry) ≤ book.edge_spare
@@ -183,7 +183,7 @@ module _ (snapshot : Snapshot) where
           arith,
           within,
           ap length edges_more,
-          length-append (weights_of snapshot done).edges (edges_of (stake_of snapshot entry.voter) entry),
+          length-append (weights_of snapshot done).edges (entry_edges (stake_of snapshot entry.voter) entry),
           length_of_edges (stake_of snapshot entry.voter) entry,
           ap length taken.edges,
           taken.room.edges,
@@ -198,7 +198,7 @@ module _ (snapshot : Snapshot) where
 
     module _ (marks' : List Bool) (stamps' : List ℕ) (book' : WeightBook) (voters : length marks ≡ length snapshot.voters) (marked : marks' ≡ slice_set marks entry.voter true)
         (stamped : (target : ℕ) → get_or stamps' target 0 ≡ (if has (targets_of entry) target then entry.voter + 1 else get_or stamps target 0))
-        (edges : book'.plain.edges ≡ book.plain.edges ++ edges_of (stake_of snapshot entry.voter) entry)
+        (edges : book'.plain.edges ≡ book.plain.edges ++ entry_edges (stake_of snapshot entry.voter) entry)
         (members : book'.plain.committee ≡ book.plain.committee) (room : KeepsRoom book book') where
       in_range : entry.voter < length marks
       in_range = omega (arith, (entry_sound snapshot (has (voters_in done) entry.voter) entry fine_behind).0.voter, voters)
@@ -239,7 +239,7 @@ module _ (snapshot : Snapshot) where
         stamped = stamped_more;
         own = own_more;
         committee = members ∙ taken.committee;
-        edges = edges ∙ (ap (λ es. es ++ edges_of (stake_of snapshot entry.voter) entry) taken.edges ∙ sym edges_more);
+        edges = edges ∙ (ap (λ es. es ++ entry_edges (stake_of snapshot entry.voter) entry) taken.edges ∙ sym edges_more);
         room = has_room_then snapshot book book' taken.room room;
       }
 

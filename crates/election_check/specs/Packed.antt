@@ -33,8 +33,8 @@ abbrev pub rest_of : ℕ → List Share → ℕ
 rest_of stake shares = stake - sum_by (amount_of stake) shares
 
 -- the edges of an entry whose voter has this stake, in the order of its targets
-abbrev pub edges_of : ℕ → Entry → List Edge
-edges_of stake entry =
+abbrev pub entry_edges : ℕ → Entry → List Edge
+entry_edges stake entry =
     map (edge_of stake entry.voter) entry.shares
     ++ record { voter = entry.voter; target = entry.last; amount = rest_of stake entry.shares } ∷ []
 
@@ -46,7 +46,7 @@ listed_in entries = flat_map targets_of entries
 abbrev pub weights_of : Snapshot → List Entry → Weights
 weights_of snapshot entries = record {
   committee = filter (has (listed_in entries)) (range_with_len 0 (length snapshot.targets));
-  edges = flat_map (λ entry. edges_of (stake_of snapshot entry.voter) entry) entries;
+  edges = flat_map (λ entry. entry_edges (stake_of snapshot entry.voter) entry) entries;
 }
 
 abbrev pub expanded : Snapshot → List (List Entry) → Weights

@@ -6,7 +6,7 @@ ghost use Rattle.weight_book.specs.Weights.{no_weights, IsFeasible};
 ghost use Rattle.weight_book.specs.Room.{HasRoom, KeepsRoom};
 ghost use Rattle.compact_solution.specs.Solution.{targets_of, parts_of, entries_of};
 ghost use Rattle.election_check.specs.First.{answer_of};
-ghost use Rattle.election_check.specs.Packed.{expanded, expand_fault, entries_fault, entry_fault, first_repeat, has_bad_share, edges_of, score_fault};
+ghost use Rattle.election_check.specs.Packed.{expanded, expand_fault, entries_fault, entry_fault, first_repeat, has_bad_share, entry_edges, score_fault};
 ghost use Rattle.election_check.specs.Taking.{AreTaken, IsTaken};
 
 use crate::fault::Fault;
@@ -318,14 +318,15 @@ fn has_bad_share(entry: &Entry) -> bool
 fn push_edges(stake: u64, entry: &Entry, weights: &mut Weights)
     requires spare { length (targets_of entry.now) ≤ weights.old.edge_spare }
     requires shares { sum (parts_of entry.now) < WHOLE_STAKE }
-    ensures edges { weights.new.plain.edges ≡ weights.old.plain.edges ++ edges_of stake entry.now }
+    ensures edges { weights.new.plain.edges
+        ≡ weights.old.plain.edges ++ entry_edges stake entry.now }
     ensures members { weights.new.plain.committee ≡ weights.old.plain.committee }
     ensures room { KeepsRoom weights.old weights.new }
 {
     let voter = entry.voter();
     let mut rest = stake;
     for share in entry.shares() {
-        let amount = share_of(stake, share.parts);
+        let amount = amount_of(stake, share.parts);
         weights.push_edge(Edge {
             voter,
             target: share.target,
@@ -342,7 +343,7 @@ fn push_edges(stake: u64, entry: &Entry, weights: &mut Weights)
 
 /// So many parts of the stake, rounded down. The product of the two may not fit, so the stake is
 /// split at a multiple of all parts.
-fn share_of(stake: u64, parts: u16) -> u64
+fn amount_of(stake: u64, parts: u16) -> u64
     ensures { result ≡ stake * parts / WHOLE_STAKE }
 {
     let parts = u64::from(parts);
