@@ -24,4 +24,4 @@ pub(crate) const MOST_VOTERS: u32 = npos_base::MOST_VOTERS as u32;
 pub(crate) const MOST_VOTES: u32 = 64;
 
 /// Edges of plain work.
-pub(crate) const MOST_EDGES: u32 = 262_144;
+pub(crate) const MOST_EDGES: u32 = npos_base::MOST_EDGES as u32;

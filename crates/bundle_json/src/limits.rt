@@ -4,4 +4,4 @@
 pub(crate) const MOST_VOTES: usize = 64;
 
 /// Edges of plain work.
-pub(crate) const MOST_EDGES: usize = 262_144;
+pub(crate) const MOST_EDGES: usize = npos_base::MOST_EDGES;

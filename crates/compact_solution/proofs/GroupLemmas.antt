@@ -8,8 +8,10 @@ use Rattle.std.proofs.lemmas.List.FromFn.{map-range_with_len_more, get_or-map-ra
 use Rattle.std.proofs.lemmas.Bool.{cases_lt}
 use Rattle.std.proofs.lemmas.Bool.Decides.{nat_tests, eqb_tells}
 use Rattle.npos_base.specs.declared.figures.Edge.{Edge}
-use Rattle.compact_solution.specs.Solution.{Entry, group_count}
-use Rattle.compact_solution.specs.Packing.{stake_at, kept_at, entry_of, entries_with, groups_of}
+use Rattle.npos_base.specs.declared.limits.TheConstants.{MOST_NOMINATIONS}
+use Rattle.compact_solution.specs.Solution.{Entry, plain_groups}
+use Rattle.compact_solution.specs.Choosing.{empty_groups}
+use Rattle.compact_solution.specs.Packing.{stake_at, kept_at, entry_of, entries_with, grouped}
 
 abbrev no_entries : List Entry
 no_entries = []
@@ -17,10 +19,13 @@ no_entries = []
 pub groups_more : (n : ℕ) → map {A = ℕ} {B = List Entry} (λ group. []) (range_with_len 0 (n + 1)) ≡ map (λ group. []) (range_with_len 0 n) ++ [] ∷ []
 groups_more n = map-range_with_len_more (λ (group : ℕ). no_entries) 0 n n (zero-add n)
 
+pub many_empty : (groups : ℕ) → length (empty_groups groups) ≡ groups
+many_empty groups = length-map-range_with_len (λ (group : ℕ). no_entries) 0 groups
+
 range_more : (n : ℕ) → range_with_len 0 (n + 1) ≡ range_with_len 0 n ++ n ∷ []
 range_more n = sym (map-id (range_with_len 0 (n + 1))) ∙ (map-range_with_len_more (λ (k : ℕ). k) 0 n n (zero-add n) ∙ ap (λ (ns : List ℕ). ns ++ n ∷ []) (map-id (range_with_len 0 n)))
 
-module _ (stakes : List ℕ) (kept : List (List Edge)) (n : ℕ) where
+module _ (groups : ℕ) (stakes : List ℕ) (kept : List (List Edge)) (n : ℕ) where
   abbrev entry : ℕ → Entry
   entry voter = entry_of voter (stake_at stakes voter) (kept_at kept voter)
 
@@ -37,61 +42,62 @@ module _ (stakes : List ℕ) (kept : List (List Edge)) (n : ℕ) where
         at true e = rw e refl
         at false e = rw e refl
 
-  group_at : (voters k : ℕ) (d : List Entry) → k < group_count → get_or (groups_of stakes kept voters) k d ≡ entries_with stakes kept voters (k + 1)
-  group_at voters k d h = get_or-map-range_with_len (λ (group : ℕ). entries_with stakes kept voters (group + 1)) 0 group_count k k d h (zero-add k)
+  group_at : (voters k : ℕ) (d : List Entry) → k < groups → get_or (grouped groups stakes kept voters) k d ≡ entries_with stakes kept voters (k + 1)
+  group_at voters k d h = get_or-map-range_with_len (λ (group : ℕ). entries_with stakes kept voters (group + 1)) 0 groups k k d h (zero-add k)
 
-  pub many_groups : (voters : ℕ) → length (groups_of stakes kept voters) ≡ group_count
-  many_groups voters = length-map-range_with_len (λ (group : ℕ). entries_with stakes kept voters (group + 1)) 0 group_count
+  pub many_groups : (voters : ℕ) → length (grouped groups stakes kept voters) ≡ groups
+  many_groups voters = length-map-range_with_len (λ (group : ℕ). entries_with stakes kept voters (group + 1)) 0 groups
 
   -- a voter that keeps nothing has no entry
-  pub entry_none : length (kept_at kept n) ≡ 0 → groups_of stakes kept n ≡ groups_of stakes kept (n + 1)
+  pub entry_none : length (kept_at kept n) ≡ 0 → grouped groups stakes kept n ≡ grouped groups stakes kept (n + 1)
   entry_none none =
-      same_lists (groups_of stakes kept n) (groups_of stakes kept (n + 1)) (many_groups n ∙ sym (many_groups (n + 1)))
+      same_lists (grouped groups stakes kept n) (grouped groups stakes kept (n + 1)) (many_groups n ∙ sym (many_groups (n + 1)))
       (λ k d lt.
-      let short : k < group_count = omega (arith, lt, many_groups n) in
+      let short : k < groups = omega (arith, lt, many_groups n) in
       let test : keeps (k + 1) n ≡ false = grind (arith, nat_tests, none) in
       group_at n k d short ∙ (sym (entries_more (k + 1) false test ∙ append-nil (entries_with stakes kept n (k + 1))) ∙ sym (group_at (n + 1) k d short)))
 
-  pub entry_listed : (group : ℕ) (new : List Entry) → length (kept_at kept n) ≡ group + 1 → group < group_count
-      → new ≡ get_or (groups_of stakes kept n) group [] ++ entry n ∷ [] → slice_set (groups_of stakes kept n) group new ≡ groups_of stakes kept (n + 1)
+  pub entry_listed : (group : ℕ) (new : List Entry) → length (kept_at kept n) ≡ group + 1 → group < groups
+      → new ≡ get_or (grouped groups stakes kept n) group [] ++ entry n ∷ [] → slice_set (grouped groups stakes kept n) group new ≡ grouped groups stakes kept (n + 1)
   entry_listed group new count within new_is =
-      same_lists (slice_set (groups_of stakes kept n) group new) (groups_of stakes kept (n + 1))
-      (length-set (groups_of stakes kept n) group new ∙ (many_groups n ∙ sym (many_groups (n + 1))))
-      (λ k d lt. let short : k < group_count = omega (arith, lt, length-set (groups_of stakes kept n) group new, many_groups n) in
+      same_lists (slice_set (grouped groups stakes kept n) group new) (grouped groups stakes kept (n + 1))
+      (length-set (grouped groups stakes kept n) group new ∙ (many_groups n ∙ sym (many_groups (n + 1))))
+      (λ k d lt. let short : k < groups = omega (arith, lt, length-set (grouped groups stakes kept n) group new, many_groups n) in
       elim (eqb_tells k group) [
         | inl here ↦ (let same : k ≡ group = here.1 in at_here k d same ∙ sym (group_at (n + 1) k d short))
         | inr other ↦ at_other k d short other.1 ∙ sym (group_at (n + 1) k d short)
       ]) where
-        at_here : (k : ℕ) (d : List Entry) → k ≡ group → get_or (slice_set (groups_of stakes kept n) group new) k d ≡ entries_with stakes kept (n + 1) (k + 1)
+        at_here : (k : ℕ) (d : List Entry) → k ≡ group → get_or (slice_set (grouped groups stakes kept n) group new) k d ≡ entries_with stakes kept (n + 1) (k + 1)
         at_here k d same =
             let test : keeps (group + 1) n ≡ true = grind (arith, nat_tests, count) in
-            ap (λ (i : ℕ). get_or (slice_set (groups_of stakes kept n) group new) i d) same
-            ∙ (get_or-set_same (groups_of stakes kept n) group new d (omega (arith, within, many_groups n))
+            ap (λ (i : ℕ). get_or (slice_set (grouped groups stakes kept n) group new) i d) same
+            ∙ (get_or-set_same (grouped groups stakes kept n) group new d (omega (arith, within, many_groups n))
             ∙ (new_is ∙ (ap (λ (entries : List Entry). entries ++ entry n ∷ []) (group_at n group [] within)
             ∙ (sym (entries_more (group + 1) true test) ∙ ap (λ (i : ℕ). entries_with stakes kept (n + 1) (i + 1)) (sym same)))))
 
-        at_other : (k : ℕ) (d : List Entry) → k < group_count → k ≢ group → get_or (slice_set (groups_of stakes kept n) group new) k d ≡ entries_with stakes kept (n + 1) (k + 1)
+        at_other : (k : ℕ) (d : List Entry) → k < groups → k ≢ group → get_or (slice_set (grouped groups stakes kept n) group new) k d ≡ entries_with stakes kept (n + 1) (k + 1)
         at_other k d short differ =
             let test : keeps (k + 1) n ≡ false = grind (arith, nat_tests, count, differ) in
-            get_or-set_other (groups_of stakes kept n) group k new d differ
+            get_or-set_other (grouped groups stakes kept n) group k new d differ
             ∙ (group_at n k d short ∙ sym (entries_more (k + 1) false test ∙ append-nil (entries_with stakes kept n (k + 1))))
 
-pub sixteen : group_count ≡ 16
-unfolding group_count
-sixteen = refl
-
 -- the groups after one voter, whether it keeps an edge or none
-pub voter_listed : (stakes : List ℕ) (kept : List (List Edge)) (n : ℕ) (edges : List Edge) (old new : List (List Entry)) → edges ≡ kept_at kept n → length edges ≤ 16
-    → old ≡ groups_of stakes kept n → (length edges ≡ 0 → new ≡ old)
+pub voter_listed : (groups : ℕ) (stakes : List ℕ) (kept : List (List Edge)) (n : ℕ) (edges : List Edge) (old new : List (List Entry)) → edges ≡ kept_at kept n → length edges ≤ groups
+    → old ≡ grouped groups stakes kept n → (length edges ≡ 0 → new ≡ old)
     → (0 < length edges → new ≡ slice_set old (length edges - 1) (get_or old (length edges - 1) [] ++ entry_of n (stake_at stakes n) edges ∷ []))
-    → new ≡ groups_of stakes kept (n + 1)
-voter_listed stakes kept n edges old new here few before none some = elim (cases_lt 0 (length edges)) [
+    → new ≡ grouped groups stakes kept (n + 1)
+voter_listed groups stakes kept n edges old new here few before none some = elim (cases_lt 0 (length edges)) [
   | inl any ↦
       (let last : ℕ = length edges - 1 in
       let count : length (kept_at kept n) ≡ last + 1 = omega (arith, ap length here, any) in
       some any ∙ ((λ i. slice_set (before i) last (get_or (before i) last [] ++ entry_of n (stake_at stakes n) (here i) ∷ []))
-      ∙ entry_listed stakes kept n last _ count (omega (arith, few, any, sixteen)) refl))
+      ∙ entry_listed groups stakes kept n last _ count (omega (arith, few, any)) refl))
   | inr empty ↦
       (let nothing : length edges ≡ 0 = omega (arith, empty) in
-      none nothing ∙ (before ∙ entry_none stakes kept n (sym (ap length here) ∙ nothing)))
+      none nothing ∙ (before ∙ entry_none groups stakes kept n (sym (ap length here) ∙ nothing)))
 ]
+
+-- a plain solution has a group for each number of targets that a voter can nominate
+pub all_nominations : plain_groups ≡ MOST_NOMINATIONS
+unfolding plain_groups
+all_nominations = refl

@@ -10,8 +10,8 @@ use Rattle.std.proofs.lemmas.List.Folds.{list_any_more}
 use Rattle.std.proofs.lemmas.List.FromFn.{map-range_with_len_more, get_or-map-range_with_len, length-map-range_with_len}
 use Rattle.std.proofs.lemmas.Bool.Decides.{nat_tests, eqb_tells}
 use Rattle.npos_base.specs.declared.figures.Edge.{Edge}
-use Rattle.compact_solution.specs.Packing.{Choice, choice_of, choices_of, edges_of, stake_at, has_part, by_target, placed, greater, leads_to, is_kept, lower, lost_among}
-use Rattle.compact_solution.specs.Choosing.{no_choice, no_choices, chosen_next, AreMarks}
+use Rattle.compact_solution.specs.Packing.{Choice, choice_of, choices_of, edges_of, stake_at, has_part, by_target, placed, greater, leads_to, is_kept, lower, lowest_where, lost_among}
+use Rattle.compact_solution.specs.Choosing.{no_choice, no_choices, chosen_next, AreKeptMarks}
 
 pub choices_more : (n : ℕ) → no_choices (n + 1) ≡ no_choices n ++ no_choice ∷ []
 choices_more n = map-range_with_len_more (λ (k : ℕ). no_choice) 0 n n (zero-add n)
@@ -108,9 +108,9 @@ pub kept_more : (kept : List (List Edge)) (i : ℕ) (d : List Edge) (target : �
     → is_kept (take (i + 1) kept) target ≡ (is_kept (take i kept) target || list_any (leads_to target) (get_or kept i d))
 kept_more kept i d target h = list_any_more (λ (edges : List Edge). list_any (leads_to target) edges) kept i d h
 
-pub marks_more : (kept : List (List Edge)) (i : ℕ) (d : List Edge) (old new : List Bool) → i < length kept → AreMarks (take i kept) old → length new ≡ length old
+pub marks_more : (kept : List (List Edge)) (i : ℕ) (d : List Edge) (old new : List Bool) → i < length kept → AreKeptMarks (take i kept) old → length new ≡ length old
     → ((target : ℕ) → target < 65536 → get_or new target false ≡ (get_or old target false || list_any (leads_to target) (get_or kept i d)))
-    → AreMarks (take (i + 1) kept) new
+    → AreKeptMarks (take (i + 1) kept) new
 marks_more kept i d old new h marks count more = record {
   count = count ∙ marks.count;
   are = λ target below. more target below ∙ (ap (λ (b : Bool). b || list_any (leads_to target) (get_or kept i d)) (marks.are target below) ∙ sym (kept_more kept i d target h));
@@ -143,17 +143,34 @@ mark_more edges i d first old h count short before target below = elim (eqb_tell
   never true = refl
   never false = refl
 
--- one member more
-pub lost_more : (kept : List (List Edge)) (members : List ℕ) (i d : ℕ) → i < length members
-    → lost_among kept (take (i + 1) members) ≡ (if is_kept kept (get_or members i d) then lost_among kept (take i members) else lower (lost_among kept (take i members)) (get_or members i d))
-lost_more kept members i d h =
-    ap (λ (lost : List ℕ). fold lower None lost) (filter_more (λ (member : ℕ). not (is_kept kept member)) members i d h) ∙ at (is_kept kept (get_or members i d)) where
+-- one number more
+pub lowest_more : (test : ℕ → Bool) (numbers : List ℕ) (i d : ℕ) → i < length numbers
+    → lowest_where test (take (i + 1) numbers)
+    ≡ (if test (get_or numbers i d)
+    then lower (lowest_where test (take i numbers)) (get_or numbers i d)
+    else lowest_where test (take i numbers))
+lowest_more test numbers i d h =
+    ap (λ (passed : List ℕ). fold lower None passed) (filter_more test numbers i d h) ∙ at (test (get_or numbers i d)) where
       before : List ℕ
-      before = filter (λ (member : ℕ). not (is_kept kept member)) (take i members)
+      before = filter test (take i numbers)
 
-      at : (b : Bool) → fold lower None (before ++ cond (not b) (get_or members i d ∷ []) []) ≡ (if b then fold lower None before else lower (fold lower None before) (get_or members i d))
-      at true = ap (λ (lost : List ℕ). fold lower None lost) (append-nil before)
-      at false = fold_push lower None before (get_or members i d)
+      at : (b : Bool) → fold lower None (before ++ cond b (get_or numbers i d ∷ []) [])
+          ≡ (if b then lower (fold lower None before) (get_or numbers i d) else fold lower None before)
+      at true = fold_push lower None before (get_or numbers i d)
+      at false = ap (λ (passed : List ℕ). fold lower None passed) (append-nil before)
+
+-- the members that are not marked are those that are lost
+pub unmarked_lost : (kept : List (List Edge)) (marks : List Bool) (members : List ℕ) → AreKeptMarks kept marks
+    → ((i : ℕ) → get_or members i 0 < 65536)
+    → lowest_where (λ member. not (get_or marks member false)) members ≡ lost_among kept members
+unmarked_lost kept marks members are small = ap (fold lower None) (same members small) where
+  same : (members : List ℕ) → ((i : ℕ) → get_or members i 0 < 65536)
+      → filter (λ member. not (get_or marks member false)) members ≡ filter (λ member. not (is_kept kept member)) members
+  same [] small = refl
+  same (member ∷ members) small =
+      let rest = filter (λ m. not (get_or marks m false)) members in
+      ap (λ (b : Bool). cond (not b) (member ∷ rest) rest) (are.are member (small 0))
+      ∙ ap (λ (rest : List ℕ). cond (not (is_kept kept member)) (member ∷ rest) rest) (same members (λ i. small (suc i)))
 
 pub all_lower : (edge : Edge) (edges : List Edge) (n : ℕ) → length edges ≤ n → All (λ (other : Edge). other.target ≤ edge.target) (take n edges) → insert edges (length edges) edge ≡ placed edges edge
 all_lower edge edges n h low =

@@ -3,7 +3,7 @@ use Rattle.std.specs.Prelude.{◌≡◌, ℕ, ◌<◌, ◌≤◌, Bool, false, i
 use Rattle.std.specs.List.{range_with_len}
 use Rattle.npos_base.specs.declared.figures.Edge.{Edge}
 use Rattle.compact_solution.specs.declared.listing.TheConstants.{NAMES}
-use Rattle.compact_solution.specs.Solution.{Entry, group_count}
+use Rattle.compact_solution.specs.Solution.{Entry}
 use Rattle.compact_solution.specs.Packing.{Choice, has_part, placed, greater, is_kept, stake_at, kept_at}
 
 -- an edge gives something, and no more than the stake
@@ -30,10 +30,10 @@ chosen_next stake choice edge = record {
 abbrev pub no_choices : ℕ → List Choice
 no_choices count = map (λ voter. no_choice) (range_with_len 0 count)
 
-abbrev pub empty_groups : List (List Entry)
-empty_groups = map (λ group. []) (range_with_len 0 group_count)
+abbrev pub empty_groups : ℕ → List (List Entry)
+empty_groups groups = map (λ group. []) (range_with_len 0 groups)
 
 -- each target that a u16 can name is marked exactly where an edge to it is kept
-pub record AreMarks (kept : List (List Edge)) (marks : List Bool) : Type 0 where
+pub record AreKeptMarks (kept : List (List Edge)) (marks : List Bool) : Type 0 where
   pub count : length marks ≡ NAMES
   pub are : (target : ℕ) → target < NAMES → slice_index_or marks target false ≡ is_kept kept target

@@ -5,8 +5,7 @@ use Rattle.std.specs.List.{list_any, range_with_len, IsDistinct}
 use Rattle.npos_base.specs.declared.figures.Edge.{Edge}
 use Rattle.npos_base.specs.declared.limits.TheConstants.{MOST_VOTERS}
 use Rattle.compact_solution.specs.declared.entry.Share.{Share}
-use Rattle.compact_solution.specs.declared.entry.TheConstants.{WHOLE_STAKE}
-use Rattle.compact_solution.specs.Solution.{Entry, group_count}
+use Rattle.compact_solution.specs.Solution.{Entry, plain_groups, whole_stake}
 
 -- ## What a voter keeps
 
@@ -17,9 +16,9 @@ edges_of edges voter = filter (λ edge. nat_eq edge.voter voter) edges
 abbrev pub stake_at : List ℕ → ℕ → ℕ
 stake_at stakes voter = slice_index_or stakes voter 0
 
--- how many parts of its voter's stake an edge gives, of WHOLE_STAKE in all, rounded down
+-- how many parts of its voter's stake an edge gives, of whole_stake in all, rounded down
 abbrev pub parts_in : ℕ → Edge → ℕ
-parts_in stake edge = edge.amount * WHOLE_STAKE / stake
+parts_in stake edge = edge.amount * whole_stake / stake
 
 abbrev pub has_part : ℕ → Edge → Bool
 has_part stake edge = nat_lt 0 (parts_in stake edge)
@@ -95,10 +94,14 @@ entries_with stakes kept voters count =
     map (λ voter. entry_of voter (stake_at stakes voter) (kept_at kept voter))
     (filter (λ voter. nat_eq (length (kept_at kept voter)) count) (range_with_len 0 voters))
 
--- the groups: the first has the entries with one target, the second those with two, and so on
+-- so many groups: the first has the entries with one target, the second those with two, and so on
+abbrev pub grouped : ℕ → List ℕ → List (List Edge) → ℕ → List (List Entry)
+grouped groups stakes kept voters =
+    map (λ group. entries_with stakes kept voters (group + 1)) (range_with_len 0 groups)
+
+-- the groups of a plain solution
 abbrev pub groups_of : List ℕ → List (List Edge) → ℕ → List (List Entry)
-groups_of stakes kept voters =
-    map (λ group. entries_with stakes kept voters (group + 1)) (range_with_len 0 group_count)
+groups_of stakes kept voters = grouped plain_groups stakes kept voters
 
 -- ## Members that are lost
 
@@ -113,9 +116,13 @@ abbrev pub lower : Option ℕ → ℕ → Option ℕ
 lower None number = Some number
 lower (Some least) number = Some (min least number)
 
+-- the lowest number that passes, if there is one
+abbrev pub lowest_where : (ℕ → Bool) → List ℕ → Option ℕ
+lowest_where test numbers = fold lower None (filter test numbers)
+
 -- the lowest of the members to which no edge is kept, if there is one
 abbrev pub lost_among : List (List Edge) → List ℕ → Option ℕ
-lost_among kept members = fold lower None (filter (λ member. not (is_kept kept member)) members)
+lost_among kept members = lowest_where (λ member. not (is_kept kept member)) members
 
 -- ## The solution
 
@@ -123,25 +130,33 @@ abbrev pub packed_or_lost : Option ℕ → List (List Entry) → Result (List (L
 packed_or_lost None groups = Ok groups
 packed_or_lost (Some member) groups = Err member
 
--- the solution that the weights of these voters pack to, or the lowest member that would be lost
-abbrev pub packed : List ℕ → List ℕ → List Edge → Result (List (List Entry)) ℕ
-packed stakes committee edges =
+-- so many groups that the weights of these voters pack to, or the lowest member that would be lost
+abbrev pub packed_in : ℕ → List ℕ → List ℕ → List Edge → Result (List (List Entry)) ℕ
+packed_in groups stakes committee edges =
     packed_or_lost (lost_among (kept_of stakes edges) committee)
-    (groups_of stakes (kept_of stakes edges) (length stakes))
+    (grouped groups stakes (kept_of stakes edges) (length stakes))
+
+-- the plain solution that they pack to
+abbrev pub packed : List ℕ → List ℕ → List Edge → Result (List (List Entry)) ℕ
+packed stakes committee edges = packed_in plain_groups stakes committee edges
 
 -- ## What can be packed
 
 abbrev pub same_pair : Edge → Edge → Bool
 same_pair a b = nat_eq a.voter b.voter && nat_eq a.target b.target
 
--- There are no more voters than an election can have; each has at most one edge to a member, 16 in
--- all, and gives no more than its stake.
-pub record IsPackable (stakes committee : List ℕ) (edges : List Edge) : Type 0 where
+-- There are no more voters than an election can have; each has at most one edge to a member, no more in
+-- all than there are groups, and gives no more than its stake.
+pub record IsPackableIn (groups : ℕ) (stakes committee : List ℕ) (edges : List Edge) : Type 0 where
   pub few_voters : length stakes ≤ MOST_VOTERS
   pub voters_in_range : All (λ edge. edge.voter < length stakes) edges
   pub pairs_distinct : IsDistinct same_pair edges
   pub to_members : All (λ edge. IsTrue (list_any (λ member. nat_eq member edge.target) committee)) edges
   pub above : All (λ edge. 0 < edge.amount) edges
-  pub few_edges : (voter : ℕ) → length (edges_of edges voter) ≤ group_count
+  pub few_edges : (voter : ℕ) → length (edges_of edges voter) ≤ groups
   pub within : (voter : ℕ) → voter < length stakes
       → sum_by (λ edge. edge.amount) (edges_of edges voter) ≤ stake_at stakes voter
+
+-- the same for a plain solution
+abbrev pub IsPackable : List ℕ → List ℕ → List Edge → Type 0
+IsPackable stakes committee edges = IsPackableIn plain_groups stakes committee edges

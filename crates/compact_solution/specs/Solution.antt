@@ -7,10 +7,11 @@ use Rattle.scale_wire.specs.Parts.{compact_u16, compact_u32}
 use Rattle.scale_wire.specs.Composite.{pair, triple, seen, items, list, row}
 use Rattle.npos_base.specs.declared.limits.TheConstants.{MOST_VOTERS}
 use Rattle.compact_solution.specs.declared.entry.Share.{Share}
+use Rattle.compact_solution.specs.declared.entry.TheConstants.{GROUPS}
 
--- how many groups a solution has
-unfoldable pub group_count : ℕ
-group_count = 16
+-- how many groups a plain solution has
+unfoldable pub plain_groups : ℕ
+plain_groups = GROUPS
 
 -- A voter and its targets. Each target but the last is listed with its share, and the last one gets
 -- the rest of the voter's stake.
@@ -19,11 +20,15 @@ pub record Entry : Type 0 where
   pub shares : List Share
   pub last : ℕ
 
+-- the whole of a voter's stake, of which its shares are parts
+abbrev pub whole_stake : ℕ
+whole_stake = 65535
+
 -- the targets of an entry, in order
 abbrev pub targets_of : Entry → List ℕ
 targets_of entry = map (λ share. share.target) entry.shares ++ entry.last ∷ []
 
--- the shares of its targets but the last, in parts of WHOLE_STAKE
+-- the shares of its targets but the last, in parts of whole_stake
 abbrev pub parts_of : Entry → List ℕ
 parts_of entry = map (λ share. share.parts) entry.shares
 
@@ -46,6 +51,10 @@ entry_form shares =
 abbrev pub group_form : ℕ → Form (List Entry)
 group_form shares = list (entry_form shares) MOST_VOTERS
 
--- a solution is its groups, one behind the other; the entries of the first have no share
+-- a solution in so many groups is these, one behind the other; the entries of the first have no share
+abbrev pub groups_form : ℕ → Form (List (List Entry))
+groups_form groups = row group_form 0 groups
+
+-- a plain solution
 abbrev pub solution_form : Form (List (List Entry))
-solution_form = row group_form 0 group_count
+solution_form = groups_form plain_groups

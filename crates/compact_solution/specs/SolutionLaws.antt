@@ -7,7 +7,7 @@ use Rattle.scale_wire.specs.Composite.{pair, triple, items}
 use Rattle.scale_wire.specs.FormLaws.{pair_laws, triple_laws, seen_laws, items_laws, list_laws, row_laws}
 use Rattle.scale_wire.specs.CompactLaws.{compact_u16_laws, compact_u32_laws, length_laws}
 use Rattle.npos_base.specs.declared.limits.TheConstants.{MOST_VOTERS}
-use Rattle.compact_solution.specs.Solution.{group_count, share_form, entry_form, group_form, solution_form}
+use Rattle.compact_solution.specs.Solution.{plain_groups, share_form, entry_form, group_form, groups_form, solution_form}
 
 pub share_laws : IsWire share_form
 share_laws = seen_laws (pair compact_u16 compact_u16) (λ share. (share.target, share.parts))
@@ -25,5 +25,8 @@ pub group_laws : (shares : ℕ) → IsWire (group_form shares)
 group_laws shares =
     list_laws (entry_form shares) MOST_VOTERS (length_laws MOST_VOTERS (lit< tt)) (entry_laws shares)
 
+pub groups_laws : (groups : ℕ) → IsWire (groups_form groups)
+groups_laws groups = row_laws group_form group_laws 0 groups
+
 pub solution_laws : IsWire solution_form
-solution_laws = row_laws group_form group_laws 0 group_count
+solution_laws = groups_laws plain_groups

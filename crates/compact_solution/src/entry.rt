@@ -1,12 +1,12 @@
 //! Entries: a voter, its targets and their shares.
 ghost use Rattle.std.specs.Prelude.{◌≡◌, ◌+◌, ◌<◌, ◌≤◌, length, slice_index};
-ghost use Rattle.compact_solution.specs.Solution.{group_count, targets_of, parts_of};
+ghost use Rattle.compact_solution.specs.Solution.{plain_groups, targets_of, parts_of};
 
-use npos_base::List;
+use npos_base::{List, MOST_NOMINATIONS};
 use std::marker::Model;
 
-/// How many groups a solution has, and how many targets an entry of the last one names.
-pub const GROUPS: usize = 16;
+/// How many groups a plain solution has: one for each number of targets that a voter can name.
+pub const GROUPS: usize = MOST_NOMINATIONS;
 
 /// The whole of a voter's stake, of which the shares of a solution are parts.
 pub const WHOLE_STAKE: u64 = 65_535;
@@ -30,19 +30,19 @@ pub struct Entry {
 
 impl Model for Entry {
     ghost use Rattle.std.specs.Prelude.{◌<◌, length};
-    ghost use Rattle.compact_solution.specs.declared.entry.TheConstants.{GROUPS};
+    ghost use Rattle.npos_base.specs.declared.limits.TheConstants.{MOST_NOMINATIONS};
     ghost use Rattle.compact_solution.specs.Solution.{Entry};
 
     ghost Value = { Entry };
 
     ghost view = { λ e. record { voter = e.voter; shares = e.shares; last = e.last } };
 
-    ghost invariant = { λ e. length e.shares < GROUPS };
+    ghost invariant = { λ e. length e.shares < MOST_NOMINATIONS };
 }
 
 impl Entry {
     pub(crate) fn new(voter: u32, shares: List<Share>, last: u16) -> Entry
-        requires { length shares < GROUPS }
+        requires { length shares < MOST_NOMINATIONS }
         ensures { result ≡ record { voter = voter; shares = shares; last = last } }
     {
         Entry {
@@ -59,10 +59,11 @@ impl Entry {
         self.voter
     }
 
-    /// How many targets the entry names: at least one, and at most as many as there are groups.
+    /// How many targets the entry names: at least one, and at most as many as a voter
+    /// can nominate.
     pub fn len(&self) -> usize
         ensures count { result ≡ length (targets_of self.now) }
-        ensures most { result ≤ GROUPS }
+        ensures most { result ≤ MOST_NOMINATIONS }
     {
         self.shares().len() + 1
     }
@@ -89,7 +90,7 @@ impl Entry {
     /// All targets but the last, with their shares.
     pub fn shares(&self) -> &[Share]
         ensures shares { result.now ≡ self.now.shares }
-        ensures most { length result.now < GROUPS }
+        ensures most { length result.now < MOST_NOMINATIONS }
     {
         self.shares.as_slice()
     }
@@ -102,9 +103,10 @@ impl Entry {
     }
 }
 
-/// How many groups there are.
-pub(crate) fn group_count() -> usize
-    ensures { result ≡ group_count }
+/// How many groups a plain solution has.
+pub(crate) fn plain_groups() -> usize
+    ensures number { result ≡ plain_groups }
+    ensures most { result ≤ MOST_NOMINATIONS }
 {
     GROUPS
 }

@@ -1,12 +1,12 @@
 //! The entries of kept edges, and the members that are lost.
-ghost use Rattle.std.specs.Prelude.{◌≡◌, ◌≢◌, ◌<◌, ◌≤◌, ◌-◌, ◌||◌, ℕ, All, [], ◌∷◌, ◌++◌, false, map, length, IfOk, OnOk, slice_index_or, slice_set};
+ghost use Rattle.std.specs.Prelude.{◌≡◌, ◌≢◌, ◌<◌, ◌≤◌, ◌-◌, ◌||◌, ℕ, All, [], ◌∷◌, ◌++◌, false, not, map, length, IfOk, OnOk, slice_index_or, slice_set};
 ghost use Rattle.std.specs.List.{list_any};
-ghost use Rattle.compact_solution.specs.Packing.{leads_to, lost_among, entry_of, share_of, groups_of, lower as lower_of};
-ghost use Rattle.compact_solution.specs.Choosing.{Fits, AreMarks, AllKeptFit, empty_groups};
+ghost use Rattle.compact_solution.specs.Packing.{leads_to, lost_among, lowest_where, entry_of, share_of, grouped, lower as lower_of};
+ghost use Rattle.compact_solution.specs.Choosing.{Fits, AreKeptMarks, AllKeptFit, empty_groups};
 
 use crate::choosing::parts_in;
-use crate::entry::{Entry, GROUPS, Share, group_count};
-use npos_base::{Edge, List, MOST_VOTERS, NoMemory};
+use crate::entry::{Entry, Share};
+use npos_base::{Edge, List, MOST_NOMINATIONS, MOST_VOTERS, NoMemory};
 use std::alloc::Global;
 
 /// How many targets a `u16` can name.
@@ -22,7 +22,7 @@ pub(crate) fn lowest_lost(
 {
     let mut marks = no_marks(alloc, NAMES)?;
     mark_all(&mut marks, kept);
-    Ok(lowest_unmarked(&marks, kept, members))
+    Ok(lowest_unmarked(&marks, members))
 }
 
 /// As many marks, none of them set.
@@ -37,8 +37,8 @@ fn no_marks(alloc: Global, count: usize) -> Result<Vec<bool>, NoMemory>
 /// Marks the targets of all edges.
 #[tactic(auto, using(crate::proofs::PackLemmas::marks_more))]
 fn mark_all(marks: &mut [bool], kept: &[List<Edge>])
-    requires { AreMarks [] marks.old }
-    ensures { AreMarks kept.now marks.new }
+    requires { AreKeptMarks [] marks.old }
+    ensures { AreKeptMarks kept.now marks.new }
 {
     for edges in kept {
         mark(marks, edges.as_slice());
@@ -59,10 +59,11 @@ fn mark(marks: &mut [bool], edges: &[Edge])
 }
 
 /// The lowest member that is not marked.
-#[tactic(auto, using(crate::proofs::PackLemmas::lost_more))]
-fn lowest_unmarked(marks: &[bool], _kept: &[List<Edge>], members: &[u16]) -> Option<u16>
-    requires { AreMarks _kept.now marks.now }
-    ensures { result ≡ lost_among _kept.now members.now }
+#[tactic(auto, using(crate::proofs::PackLemmas::lowest_more))]
+fn lowest_unmarked(marks: &[bool], members: &[u16]) -> Option<u16>
+    requires { length marks.now ≡ NAMES }
+    ensures { result
+        ≡ lowest_where (λ member. not (slice_index_or marks.now member false)) members.now }
 {
     let mut lowest = None;
     for member in members {
@@ -83,22 +84,24 @@ fn lower(lowest: Option<u16>, member: u16) -> Option<u16>
     }
 }
 
-/// The entries by the number of their targets, each group by rising voter.
+/// The entries in this many groups by the number of their targets, each group by rising voter.
 pub(crate) fn list_entries(
     alloc: Global,
     stakes: &[u64],
     kept: &[List<Edge>],
-) -> Result<Vec<List<Entry>>, NoMemory>
-    requires count { length kept.now ≡ length stakes.now }
+    count: usize,
+) -> Result<List<List<Entry>>, NoMemory>
+    requires lists { length kept.now ≡ length stakes.now }
     requires voters { length stakes.now ≤ MOST_VOTERS }
-    requires few { All (λ edges. length edges ≤ GROUPS) kept.now }
+    requires few { All (λ edges. length edges ≤ count) kept.now }
+    requires most { count ≤ MOST_NOMINATIONS }
     requires fit { AllKeptFit stakes.now kept.now }
-    ensures { IfOk result (λ groups. groups.items
-        ≡ groups_of stakes.now kept.now (length stakes.now)) }
+    ensures { IfOk result (λ groups. groups
+        ≡ grouped count stakes.now kept.now (length stakes.now)) }
 {
-    let mut groups = no_groups(alloc)?;
+    let mut groups = no_groups(alloc, count)?;
     list_all(alloc, &mut groups, stakes, kept)?;
-    Ok(groups)
+    Ok(List::from_vec(groups))
 }
 
 /// Appends the entries of all voters to their groups.
@@ -108,12 +111,14 @@ fn list_all(
     stakes: &[u64],
     kept: &[List<Edge>],
 ) -> Result<(), NoMemory>
-    requires empty { groups.old ≡ empty_groups }
-    requires count { length kept.now ≡ length stakes.now }
+    requires empty { groups.old ≡ empty_groups (length groups.old) }
+    requires lists { length kept.now ≡ length stakes.now }
     requires voters { length stakes.now ≤ MOST_VOTERS }
-    requires few { All (λ edges. length edges ≤ GROUPS) kept.now }
+    requires few { All (λ edges. length edges ≤ length groups.old) kept.now }
+    requires most { length groups.old ≤ MOST_NOMINATIONS }
     requires fit { AllKeptFit stakes.now kept.now }
-    ensures { OnOk result (groups.new ≡ groups_of stakes.now kept.now (length stakes.now)) }
+    ensures { OnOk result (groups.new
+        ≡ grouped (length groups.old) stakes.now kept.now (length stakes.now)) }
 {
     for voter in 0..stakes.len() {
         list_entry(
@@ -135,8 +140,8 @@ fn list_entry(
     stake: u64,
     kept: &[Edge],
 ) -> Result<(), NoMemory>
-    requires groups { length groups.old ≡ GROUPS }
-    requires few { length kept.now ≤ GROUPS }
+    requires few { length kept.now ≤ length groups.old }
+    requires most { length groups.old ≤ MOST_NOMINATIONS }
     requires fit { All (Fits stake) kept.now }
     ensures none { length kept.now ≡ 0 → groups.new ≡ groups.old }
     ensures some { 0 < length kept.now → OnOk result (groups.new
@@ -160,11 +165,11 @@ fn put(group: &mut List<Entry>, entry: Entry) -> Result<(), NoMemory>
 
 /// As many empty groups as a solution has.
 #[tactic(auto, using(crate::proofs::GroupLemmas::groups_more))]
-fn no_groups(alloc: Global) -> Result<Vec<List<Entry>>, NoMemory>
-    ensures { IfOk result (λ groups. groups.items ≡ empty_groups) }
+fn no_groups(alloc: Global, count: usize) -> Result<Vec<List<Entry>>, NoMemory>
+    ensures { IfOk result (λ groups. groups.items ≡ empty_groups count) }
 {
-    let mut groups = Vec::with_capacity(alloc, GROUPS)?;
-    for _ in 0..group_count() {
+    let mut groups = Vec::with_capacity(alloc, count)?;
+    for _ in 0..count {
         groups.push(List::new(alloc))?;
     }
     Ok(groups)
@@ -173,7 +178,7 @@ fn no_groups(alloc: Global) -> Result<Vec<List<Entry>>, NoMemory>
 /// The entry of a voter that keeps these edges, of which there is one at least.
 fn entry_of(alloc: Global, voter: u32, stake: u64, kept: &[Edge]) -> Result<Entry, NoMemory>
     requires some { 0 < length kept.now }
-    requires few { length kept.now ≤ GROUPS }
+    requires few { length kept.now ≤ MOST_NOMINATIONS }
     requires fit { All (Fits stake) kept.now }
     ensures { IfOk result (λ entry. entry ≡ entry_of voter stake kept.now) }
 {

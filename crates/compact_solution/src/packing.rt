@@ -1,12 +1,14 @@
 //! Packing weights into a solution.
-ghost use Rattle.std.specs.Prelude.{◌≡◌, ◌≢◌, ℕ, IfOk, IfErr, Ok, Err};
+ghost use Rattle.std.specs.Prelude.{◌≡◌, ◌≢◌, ◌≤◌, ℕ, IfOk, IfErr, Ok, Err};
 ghost use Rattle.compact_solution.specs.declared.packing.PackFault.TheVariants.{NoMemory as NoMemoryFault};
-ghost use Rattle.compact_solution.specs.Packing.{IsPackable, packed, kept_of, groups_of};
+ghost use Rattle.compact_solution.specs.Solution.{groups_form};
+ghost use Rattle.compact_solution.specs.Packing.{IsPackable, IsPackableIn, packed, packed_in, kept_of, grouped};
 
 use crate::choosing::keep;
+use crate::entry::{Entry, plain_groups};
 use crate::listing::{list_entries, lowest_lost};
 use crate::solution::Solution;
-use npos_base::{Edge, NoMemory};
+use npos_base::{Edge, List, MOST_NOMINATIONS, NoMemory};
 use std::alloc::Global;
 
 /// Why weights have no packed form: no edge to this member is kept, the lowest such one, or memory
@@ -43,10 +45,31 @@ pub fn pack(
         × (fault ≡ PackFault.LostWinner member)
         × (packed stakes.now committee.now edges.now ≡ Err member)) }
 {
+    let groups = pack_groups(alloc, stakes, committee, edges, plain_groups())?;
+    Ok(Solution::of_groups(groups))
+}
+
+/// The groups of such a solution, this many.
+fn pack_groups(
+    alloc: Global,
+    stakes: &[u64],
+    committee: &[u16],
+    edges: &[Edge],
+    count: usize,
+) -> Result<List<List<Entry>>, PackFault>
+    requires packable { IsPackableIn count stakes.now committee.now edges.now }
+    requires most { count ≤ MOST_NOMINATIONS }
+    ensures groups { IfOk result (λ groups.
+        packed_in count stakes.now committee.now edges.now ≡ Ok groups) }
+    ensures spelled { IfOk result (λ groups. (groups_form count).in_range groups) }
+    ensures lost { IfErr result (λ fault. fault ≢ PackFault.NoMemory → (member : ℕ)
+        × (fault ≡ PackFault.LostWinner member)
+        × (packed_in count stakes.now committee.now edges.now ≡ Err member)) }
+{
     let kept = keep(alloc, stakes, edges)?;
     if let Some(member) = lowest_lost(alloc, kept.as_slice(), committee)? {
         return Err(PackFault::LostWinner(member));
     }
-    let groups = list_entries(alloc, stakes, kept.as_slice())?;
-    Ok(Solution::of_groups(groups))
+    let groups = list_entries(alloc, stakes, kept.as_slice(), count)?;
+    Ok(groups)
 }

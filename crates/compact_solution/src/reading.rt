@@ -1,22 +1,40 @@
 //! Reading the groups of a solution.
-ghost use Rattle.std.specs.Prelude.{◌<◌};
+ghost use Rattle.std.specs.Prelude.{◌≡◌, ◌<◌, ◌≤◌, ◌+◌, ◌*◌, ◌/◌, min};
 ghost use Rattle.scale_wire.specs.Composite.{items as items_of};
 ghost use Rattle.scale_wire.specs.Reading.{Takes, Reads};
-ghost use Rattle.compact_solution.specs.Solution.{share_form, entry_form, group_form};
+ghost use Rattle.compact_solution.specs.Solution.{share_form, entry_form, group_form, groups_form};
 
-use crate::entry::{Entry, GROUPS, Share};
-use npos_base::{List, MOST_VOTERS};
+use crate::entry::{Entry, Share};
+use npos_base::{List, MOST_NOMINATIONS, MOST_VOTERS};
 use scale_wire::Cursor;
 use scale_wire::fault::{ReadFault, WireFault};
 use std::alloc::Global;
 
+// This many groups, one behind the other. The entries of the first have no share.
+pub(crate) fn read_groups(
+    alloc: Global,
+    cursor: &mut Cursor<'_>,
+    count: usize,
+) -> Result<List<List<Entry>>, ReadFault>
+    requires { count ≤ MOST_NOMINATIONS }
+    ensures { Reads (groups_form count) cursor.old result cursor.new }
+{
+    let mut here = cursor.fork();
+    let mut groups = Vec::with_capacity(alloc, count)?;
+    for shares in 0..count {
+        groups.push(read_group(alloc, &mut here, shares)?)?;
+    }
+    *cursor = here;
+    Ok(List::from_vec(groups))
+}
+
 // The group whose entries have this many shares. Each voter of a snapshot can have an entry in it.
-pub(crate) fn read_group(
+fn read_group(
     alloc: Global,
     cursor: &mut Cursor<'_>,
     shares: usize,
 ) -> Result<List<Entry>, ReadFault>
-    requires { shares < GROUPS }
+    requires { shares < MOST_NOMINATIONS }
     ensures { Reads (group_form shares) cursor.old result cursor.new }
 {
     let mut here = cursor.fork();
@@ -33,7 +51,7 @@ fn read_entries(
     shares: usize,
     count: u32,
 ) -> Result<List<Entry>, ReadFault>
-    requires { shares < GROUPS }
+    requires { shares < MOST_NOMINATIONS }
     ensures { Reads (items_of (entry_form shares) count) cursor.old result cursor.new }
 {
     if shares == 0 {
@@ -43,8 +61,18 @@ fn read_entries(
     }
 }
 
+// How many of so many entries the bytes left can hold, at a byte for each number: an entry with
+// this many shares has the voter, a target and a share each, and the last target.
+fn room_for(count: u32, left: usize, shares: usize) -> usize
+    requires { shares < MOST_NOMINATIONS }
+    ensures held { 2 * result ≤ left }
+    ensures room { result ≡ min (left / (2 * shares + 2)) count }
+{
+    (left / (2 * shares + 2)).min(count as usize)
+}
+
 // This many entries of a single target. Room is made at once for those that the bytes left can
-// hold, at a byte for each number, so none is wanting. A function by itself keeps what its loop
+// hold, so none is wanting. A function by itself keeps what its loop
 // needs in registers.
 #[inline(never)]
 fn read_singles(
@@ -55,8 +83,8 @@ fn read_singles(
     ensures { Reads (items_of (entry_form 0) count) cursor.old result cursor.new }
 {
     let mut here = cursor.fork();
-    let room = here.rest().len() / 2;
-    let mut entries = Vec::with_capacity(alloc, room.min(count as usize))?;
+    let room = room_for(count, here.rest().len(), 0);
+    let mut entries = Vec::with_capacity(alloc, room)?;
     for _ in 0..count {
         entries.push_reserved(take_single(alloc, &mut here)?);
     }
@@ -75,20 +103,19 @@ fn take_single(alloc: Global, cursor: &mut Cursor<'_>) -> Result<Entry, WireFaul
     Ok(Entry::new(voter, List::new(alloc), target))
 }
 
-// This many entries with shares. Room is made at once for those that the bytes left can hold, at
-// two bytes for each target.
+// This many entries with shares. Room is made at once for those that the bytes left can hold.
 fn read_shared(
     alloc: Global,
     cursor: &mut Cursor<'_>,
     shares: usize,
     count: u32,
 ) -> Result<List<Entry>, ReadFault>
-    requires { shares < GROUPS }
+    requires { shares < MOST_NOMINATIONS }
     ensures { Reads (items_of (entry_form shares) count) cursor.old result cursor.new }
 {
     let mut here = cursor.fork();
-    let room = here.rest().len() / (2 * shares + 2);
-    let mut entries = Vec::with_capacity(alloc, room.min(count as usize))?;
+    let room = room_for(count, here.rest().len(), shares);
+    let mut entries = Vec::with_capacity(alloc, room)?;
     for _ in 0..count {
         entries.push(read_entry(alloc, &mut here, shares)?)?;
     }
@@ -98,7 +125,7 @@ fn read_shared(
 
 // An entry with this many shares.
 fn read_entry(alloc: Global, cursor: &mut Cursor<'_>, shares: usize) -> Result<Entry, ReadFault>
-    requires { shares < GROUPS }
+    requires { shares < MOST_NOMINATIONS }
     ensures { Reads (entry_form shares) cursor.old result cursor.new }
 {
     let mut here = cursor.fork();
@@ -115,7 +142,7 @@ fn read_shares(
     cursor: &mut Cursor<'_>,
     count: usize,
 ) -> Result<List<Share>, ReadFault>
-    requires { count < GROUPS }
+    requires { count < MOST_NOMINATIONS }
     ensures { Reads (items_of share_form count) cursor.old result cursor.new }
 {
     let mut here = cursor.fork();

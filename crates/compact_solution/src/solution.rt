@@ -5,8 +5,8 @@ ghost use Rattle.compact_solution.specs.Solution.{solution_form};
 ghost use Rattle.scale_wire.specs.WholeReading.{AnswersAs};
 ghost use Rattle.compact_solution.specs.SolutionLaws.{solution_laws};
 
-use crate::entry::{Entry, GROUPS, group_count};
-use crate::reading::read_group;
+use crate::entry::{Entry, GROUPS, plain_groups};
+use crate::reading::read_groups;
 use crate::writing::write_groups;
 use npos_base::{List, NoMemory};
 use scale_wire::fault::ReadFault;
@@ -18,7 +18,7 @@ use std::marker::Model;
 /// Contracts see the list of the groups, which has a spelling.
 #[derive(Drop)]
 pub struct Solution {
-    groups: Vec<List<Entry>>,
+    groups: List<List<Entry>>,
 }
 
 impl Model for Solution {
@@ -27,16 +27,16 @@ impl Model for Solution {
 
     ghost Value = { list (list Entry) };
 
-    ghost view = { λ s. s.groups.items };
+    ghost view = { λ s. s.groups };
 
-    ghost invariant = { λ s. solution_form.in_range s.groups.items };
+    ghost invariant = { λ s. solution_form.in_range s.groups };
 }
 
 impl Solution {
     /// The solution of these groups.
-    pub(crate) fn of_groups(groups: Vec<List<Entry>>) -> Solution
-        requires { solution_form.in_range groups.items }
-        ensures { result ≡ groups.items }
+    pub(crate) fn of_groups(groups: List<List<Entry>>) -> Solution
+        requires { solution_form.in_range groups }
+        ensures { result ≡ groups }
     {
         Solution { groups }
     }
@@ -57,6 +57,7 @@ impl Solution {
         ensures { IfOk result (λ bytes. bytes ≡ solution_form.spelling self.now) }
     {
         let mut pen = Pen::new(alloc);
+        // The groups have a spelling: this brings what is known of them here.
         let _ = &self.groups;
         self.write(&mut pen)?;
         Ok(pen.finish())
@@ -76,7 +77,7 @@ impl Solution {
         requires most { j ≤ GROUPS }
         ensures { result.now ≡ slice_index_or self.now (j - 1) [] }
     {
-        self.groups[j - 1].as_slice()
+        self.groups.as_slice()[j - 1].as_slice()
     }
 }
 
@@ -90,16 +91,11 @@ impl Wire for Solution {
     ghost laws = { solution_laws };
 
     fn write(&self, pen: &mut Pen) -> Result<(), NoMemory> {
-        write_groups(&self.groups, pen)
+        write_groups(self.groups.as_slice(), pen)
     }
 
     fn read(alloc: Global, cursor: &mut Cursor<'_>) -> Result<Solution, ReadFault> {
-        let mut here = cursor.fork();
-        let mut groups = Vec::with_capacity(alloc, GROUPS)?;
-        for shares in 0..group_count() {
-            groups.push(read_group(alloc, &mut here, shares)?)?;
-        }
-        *cursor = here;
+        let groups = read_groups(alloc, cursor, plain_groups())?;
         Ok(Solution { groups })
     }
 }

@@ -4,26 +4,26 @@ use Rattle.std.specs.List.{IsDistinct, list_any, AllByRecursion, range_with_len}
 use Rattle.std.proofs.lemmas.List.{take_more, drop_more, drop_all}
 use Rattle.std.proofs.lemmas.List.Folds.{list_any-append}
 use Rattle.std.proofs.lemmas.Bool.{cases_eq, or_parts, or_from}
-use Rattle.election_check.specs.declared.verdict.Verdict.{Verdict}
+use Rattle.election_check.specs.declared.fault.Fault.{Fault}
 use Rattle.election_check.specs.First.{when, first_of, answer_of}
 
-pub when_none : (b : Bool) (fault : Verdict) → when b fault ≡ None → b ≡ false
+pub when_none : (b : Bool) (fault : Fault) → when b fault ≡ None → b ≡ false
 when_none true fault e = absurd (cc)
 when_none false fault e = refl
 
-pub none_when : (b : Bool) (fault : Verdict) → b ≡ false → when b fault ≡ None
+pub none_when : (b : Bool) (fault : Fault) → b ≡ false → when b fault ≡ None
 none_when b fault e = rw e refl
 
 -- a step that goes on found no fault
-pub none_answered : (o : Option Verdict) → Ok tt ≡ answer_of o → o ≡ None
+pub none_answered : (o : Option Fault) → Ok tt ≡ answer_of o → o ≡ None
 none_answered None e = refl
 none_answered (Some fault) e = absurd (cc)
 
-pub first_none : (one : Option Verdict) (rest : List (Option Verdict)) → first_of (one ∷ rest) ≡ None → (one ≡ None) × (first_of rest ≡ None)
+pub first_none : (one : Option Fault) (rest : List (Option Fault)) → first_of (one ∷ rest) ≡ None → (one ≡ None) × (first_of rest ≡ None)
 first_none None rest e = (refl, e)
 first_none (Some fault) rest e = absurd (cc)
 
-pub none_first : (one : Option Verdict) (rest : List (Option Verdict)) → one ≡ None → first_of rest ≡ None → first_of (one ∷ rest) ≡ None
+pub none_first : (one : Option Fault) (rest : List (Option Fault)) → one ≡ None → first_of rest ≡ None → first_of (one ∷ rest) ≡ None
 none_first one rest e f = rw e f
 
 all_weaker : {X : Type 0} (P Q : X → Type 0) → ((x : X) → P x → Q x) → (xs : List X) → AllByRecursion P xs → AllByRecursion Q xs
@@ -36,11 +36,11 @@ all_both P Q R f (x ∷ xs) h k = (f x h.0 k.0, all_both P Q R f xs h.1 k.1)
 
 -- the faults of the items of a list, of which each is looked at behind those before it
 module _ {X : Type 0} (same : X → X → Bool) (Good : X → Type 0)
-    (fault : List X → X → Option Verdict) (faults : List X → List X → Option Verdict)
+    (fault : List X → X → Option Fault) (faults : List X → List X → Option Fault)
     (ends : (before : List X) → faults before [] ≡ None)
     (goes : (before : List X) (x : X) (xs : List X) → faults before (x ∷ xs) ≡ first_of (fault before x ∷ faults (before ++ x ∷ []) xs ∷ []))
   where
-    single : (o : Option Verdict) → first_of (o ∷ []) ≡ o
+    single : (o : Option Fault) → first_of (o ∷ []) ≡ o
     single None = refl
     single (Some v) = refl
 
@@ -54,7 +54,7 @@ module _ {X : Type 0} (same : X → X → Bool) (Good : X → Type 0)
         → faults (take i xs) (drop i xs) ≡ faults [] xs → faults (take (i + 1) xs) (drop (i + 1) xs) ≡ faults [] xs
     past_item xs i d h e so_far = sym (at_item xs i d h ∙ ap (λ o. first_of (o ∷ faults (take (i + 1) xs) (drop (i + 1) xs) ∷ [])) e ∙ single (faults (take (i + 1) xs) (drop (i + 1) xs))) ∙ so_far
 
-    pub stops_at : (xs : List X) (i : ℕ) (d : X) (v : Verdict) → i < length xs → fault (take i xs) (get_or xs i d) ≡ Some v
+    pub stops_at : (xs : List X) (i : ℕ) (d : X) (v : Fault) → i < length xs → fault (take i xs) (get_or xs i d) ≡ Some v
         → faults (take i xs) (drop i xs) ≡ faults [] xs → faults [] xs ≡ Some v
     stops_at xs i d v h e so_far = sym so_far ∙ at_item xs i d h ∙ ap (λ o. first_of (o ∷ faults (take (i + 1) xs) (drop (i + 1) xs) ∷ [])) e
 

@@ -12,9 +12,8 @@ use Rattle.npos_base.specs.declared.figures.Edge.{Edge}
 use Rattle.weight_book.specs.Weights.{same_pair, amount_sum}
 use Rattle.weight_book.proofs.SumLemmas.{sum_filter-le}
 use Rattle.compact_solution.specs.declared.entry.Share.{Share}
-use Rattle.compact_solution.specs.Solution.{targets_of, parts_of}
+use Rattle.compact_solution.specs.Solution.{targets_of, parts_of, whole_stake}
 use Rattle.compact_solution.specs.Packing.{edges_of, parts_in, has_part, placed, by_target, greatest, choice_of, chosen_from, chosen, share_of, no_edge, entry_of}
-use Rattle.compact_solution.specs.declared.entry.TheConstants.{WHOLE_STAKE}
 use Rattle.election_check.specs.Packed.{first_repeat, has_bad_share}
 
 abbrev pub same_target : Edge → Edge → Bool
@@ -209,14 +208,14 @@ above_all stake (edge ∷ edges) all = All-cons (λ edge. 0 < parts_in stake edg
 
 -- edges that all have a part, with few parts in all: those of the first ones leave a part of the last
 good_shares : (stake : ℕ) (edge : Edge) (more : List Edge) → All (λ edge. 0 < parts_in stake edge) (edge ∷ more) → sum_by (parts_in stake) (edge ∷ more) ≤ 65535
-    → let parts = map (parts_in stake) (take (length more) (edge ∷ more)) in (list_any (λ part. nat_eq part 0) parts ≡ false) × (nat_le WHOLE_STAKE (sum parts) ≡ false)
+    → let parts = map (parts_in stake) (take (length more) (edge ∷ more)) in (list_any (λ part. nat_eq part 0) parts ≡ false) × (nat_le whole_stake (sum parts) ≡ false)
 good_shares stake edge more above few =
     let kept = edge ∷ more in
     let front = take (length more) kept in
     let whole : sum_by (parts_in stake) kept ≡ sum_by (parts_in stake) front + parts_in stake (get_or kept (length more) edge) =
     ap (sum_by (parts_in stake)) (sym (take_all (length more + 1) kept (omega arith))) ∙ sum_by_more (parts_in stake) kept (length more) edge (omega arith) in
     let last : 0 < parts_in stake (get_or kept (length more) edge) = above (length more) edge (omega arith) in
-    let left : sum (map (parts_in stake) front) < WHOLE_STAKE = omega (arith, sum-map (parts_in stake) front, whole, last, few) in (
+    let left : sum (map (parts_in stake) front) < whole_stake = omega (arith, sum-map (parts_in stake) front, whole, last, few) in (
       list_any_none (λ part. nat_eq part 0) (map (parts_in stake) front)
           (All-map (λ part. nat_eq part 0 ≡ false) (parts_in stake) front
           (λ k d h. some (parts_in stake (get_or front k d)) (All-take (λ edge. 0 < parts_in stake edge) (length more) kept above k d h))),
@@ -226,9 +225,9 @@ good_shares stake edge more above few =
     some : (n : ℕ) → 0 < n → nat_eq n 0 ≡ false
     some n h = ne_eqb n 0 (λ e. omega (arith, h, e))
 
-    over : (n : ℕ) → n < WHOLE_STAKE → nat_le WHOLE_STAKE n ≡ false
-    over n h = elim (cases_Bool (nat_le WHOLE_STAKE n)) [
-      | inl t ↦ absurd (omega (arith, h, leb-true WHOLE_STAKE n t))
+    over : (n : ℕ) → n < whole_stake → nat_le whole_stake n ≡ false
+    over n h = elim (cases_Bool (nat_le whole_stake n)) [
+      | inl t ↦ absurd (omega (arith, h, leb-true whole_stake n t))
       | inr t ↦ t
     ]
 
@@ -244,5 +243,5 @@ good_entry voter stake edges some within =
           let good = good_shares stake edge more (above_all stake (edge ∷ more) have) few in
           let front : length (edge ∷ more) - 1 ≡ length more = omega arith in
           let parts = parts_are stake voter (edge ∷ more) ∙ ap (λ n. map (parts_in stake) (take n (edge ∷ more))) front in
-          or_from (list_any (λ part. nat_eq part 0) (parts_of (entry_of voter stake (edge ∷ more)))) (nat_le WHOLE_STAKE (sum (parts_of (entry_of voter stake (edge ∷ more)))))
-          (ap (λ ps. list_any (λ part. nat_eq part 0) ps) parts ∙ good.0) (ap (λ ps. nat_le WHOLE_STAKE (sum ps)) parts ∙ good.1)
+          or_from (list_any (λ part. nat_eq part 0) (parts_of (entry_of voter stake (edge ∷ more)))) (nat_le whole_stake (sum (parts_of (entry_of voter stake (edge ∷ more)))))
+          (ap (λ ps. list_any (λ part. nat_eq part 0) ps) parts ∙ good.0) (ap (λ ps. nat_le whole_stake (sum ps)) parts ∙ good.1)

@@ -1,92 +1,23 @@
 -- A packed Yes is a plain Yes.
-use Rattle.std.proofs.Common.{◌≡◌, ℕ, Bool, true, false, not, ◌&&◌, nat_eq, List, [], ◌∷◌, ◌++◌, Option, Some, None, option_map, find, refl, ap, ◌∙◌}
-use Rattle.std.specs.Prelude.{nat_le, length, Result, Ok, Err}
-use Rattle.std.specs.List.{AllByRecursion}
+use Rattle.std.proofs.Common.{◌≡◌, ℕ, true, not, ◌&&◌, nat_eq, List, [], ◌∷◌, refl, ap, ◌∙◌}
+use Rattle.std.specs.Prelude.{Result, Ok, Err}
 use Rattle.std.proofs.lemmas.Bool.{not-false, eqb-true, and_parts}
 use Rattle.npos_base.specs.declared.figures.Score.{Score}
 use Rattle.scale_wire.specs.declared.fault.WireFault.{WireFault}
-use Rattle.election_snapshot.specs.Snapshot.{Snapshot, has, nominates}
+use Rattle.election_snapshot.specs.Snapshot.{Snapshot}
 use Rattle.weight_book.specs.Scoring.{score_of}
-use Rattle.compact_solution.specs.Solution.{Entry, targets_of, entries_of}
+use Rattle.compact_solution.specs.Solution.{Entry, entries_of}
 use Rattle.compact_solution.specs.Decoded.{decoded}
-use Rattle.election_check.specs.declared.verdict.Verdict.{Verdict}
-use Rattle.election_check.specs.declared.verdict.Verdict.TheVariants.{Yes, NoVoter, NoTarget, VoterTwice, TargetTwice, NotNominated, BadShare, WrongScore}
-use Rattle.election_check.specs.First.{when, first_of, or_yes}
+use Rattle.election_check.specs.declared.fault.Fault.TheVariants.{WrongScore}
+use Rattle.election_check.specs.declared.verdict.Verdict.TheVariants.{Yes}
+use Rattle.election_check.specs.First.{or_yes}
 use Rattle.election_check.specs.Laws.{IsAccepted}
-use Rattle.election_check.specs.Packed.{expanded, first_repeat, unknown_target, repeated_target, unnominated_target, has_bad_share, entry_fault, voters_in, entries_fault, expand_fault, same_score, score_fault, solution_fault, verdict_solution, verdict_decoded, verdict_packed, weights_decoded, given}
+use Rattle.election_check.specs.Packed.{expanded, entries_fault, expand_fault, same_score, score_fault, solution_fault, verdict_solution, verdict_decoded, verdict_packed, weights_decoded, given}
 use Rattle.election_check.specs.Steps.{size_fault, outweighed}
-use Rattle.election_check.proofs.FaultLemmas.{IsFault, size_is_fault, outweighed_is_fault, yes_is_none}
+use Rattle.election_check.proofs.FaultLemmas.{yes_is_none}
 use Rattle.election_check.proofs.FirstLemmas.{when_none, first_none}
 use Rattle.election_check.proofs.PassingLemmas.{none_outweighs, no_plain_fault}
 use Rattle.election_check.proofs.SoundLemmas.{feasible_packed}
-
--- ## No fault is a Yes
-
-no_fault : IsFault None
-no_fault e = absurd (cc)
-
-first_is_fault : (faults : List (Option Verdict)) → AllByRecursion IsFault faults → IsFault (first_of faults)
-first_is_fault [] all e = absurd (cc)
-first_is_fault (None ∷ faults) all e = first_is_fault faults all.1 e
-first_is_fault (Some fault ∷ faults) all e = all.0 e
-
-when_is_fault : (b : Bool) (fault : Verdict) → (fault ≡ Yes → ⊥) → IsFault (when b fault)
-when_is_fault true fault other e = other (cc)
-when_is_fault false fault other e = absurd (cc)
-
-map_is_fault : (fault : ℕ → Verdict) (found : Option ℕ) → ((n : ℕ) → fault n ≡ Yes → ⊥) → IsFault (option_map fault found)
-map_is_fault fault None other e = absurd (cc)
-map_is_fault fault (Some n) other e = other n (cc)
-
-entry_is_fault : (snapshot : Snapshot) (is_repeated : Bool) (entry : Entry) → IsFault (entry_fault snapshot is_repeated entry)
-entry_is_fault snapshot is_repeated entry = first_is_fault (
-    when (nat_le (length snapshot.voters) entry.voter) (NoVoter entry.voter)
-    ∷ unknown_target snapshot entry
-    ∷ when is_repeated (VoterTwice entry.voter)
-    ∷ repeated_target entry
-    ∷ unnominated_target snapshot entry
-    ∷ when (has_bad_share entry) (BadShare entry.voter)
-    ∷ []) (
-      when_is_fault (nat_le (length snapshot.voters) entry.voter) (NoVoter entry.voter) (λ e. absurd (cc)),
-      (
-        map_is_fault NoTarget (find (λ target. nat_le (length snapshot.targets) target) (targets_of entry)) (λ n e. absurd (cc)),
-        (
-          when_is_fault is_repeated (VoterTwice entry.voter) (λ e. absurd (cc)),
-          (
-            map_is_fault TargetTwice (first_repeat [] (targets_of entry)) (λ n e. absurd (cc)),
-            (
-              map_is_fault (NotNominated entry.voter) (find (λ target. not (nominates snapshot entry.voter target)) (targets_of entry)) (λ n e. absurd (cc)),
-              (
-                when_is_fault (has_bad_share entry) (BadShare entry.voter) (λ e. absurd (cc)),
-                tt,
-              ),
-            ),
-          ),
-        ),
-      ),
-    )
-
-entries_are_faults : (snapshot : Snapshot) (before entries : List Entry) → IsFault (entries_fault snapshot before entries)
-entries_are_faults snapshot before [] = no_fault
-entries_are_faults snapshot before (entry ∷ entries) =
-    first_is_fault (entry_fault snapshot (has (voters_in before) entry.voter) entry ∷ entries_fault snapshot (before ++ entry ∷ []) entries ∷ [])
-    (entry_is_fault snapshot (has (voters_in before) entry.voter) entry, (entries_are_faults snapshot (before ++ entry ∷ []) entries, tt))
-
-solution_is_fault : (snapshot : Snapshot) (claim : Score) (solution : List (List Entry)) → IsFault (solution_fault snapshot claim solution)
-solution_is_fault snapshot claim solution = first_is_fault (
-    expand_fault snapshot solution ∷ score_fault claim (expanded snapshot solution) ∷ outweighed snapshot (expanded snapshot solution) ∷ []) (
-      first_is_fault (entries_fault snapshot [] (entries_of solution) ∷ size_fault snapshot (expanded snapshot solution) ∷ [])
-          (entries_are_faults snapshot [] (entries_of solution), (size_is_fault snapshot (expanded snapshot solution), tt)),
-      (
-        when_is_fault (not (same_score (score_of (expanded snapshot solution)) claim)) (WrongScore (score_of (expanded snapshot solution))) (λ e. absurd (cc)),
-        (
-          outweighed_is_fault snapshot (expanded snapshot solution),
-          tt,
-        ),
-      ),
-    )
-
--- ## The law
 
 scores_equal : (a b : Score) → same_score a b ≡ true → a ≡ b
 scores_equal a b e =
@@ -102,7 +33,7 @@ accepted snapshot claim bytes accepts = by (decoded bytes) refl accepts
     by_solution : (solution : List (List Entry)) → decoded bytes ≡ Ok solution → verdict_solution snapshot claim solution ≡ Yes → IsAccepted snapshot claim bytes
     by_solution solution is e =
         let weights = expanded snapshot solution in
-        let none = yes_is_none (solution_fault snapshot claim solution) (solution_is_fault snapshot claim solution) e in
+        let none = yes_is_none (solution_fault snapshot claim solution) e in
         let (expands, rest) = first_none (expand_fault snapshot solution) (score_fault claim weights ∷ outweighed snapshot weights ∷ []) none in
         let (sound, more) = first_none (entries_fault snapshot [] (entries_of solution)) (size_fault snapshot weights ∷ []) expands in
         let (filled, _) = first_none (size_fault snapshot weights) [] more in

@@ -9,17 +9,18 @@ use Rattle.std.proofs.lemmas.List.Elements.{All-head, All-tail, All-cons, All-ni
 use Rattle.std.proofs.lemmas.List.Folds.{Any-from_list_any, list_any_at, list_any-append}
 use Rattle.std.proofs.lemmas.List.FromFn.{get_or-map-range_with_len, length-range_with_len, get_or-range_with_len}
 use Rattle.npos_base.specs.declared.figures.Edge.{Edge}
+use Rattle.npos_base.specs.declared.limits.TheConstants.{MOST_NOMINATIONS}
 use Rattle.election_snapshot.specs.Snapshot.{Snapshot, Voter, IsWellFormed, IsVoterOf, nobody, has, nominates, stake_of, votes_of, stakes_of}
 use Rattle.weight_book.specs.Weights.{Weights, IsFeasible}
 use Rattle.weight_book.proofs.SumLemmas.{sum_covered, sum_of_ones}
-use Rattle.compact_solution.specs.Solution.{Entry, group_count, targets_of, entries_of}
+use Rattle.compact_solution.specs.Solution.{Entry, plain_groups, targets_of, entries_of}
 use Rattle.compact_solution.specs.Packing.{edges_of, stake_at, choice_of, choices_of, chosen, kept_of, kept_at, entry_of, entries_with, groups_of, leads_to, is_kept, lower, lost_among, packed, packed_or_lost, IsPackable}
 use Rattle.compact_solution.specs.Choosing.{no_choice}
 use Rattle.compact_solution.proofs.PackLemmas.{choices_many}
-use Rattle.compact_solution.proofs.GroupLemmas.{sixteen}
+use Rattle.compact_solution.proofs.GroupLemmas.{all_nominations}
 use Rattle.compact_solution.proofs.FitLemmas.{all_chosen, few_chosen}
-use Rattle.election_check.specs.declared.verdict.Verdict.{Verdict}
-use Rattle.election_check.specs.declared.verdict.Verdict.TheVariants.{NoVoter, NoTarget, VoterTwice, TargetTwice, NotNominated, BadShare, WrongSize}
+use Rattle.election_check.specs.declared.fault.Fault.{Fault}
+use Rattle.election_check.specs.declared.fault.Fault.TheVariants.{NoVoter, NoTarget, VoterTwice, TargetTwice, NotNominated, BadShare, WrongSize}
 use Rattle.election_check.specs.First.{when}
 use Rattle.election_check.specs.Steps.{size_fault}
 use Rattle.election_check.specs.Packed.{listed_in, expanded, unknown_target, repeated_target, unnominated_target, has_bad_share, entry_fault, voters_in, entries_fault, expand_fault}
@@ -140,7 +141,7 @@ module _ (snapshot : Snapshot) (weights : Weights) (formed : IsWellFormed snapsh
   is_voter : (voter : ℕ) → voter < length snapshot.voters → IsVoterOf (length snapshot.targets) (get_or snapshot.voters voter nobody)
   is_voter voter h = formed.voters.each_voter voter nobody h
 
-  few_own : (voter : ℕ) → voter < length snapshot.voters → length (own voter) ≤ 16
+  few_own : (voter : ℕ) → voter < length snapshot.voters → length (own voter) ≤ MOST_NOMINATIONS
   few_own voter h =
       let targets = map (λ (edge : Edge). edge.target) (own voter) in
       let covered = sum_covered (λ _. 1) targets (votes_of snapshot voter)
@@ -164,7 +165,7 @@ module _ (snapshot : Snapshot) (weights : Weights) (formed : IsWellFormed snapsh
     to_members = feasible.follows.to_members;
     above = above;
     few_edges = λ voter. elim (cases_lt voter (length snapshot.voters)) [
-      | inl h ↦ omega (arith, few_own voter h, sixteen)
+      | inl h ↦ omega (arith, few_own voter h, all_nominations)
       | inr h ↦ omega (arith, none_own voter h)
     ];
     within = λ voter h. omega (arith, stake_is voter, feasible.within_stakes voter (omega (arith, h, many)));
@@ -207,22 +208,22 @@ module _ (snapshot : Snapshot) (weights : Weights) (formed : IsWellFormed snapsh
     targets : List ℕ
     targets = targets_of (entry_at voter)
 
-    o1 : Option Verdict
+    o1 : Option Fault
     o1 = when (nat_le (length snapshot.voters) voter) (NoVoter voter)
 
-    o2 : Option Verdict
+    o2 : Option Fault
     o2 = unknown_target snapshot (entry_at voter)
 
-    o3 : Option Verdict
+    o3 : Option Fault
     o3 = when false (VoterTwice voter)
 
-    o4 : Option Verdict
+    o4 : Option Fault
     o4 = repeated_target (entry_at voter)
 
-    o5 : Option Verdict
+    o5 : Option Fault
     o5 = unnominated_target snapshot (entry_at voter)
 
-    o6 : Option Verdict
+    o6 : Option Fault
     o6 = when (has_bad_share (entry_at voter)) (BadShare voter)
 
     not_le : (a b : ℕ) → b < a → nat_le a b ≡ false
@@ -325,16 +326,16 @@ module _ (snapshot : Snapshot) (weights : Weights) (formed : IsWellFormed snapsh
   no_entry_fault = none_bad same_voter IsGood (λ before entry. entry_fault snapshot (has (voters_in before) entry.voter) entry) (entries_fault snapshot)
       (λ _. refl) (λ _ _ _. refl) (λ before entry good new. ap (λ b. entry_fault snapshot b entry) (named before entry.voter ∙ new) ∙ good.0) [] (entries_of all_groups)
       (all_weaker (λ (entry : Entry). IsGood entry × (0 < count_at entry.voter)) (λ (entry : Entry). IsGood entry × (false ≡ false)) (λ entry is. (is.0, refl))
-      (entries_of all_groups) (groups_good 0 group_count).0) (groups_good 0 group_count).1
+      (entries_of all_groups) (groups_good 0 plain_groups).0) (groups_good 0 plain_groups).1
 
   -- ## Who is listed
 
   listed_members : (target : ℕ) → has (listed_in (entries_of all_groups)) target ≡ true → has weights.committee target ≡ true
   listed_members target there = within (λ target. has weights.committee target ≡ true) (listed_in (entries_of all_groups)) target
       (All-flat_map (λ target. has weights.committee target ≡ true) targets_of (entries_of all_groups)
-      (λ k d l. (All-from_recursion (λ (entry : Entry). IsGood entry × (0 < count_at entry.voter)) (entries_of all_groups) (groups_good 0 group_count).0 k d l).0.1)) there
+      (λ k d l. (All-from_recursion (λ (entry : Entry). IsGood entry × (0 < count_at entry.voter)) (entries_of all_groups) (groups_good 0 plain_groups).0 k d l).0.1)) there
 
-  few_kept : (voter : ℕ) → voter < length snapshot.voters → count_at voter ≤ 16
+  few_kept : (voter : ℕ) → voter < length snapshot.voters → count_at voter ≤ MOST_NOMINATIONS
   few_kept voter h = omega (arith, ap length (kept_is voter h), few_chosen (stake_at stakes voter) (own voter), few_own voter h)
 
   kept_listed : (target : ℕ) → is_kept kept target ≡ true → has (listed_in (entries_of all_groups)) target ≡ true
@@ -360,12 +361,12 @@ module _ (snapshot : Snapshot) (weights : Weights) (formed : IsWellFormed snapsh
             any_map names entry_at (filter (λ v. nat_eq (count_at v) (low + 1)) (range_with_len 0 (length stakes)))
             ∙ any_filter (λ v. names (entry_at v)) (λ v. nat_eq (count_at v) (low + 1)) (range_with_len 0 (length stakes)) voter
             (has_range 0 (length stakes) voter (omega arith) (omega (arith, h, many))) (eq-eqb (count_at voter) (low + 1) (sym right)) in_entry in
-            let short : low < group_count = omega (arith, few_kept voter h, sixteen, right) in
+            let short : low < plain_groups = omega (arith, few_kept voter h, all_nominations, right) in
             any_flat (λ n. nat_eq n target) targets_of (entries_of all_groups)
             ∙ (any_flat names (λ (group : List Entry). group) all_groups
-            ∙ (any_map (λ (group : List Entry). list_any names group) group_at (range_with_len 0 group_count)
-            ∙ list_any_at (λ group. list_any names (group_at group)) (range_with_len 0 group_count) low 0 (omega (arith, short, length-range_with_len 0 group_count))
-            (ap (λ group. list_any names (group_at group)) (get_or-range_with_len 0 group_count low 0 short ∙ zero-add low) ∙ in_group)))
+            ∙ (any_map (λ (group : List Entry). list_any names group) group_at (range_with_len 0 plain_groups)
+            ∙ list_any_at (λ group. list_any names (group_at group)) (range_with_len 0 plain_groups) low 0 (omega (arith, short, length-range_with_len 0 plain_groups))
+            (ap (λ group. list_any names (group_at group)) (get_or-range_with_len 0 plain_groups low 0 short ∙ zero-add low) ∙ in_group)))
           where
             nonempty : (edges : List Edge) → list_any (leads_to target) edges ≡ true → 1 ≤ length edges
             nonempty [] e = absurd (true≢false (sym e))

@@ -7,18 +7,18 @@ use Rattle.npos_base.specs.declared.figures.Edge.{Edge}
 use Rattle.election_snapshot.specs.Snapshot.{Snapshot, has, nominates, stake_of, threshold}
 use Rattle.weight_book.specs.Weights.{Weights, Follows, IsFeasible, same_pair, spent}
 use Rattle.weight_book.specs.Passing.{Passes, NoneOutweighs}
-use Rattle.election_check.specs.declared.verdict.Verdict.{Verdict}
-use Rattle.election_check.specs.declared.verdict.Verdict.TheVariants.{NoVoter, NoTarget, TargetTwice, NotNominated, WrongSize, Outweighed, Overspent}
+use Rattle.election_check.specs.declared.fault.Fault.{Fault}
+use Rattle.election_check.specs.declared.fault.Fault.TheVariants.{NoVoter, NoTarget, TargetTwice, NotNominated, WrongSize, Outweighed, Overspent}
 use Rattle.election_check.specs.First.{when, first_of}
 use Rattle.election_check.specs.Steps.{size_fault, outweighed, outweighs, prescore_of}
 use Rattle.election_check.specs.Plain.{member_fault, members_fault, edge_fault, edges_fault, overspends, overspent, plain_fault}
 use Rattle.election_check.proofs.FirstLemmas.{when_none, none_when, first_none, all_good, none_bad, none_found, all_fail}
 
-pub mapped_none : (fault : ℕ → Verdict) (found : Option ℕ) → option_map fault found ≡ None → found ≡ None
+pub mapped_none : (fault : ℕ → Fault) (found : Option ℕ) → option_map fault found ≡ None → found ≡ None
 mapped_none fault None e = refl
 mapped_none fault (Some n) e = absurd (cc)
 
-none_mapped : (fault : ℕ → Verdict) (found : Option ℕ) → found ≡ None → option_map fault found ≡ None
+none_mapped : (fault : ℕ → Fault) (found : Option ℕ) → found ≡ None → option_map fault found ≡ None
 none_mapped fault found e = rw e refl
 
 module _ (snapshot : Snapshot) where
@@ -140,7 +140,7 @@ module _ (snapshot : Snapshot) where
         none_outweighs = none_outweighs weights last;
       }
 
-  all_none : (a b c d f : Option Verdict) → a ≡ None → b ≡ None → c ≡ None → d ≡ None → f ≡ None → first_of (a ∷ b ∷ c ∷ d ∷ f ∷ []) ≡ None
+  all_none : (a b c d f : Option Fault) → a ≡ None → b ≡ None → c ≡ None → d ≡ None → f ≡ None → first_of (a ∷ b ∷ c ∷ d ∷ f ∷ []) ≡ None
   all_none a b c d f p q r s t = rw (p, q, r, s, t) refl
 
   pub no_plain_fault : (weights : Weights) → Passes snapshot weights → plain_fault snapshot weights ≡ None

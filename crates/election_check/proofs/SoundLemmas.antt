@@ -16,12 +16,11 @@ use Rattle.weight_book.specs.Weights.{Follows, IsFeasible, same_pair, spent, amo
 use Rattle.weight_book.specs.Room.{vote_count}
 use Rattle.weight_book.proofs.SumLemmas.{sum_covered, sum_filter-cons, sum_of_ones, sum_le}
 use Rattle.compact_solution.specs.declared.entry.Share.{Share}
-use Rattle.compact_solution.specs.Solution.{Entry, targets_of, parts_of}
-use Rattle.compact_solution.specs.declared.entry.TheConstants.{WHOLE_STAKE}
-use Rattle.election_check.specs.declared.verdict.Verdict.TheVariants.{NoVoter, NoTarget, VoterTwice, TargetTwice, NotNominated, BadShare, WrongSize}
+use Rattle.compact_solution.specs.Solution.{Entry, targets_of, parts_of, whole_stake}
+use Rattle.election_check.specs.declared.fault.Fault.TheVariants.{NoVoter, NoTarget, VoterTwice, TargetTwice, NotNominated, BadShare, WrongSize}
 use Rattle.election_check.specs.First.{when}
 use Rattle.election_check.specs.Steps.{size_fault}
-use Rattle.election_check.specs.Packed.{amount_of, edge_of, rest_of, edges_of, listed_in, weights_of, first_repeat, unknown_target, repeated_target, unnominated_target, has_bad_share, entry_fault, voters_in, entries_fault}
+use Rattle.election_check.specs.Packed.{amount_of, edge_of, rest_of, entry_edges, listed_in, weights_of, first_repeat, unknown_target, repeated_target, unnominated_target, has_bad_share, entry_fault, voters_in, entries_fault}
 use Rattle.election_check.proofs.FirstLemmas.{when_none, first_none, all_good}
 use Rattle.election_check.proofs.PassingLemmas.{mapped_none}
 use Rattle.election_check.proofs.ListFacts.{find_none_all, All-of_map, All-flat_map, map-flat_map, all_stand, has_range, has_filter, range_within, range_distinct, IsDistinct-append}
@@ -57,7 +56,7 @@ pub record IsSound (snapshot : Snapshot) (entry : Entry) : Type 0 where
   pub targets : All (λ target. target < length snapshot.targets) (targets_of entry)
   pub distinct : IsDistinct nat_eq (targets_of entry)
   pub nominated : All (λ target. nominates snapshot entry.voter target ≡ true) (targets_of entry)
-  pub shares : sum (parts_of entry) < WHOLE_STAKE
+  pub shares : sum (parts_of entry) < whole_stake
 
 pub entry_sound : (snapshot : Snapshot) (is_repeated : Bool) (entry : Entry) → entry_fault snapshot is_repeated entry ≡ None
     → IsSound snapshot entry × (is_repeated ≡ false)
@@ -83,8 +82,8 @@ entry_sound snapshot is_repeated entry none =
         targets = λ k d below. leb-false (length snapshot.targets) (get_or (targets_of entry) k d) (known k d below);
         distinct = (no_repeat [] (targets_of entry) (mapped_none TargetTwice (first_repeat [] (targets_of entry)) p4)).1;
         nominated = λ k d below. not-false (nominates snapshot entry.voter (get_or (targets_of entry) k d)) (voted k d below);
-        shares = leb-false WHOLE_STAKE (sum (parts_of entry))
-            (or_parts (list_any (λ parts. nat_eq parts 0) (parts_of entry)) (nat_le WHOLE_STAKE (sum (parts_of entry))) (when_none (has_bad_share entry) (BadShare entry.voter) p6)).1;
+        shares = leb-false whole_stake (sum (parts_of entry))
+            (or_parts (list_any (λ parts. nat_eq parts 0) (parts_of entry)) (nat_le whole_stake (sum (parts_of entry))) (when_none (has_bad_share entry) (BadShare entry.voter) p6)).1;
       },
       when_none is_repeated (VoterTwice entry.voter) p3,
     )
@@ -96,7 +95,7 @@ edge_targets stake voter [] = refl
 edge_targets stake voter (share ∷ shares) = ap (λ targets. share.target ∷ targets) (edge_targets stake voter shares)
 
 -- the edges of an entry lead to its targets
-pub targets_of_edges : (stake : ℕ) (entry : Entry) → map (λ (edge : Edge). edge.target) (edges_of stake entry) ≡ targets_of entry
+pub targets_of_edges : (stake : ℕ) (entry : Entry) → map (λ (edge : Edge). edge.target) (entry_edges stake entry) ≡ targets_of entry
 targets_of_edges stake entry =
     map-append (λ (edge : Edge). edge.target) (map (edge_of stake entry.voter) entry.shares) (record { voter = entry.voter; target = entry.last; amount = rest_of stake entry.shares } ∷ [])
     ∙ ap (λ targets. targets ++ entry.last ∷ []) (edge_targets stake entry.voter entry.shares)
@@ -107,32 +106,32 @@ edge_voters stake voter (share ∷ shares) =
     All-cons (λ (edge : Edge). edge.voter ≡ voter) (edge_of stake voter share) (map (edge_of stake voter) shares) refl (edge_voters stake voter shares)
 
 -- and from its voter
-pub voter_of_edges : (stake : ℕ) (entry : Entry) → All (λ (edge : Edge). edge.voter ≡ entry.voter) (edges_of stake entry)
+pub voter_of_edges : (stake : ℕ) (entry : Entry) → All (λ (edge : Edge). edge.voter ≡ entry.voter) (entry_edges stake entry)
 voter_of_edges stake entry =
     let last : Edge = record { voter = entry.voter; target = entry.last; amount = rest_of stake entry.shares } in
     All-append (λ (edge : Edge). edge.voter ≡ entry.voter) (map (edge_of stake entry.voter) entry.shares) (last ∷ []) (edge_voters stake entry.voter entry.shares)
     (All-cons (λ (edge : Edge). edge.voter ≡ entry.voter) last [] refl (All-nil (λ (edge : Edge). edge.voter ≡ entry.voter)))
 
-pub length_of_edges : (stake : ℕ) (entry : Entry) → length (edges_of stake entry) ≡ length (targets_of entry)
+pub length_of_edges : (stake : ℕ) (entry : Entry) → length (entry_edges stake entry) ≡ length (targets_of entry)
 length_of_edges stake entry =
-    sym (length-map (edges_of stake entry) (λ (edge : Edge). edge.target)) ∙ ap length (targets_of_edges stake entry)
+    sym (length-map (entry_edges stake entry) (λ (edge : Edge). edge.target)) ∙ ap length (targets_of_edges stake entry)
 
 more_within : (a b w s p q : ℕ) → a * w ≤ s * p → b * w ≤ s * q → (a + b) * w ≤ s * (p + q)
 more_within a b w s p q here there = grind arith
 
-amounts_within : (stake : ℕ) (shares : List Share) → sum_by (amount_of stake) shares * WHOLE_STAKE ≤ stake * sum_by (λ (share : Share). share.parts) shares
+amounts_within : (stake : ℕ) (shares : List Share) → sum_by (amount_of stake) shares * whole_stake ≤ stake * sum_by (λ (share : Share). share.parts) shares
 amounts_within stake [] = omega arith
 amounts_within stake (share ∷ shares) =
     rw (sum_by-cons (amount_of stake) share shares, sum_by-cons (λ (s : Share). s.parts) share shares)
-    (more_within (amount_of stake share) (sum_by (amount_of stake) shares) WHOLE_STAKE stake share.parts (sum_by (λ (s : Share). s.parts) shares)
-    (div-mul-le_self (stake * share.parts) WHOLE_STAKE) (amounts_within stake shares))
+    (more_within (amount_of stake share) (sum_by (amount_of stake) shares) whole_stake stake share.parts (sum_by (λ (s : Share). s.parts) shares)
+    (div-mul-le_self (stake * share.parts) whole_stake) (amounts_within stake shares))
 
 -- the shares are within the stake
-pub shares_within : (stake : ℕ) (entry : Entry) → sum (parts_of entry) < WHOLE_STAKE → sum_by (amount_of stake) entry.shares ≤ stake
+pub shares_within : (stake : ℕ) (entry : Entry) → sum (parts_of entry) < whole_stake → sum_by (amount_of stake) entry.shares ≤ stake
 shares_within stake entry fits =
     let parts : sum (parts_of entry) ≡ sum_by (λ (share : Share). share.parts) entry.shares = sum-map (λ (share : Share). share.parts) entry.shares in
-    let within : sum_by (amount_of stake) entry.shares * WHOLE_STAKE ≤ stake * sum_by (λ (share : Share). share.parts) entry.shares = amounts_within stake entry.shares in
-    let most : stake * sum_by (λ (share : Share). share.parts) entry.shares ≤ stake * WHOLE_STAKE = mul-le-mul_left stake (omega (arith, fits, parts)) in
+    let within : sum_by (amount_of stake) entry.shares * whole_stake ≤ stake * sum_by (λ (share : Share). share.parts) entry.shares = amounts_within stake entry.shares in
+    let most : stake * sum_by (λ (share : Share). share.parts) entry.shares ≤ stake * whole_stake = mul-le-mul_left stake (omega (arith, fits, parts)) in
     omega (arith, within, most)
 
 -- ## What entries spend
@@ -144,10 +143,10 @@ edge_amounts stake voter (share ∷ shares) =
     ∙ (ap (λ n. amount_of stake share + n) (edge_amounts stake voter shares) ∙ sym (sum_by-cons (amount_of stake) share shares))
 
 -- the edges of an entry give the whole stake
-pub amounts_of_edges : (stake : ℕ) (entry : Entry) → sum (parts_of entry) < WHOLE_STAKE → amount_sum (edges_of stake entry) ≡ stake
+pub amounts_of_edges : (stake : ℕ) (entry : Entry) → sum (parts_of entry) < whole_stake → amount_sum (entry_edges stake entry) ≡ stake
 amounts_of_edges stake entry fits =
     let last : Edge = record { voter = entry.voter; target = entry.last; amount = rest_of stake entry.shares } in
-    let both : amount_sum (edges_of stake entry) ≡ amount_sum (map (edge_of stake entry.voter) entry.shares) + amount_sum (last ∷ []) =
+    let both : amount_sum (entry_edges stake entry) ≡ amount_sum (map (edge_of stake entry.voter) entry.shares) + amount_sum (last ∷ []) =
     sum_by-append (λ (edge : Edge). edge.amount) (map (edge_of stake entry.voter) entry.shares) (last ∷ []) in
     omega (arith, both, edge_amounts stake entry.voter entry.shares, sum_by-cons (λ (edge : Edge). edge.amount) last [], shares_within stake entry fits)
 
@@ -184,11 +183,11 @@ module _ (snapshot : Snapshot) where
   spends (entry ∷ entries) sound distinct voter =
       let here : IsSound snapshot entry = All-head (IsSound snapshot) entry entries sound in
       let rest = spends entries (All-tail (IsSound snapshot) entry entries sound) distinct.1 voter in
-      let one : spent (edges_of (stake_of snapshot entry.voter) entry) voter ≡ cond (nat_eq entry.voter voter) (stake_of snapshot entry.voter) 0 =
-      spent_of_one voter entry.voter (edges_of (stake_of snapshot entry.voter) entry) (voter_of_edges (stake_of snapshot entry.voter) entry)
+      let one : spent (entry_edges (stake_of snapshot entry.voter) entry) voter ≡ cond (nat_eq entry.voter voter) (stake_of snapshot entry.voter) 0 =
+      spent_of_one voter entry.voter (entry_edges (stake_of snapshot entry.voter) entry) (voter_of_edges (stake_of snapshot entry.voter) entry)
       ∙ ap (λ n. cond (nat_eq entry.voter voter) n 0) (amounts_of_edges (stake_of snapshot entry.voter) entry here.shares) in
       let both : spent (all_edges snapshot (entry ∷ entries)) voter ≡ cond (nat_eq entry.voter voter) (stake_of snapshot entry.voter) 0 + cond (has (voters_in entries) voter) (stake_of snapshot voter) 0 =
-      spent-append (edges_of (stake_of snapshot entry.voter) entry) (all_edges snapshot entries) voter ∙ ap₂ (λ a b. a + b) one rest in
+      spent-append (entry_edges (stake_of snapshot entry.voter) entry) (all_edges snapshot entries) voter ∙ ap₂ (λ a b. a + b) one rest in
       elim (cases_Bool (nat_eq entry.voter voter)) [
         | inl t ↦
             let same : entry.voter ≡ voter = eqb-true entry.voter voter t in
@@ -242,8 +241,8 @@ module _ (snapshot : Snapshot) where
       → AllByRecursion (λ (edge : Edge). nat_eq voter edge.voter ≡ false) (all_edges snapshot entries)
   others_apart voter [] all = tt
   others_apart voter (entry ∷ entries) all =
-      all_by-append (λ (edge : Edge). nat_eq voter edge.voter ≡ false) (edges_of (stake_of snapshot entry.voter) entry) (all_edges snapshot entries)
-      (each (edges_of (stake_of snapshot entry.voter) entry) (voter_of_edges (stake_of snapshot entry.voter) entry)) (others_apart voter entries all.1)
+      all_by-append (λ (edge : Edge). nat_eq voter edge.voter ≡ false) (entry_edges (stake_of snapshot entry.voter) entry) (all_edges snapshot entries)
+      (each (entry_edges (stake_of snapshot entry.voter) entry) (voter_of_edges (stake_of snapshot entry.voter) entry)) (others_apart voter entries all.1)
     where
       each : (edges : List Edge) → All (λ (e : Edge). e.voter ≡ entry.voter) edges → AllByRecursion (λ (edge : Edge). nat_eq voter edge.voter ≡ false) edges
       each [] same = tt
@@ -258,7 +257,7 @@ module _ (snapshot : Snapshot) where
   pairs_differ [] sound distinct = tt
   pairs_differ (entry ∷ entries) sound distinct =
       let here : IsSound snapshot entry = All-head (IsSound snapshot) entry entries sound in
-      let edges = edges_of (stake_of snapshot entry.voter) entry in
+      let edges = entry_edges (stake_of snapshot entry.voter) entry in
       IsDistinct-append same_pair edges (all_edges snapshot entries)
       (pairs_of_targets edges (subst (λ (ts : List ℕ). IsDistinct nat_eq ts) (sym (targets_of_edges (stake_of snapshot entry.voter) entry)) here.distinct))
       (pairs_differ entries (All-tail (IsSound snapshot) entry entries sound) distinct.1)
@@ -267,9 +266,9 @@ module _ (snapshot : Snapshot) where
   -- ## Edges that follow nominations
 
   edge_follows : (entry : Entry) → IsSound snapshot entry
-      → All (λ (edge : Edge). (edge.voter < length snapshot.voters) × (nominates snapshot edge.voter edge.target ≡ true)) (edges_of (stake_of snapshot entry.voter) entry)
+      → All (λ (edge : Edge). (edge.voter < length snapshot.voters) × (nominates snapshot edge.voter edge.target ≡ true)) (entry_edges (stake_of snapshot entry.voter) entry)
   edge_follows entry sound k d below =
-      let edges = edges_of (stake_of snapshot entry.voter) entry in
+      let edges = entry_edges (stake_of snapshot entry.voter) entry in
       let voter : (get_or edges k d).voter ≡ entry.voter = voter_of_edges (stake_of snapshot entry.voter) entry k d below in
       let voted : nominates snapshot entry.voter (get_or edges k d).target ≡ true =
       All-of_map (λ target. nominates snapshot entry.voter target ≡ true) (λ (e : Edge). e.target) edges
@@ -288,7 +287,7 @@ module _ (snapshot : Snapshot) where
       (all_stand (listed_in entries) k d below)))
     where
       listed_is : map (λ (e : Edge). e.target) (all_edges snapshot entries) ≡ listed_in entries
-      listed_is = map-flat_map (λ (e : Edge). e.target) (λ entry. edges_of (stake_of snapshot entry.voter) entry) targets_of
+      listed_is = map-flat_map (λ (e : Edge). e.target) (λ entry. entry_edges (stake_of snapshot entry.voter) entry) targets_of
           (λ entry. targets_of_edges (stake_of snapshot entry.voter) entry) entries
 
   -- entries that have no fault
@@ -315,7 +314,7 @@ module _ (snapshot : Snapshot) where
   follows_packed entries none =
       let sound = (all_sound entries none).0 in
       let edges = All-flat_map (λ (edge : Edge). (edge.voter < length snapshot.voters) × (nominates snapshot edge.voter edge.target ≡ true))
-      (λ entry. edges_of (stake_of snapshot entry.voter) entry) entries (λ k d below. edge_follows (get_or entries k d) (sound k d below)) in
+      (λ entry. entry_edges (stake_of snapshot entry.voter) entry) entries (λ k d below. edge_follows (get_or entries k d) (sound k d below)) in
       record {
         members_in_range = λ k d below.
             let within = (All-from_recursion (λ n. (0 ≤ n) × (n < 0 + length snapshot.targets)) (weights_of snapshot entries).committee
@@ -367,10 +366,10 @@ module _ (snapshot : Snapshot) where
   edges_within entries none =
       let sound = all_sound entries none in
       let votes : ℕ → ℕ = λ voter. length (votes_of snapshot voter) in
-      let count : length (all_edges snapshot entries) ≡ sum_by (λ (entry : Entry). length (edges_of (stake_of snapshot entry.voter) entry)) entries =
-      length-flat_map (λ entry. edges_of (stake_of snapshot entry.voter) entry) entries in
-      let few : sum_by (λ (entry : Entry). length (edges_of (stake_of snapshot entry.voter) entry)) entries ≤ sum_by (λ (entry : Entry). votes entry.voter) entries =
-      sum_le (λ (entry : Entry). length (edges_of (stake_of snapshot entry.voter) entry)) (λ (entry : Entry). votes entry.voter) entries
+      let count : length (all_edges snapshot entries) ≡ sum_by (λ (entry : Entry). length (entry_edges (stake_of snapshot entry.voter) entry)) entries =
+      length-flat_map (λ entry. entry_edges (stake_of snapshot entry.voter) entry) entries in
+      let few : sum_by (λ (entry : Entry). length (entry_edges (stake_of snapshot entry.voter) entry)) entries ≤ sum_by (λ (entry : Entry). votes entry.voter) entries =
+      sum_le (λ (entry : Entry). length (entry_edges (stake_of snapshot entry.voter) entry)) (λ (entry : Entry). votes entry.voter) entries
       (λ k d below. omega (arith, length_of_edges (stake_of snapshot (get_or entries k d).voter) (get_or entries k d), few_targets (get_or entries k d) (sound.0 k d below))) in
       let covered : sum_by votes (voters_in entries) ≤ sum_by votes (range_with_len 0 (length snapshot.voters)) =
       sum_covered votes (voters_in entries) (range_with_len 0 (length snapshot.voters)) (voters_distinct entries sound.1)

@@ -16,7 +16,7 @@ use Rattle.weight_book.specs.Weights.{Weights, IsFeasible, edges_from, edges_to,
 use Rattle.weight_book.specs.Passing.{pay, nominators}
 use Rattle.weight_book.proofs.SumLemmas.{sum_filter_more, sum_filter_push, sum_filter-le, sum_filter-take-le, sum_le}
 use Rattle.weight_book.proofs.StakeLemmas.{range_more, stakes_before}
-use Rattle.election_check.specs.declared.verdict.Verdict.TheVariants.{Outweighed, Overspent}
+use Rattle.election_check.specs.declared.fault.Fault.TheVariants.{Outweighed, Overspent}
 use Rattle.election_check.specs.First.{answer_of}
 use Rattle.election_check.specs.Kept.{AreMarks, left_of, reaches, reached}
 use Rattle.election_check.specs.Steps.{outweighed, outweighs, prescore_of, slack_of}

@@ -8,6 +8,7 @@ use Rattle.std.proofs.lemmas.Map.Made.{AllPairs-from_IsDistinct}
 use Rattle.std.proofs.lemmas.Bool.Decides.{Decides-eqb}
 use Rattle.std.proofs.lemmas.Bool.{cases_eq, cases_order, eq-eqb, ne_eqb, or_right, and_from, and_left, and_right}
 use Rattle.npos_base.specs.declared.figures.Edge.{Edge}
+use Rattle.npos_base.specs.declared.limits.TheConstants.{MOST_NOMINATIONS}
 use Rattle.election_snapshot.specs.Snapshot.{Snapshot, IsWellFormed, nobody, stake_of, stakes_of, votes_of}
 use Rattle.weight_book.specs.Weights.{Weights, spent, edges_from}
 use Rattle.weight_book.specs.Passing.{pay}
@@ -26,13 +27,13 @@ has_pair edges voter target = list_any (λ edge. nat_eq edge.voter voter && nat_
 
 abbrev pub ArePairs : Snapshot → List Bool → List Edge → Type 0
 ArePairs snapshot table edges = (voter place : ℕ) → voter < length snapshot.voters → place < length (votes_of snapshot voter)
-    → slice_index_or table (voter * 16 + place) false ≡ has_pair edges voter (slice_index (votes_of snapshot voter) place)
+    → slice_index_or table (voter * MOST_NOMINATIONS + place) false ≡ has_pair edges voter (slice_index (votes_of snapshot voter) place)
 
 -- the edges so far had no fault, and their nominations are marked
 pub record AreEdges (snapshot : Snapshot) (weights : Weights) (i : ℕ) (table : List Bool) : Type 0 where
   pub faults : edges_fault snapshot weights.committee (take i weights.edges) (drop i weights.edges) ≡ edges_fault snapshot weights.committee [] weights.edges
   pub pairs : ArePairs snapshot table (take i weights.edges)
-  pub size : length table ≡ length snapshot.voters * 16
+  pub size : length table ≡ length snapshot.voters * MOST_NOMINATIONS
 
 pub distinct_places : (numbers : List ℕ) → IsDistinct nat_eq numbers → (i j : ℕ) → i < length numbers → j < length numbers → get_or numbers i 0 ≡ get_or numbers j 0 → i ≡ j
 distinct_places numbers distinct i j p q e = elim (cases_order i j) [
@@ -53,40 +54,40 @@ module _ (snapshot : Snapshot) (formed : IsWellFormed snapshot) (edges : List Ed
   abbrev edge : Edge
   edge = get_or edges i d
 
-  few : (voter : ℕ) → voter < length snapshot.voters → length (votes_of snapshot voter) ≤ 16
+  few : (voter : ℕ) → voter < length snapshot.voters → length (votes_of snapshot voter) ≤ MOST_NOMINATIONS
   few voter p = (formed.voters.each_voter voter nobody p).few_votes
 
   -- the nomination of the edge, and no other
-  this_pair : (voter k : ℕ) → voter < length snapshot.voters → k < length (votes_of snapshot voter) → edge.voter * 16 + place ≡ voter * 16 + k
+  this_pair : (voter k : ℕ) → voter < length snapshot.voters → k < length (votes_of snapshot voter) → edge.voter * MOST_NOMINATIONS + place ≡ voter * MOST_NOMINATIONS + k
       → (nat_eq edge.voter voter && nat_eq edge.target (get_or (votes_of snapshot voter) k 0)) ≡ true
   this_pair voter k p q same =
-      let (voter_is, place_is) = same_from_place edge.voter place voter k 16 (omega (arith, few edge.voter in_range, in_votes)) (omega (arith, few voter p, q)) same in
+      let (voter_is, place_is) = same_from_place edge.voter place voter k MOST_NOMINATIONS (omega (arith, few edge.voter in_range, in_votes)) (omega (arith, few voter p, q)) same in
       and_from (nat_eq edge.voter voter) (nat_eq edge.target (get_or (votes_of snapshot voter) k 0)) (eq-eqb edge.voter voter voter_is)
       (eq-eqb edge.target (get_or (votes_of snapshot voter) k 0) (sym is ∙ ap (λ n. get_or (votes_of snapshot n) place 0) voter_is ∙ ap (λ n. get_or (votes_of snapshot voter) n 0) place_is))
 
-  other_pair : (voter k : ℕ) → voter < length snapshot.voters → k < length (votes_of snapshot voter) → (edge.voter * 16 + place ≡ voter * 16 + k → ⊥)
+  other_pair : (voter k : ℕ) → voter < length snapshot.voters → k < length (votes_of snapshot voter) → (edge.voter * MOST_NOMINATIONS + place ≡ voter * MOST_NOMINATIONS + k → ⊥)
       → (nat_eq edge.voter voter && nat_eq edge.target (get_or (votes_of snapshot voter) k 0)) ≡ false
   other_pair voter k p q differ = elim (cases_eq edge.voter voter) [
     | inl same ↦ and_right (nat_eq edge.voter voter) (nat_eq edge.target (get_or (votes_of snapshot voter) k 0))
-        (ne_eqb edge.target (get_or (votes_of snapshot voter) k 0) (λ e. differ (ap₂ (λ a b. a * 16 + b) same
+        (ne_eqb edge.target (get_or (votes_of snapshot voter) k 0) (λ e. differ (ap₂ (λ a b. a * MOST_NOMINATIONS + b) same
         (distinct_places (votes_of snapshot voter) (formed.voters.each_voter voter nobody p).votes_distinct place k
         (subst (λ n. place < length (votes_of snapshot n)) same in_votes) q
         (sym (ap (λ n. get_or (votes_of snapshot n) place 0) same) ∙ is ∙ e)))))
     | inr apart ↦ and_left (nat_eq edge.voter voter) (nat_eq edge.target (get_or (votes_of snapshot voter) k 0)) (ne_eqb edge.voter voter apart)
   ]
 
-  pub pairs_more : (table : List Bool) → length table ≡ length snapshot.voters * 16 → ArePairs snapshot table (take i edges)
-      → ArePairs snapshot (set table ((get_or edges i d).voter * 16 + place) true) (take (i + 1) edges)
+  pub pairs_more : (table : List Bool) → length table ≡ length snapshot.voters * MOST_NOMINATIONS → ArePairs snapshot table (take i edges)
+      → ArePairs snapshot (set table ((get_or edges i d).voter * MOST_NOMINATIONS + place) true) (take (i + 1) edges)
   pairs_more table size pairs voter k p q =
-      at (cases_eq (edge.voter * 16 + place) (voter * 16 + k)) ∙ sym (list_any_more (λ e. nat_eq e.voter voter && nat_eq e.target (get_or (votes_of snapshot voter) k 0)) edges i d h)
+      at (cases_eq (edge.voter * MOST_NOMINATIONS + place) (voter * MOST_NOMINATIONS + k)) ∙ sym (list_any_more (λ e. nat_eq e.voter voter && nat_eq e.target (get_or (votes_of snapshot voter) k 0)) edges i d h)
     where
-      at : (edge.voter * 16 + place ≡ voter * 16 + k) ⊎ (edge.voter * 16 + place ≡ voter * 16 + k → ⊥)
-          → get_or (set table (edge.voter * 16 + place) true) (voter * 16 + k) false
+      at : (edge.voter * MOST_NOMINATIONS + place ≡ voter * MOST_NOMINATIONS + k) ⊎ (edge.voter * MOST_NOMINATIONS + place ≡ voter * MOST_NOMINATIONS + k → ⊥)
+          → get_or (set table (edge.voter * MOST_NOMINATIONS + place) true) (voter * MOST_NOMINATIONS + k) false
           ≡ (has_pair (take i edges) voter (get_or (votes_of snapshot voter) k 0) || (nat_eq edge.voter voter && nat_eq edge.target (get_or (votes_of snapshot voter) k 0)))
-      at (inl same) = ap (λ n. get_or (set table n true) (voter * 16 + k) false) same
-          ∙ get_or-set_same table (voter * 16 + k) true false (omega (arith, size, few voter p, q, p))
+      at (inl same) = ap (λ n. get_or (set table n true) (voter * MOST_NOMINATIONS + k) false) same
+          ∙ get_or-set_same table (voter * MOST_NOMINATIONS + k) true false (omega (arith, size, few voter p, q, p))
           ∙ sym (or_right (has_pair (take i edges) voter (get_or (votes_of snapshot voter) k 0)) (nat_eq edge.voter voter && nat_eq edge.target (get_or (votes_of snapshot voter) k 0)) (this_pair voter k p q same))
-      at (inr differ) = get_or-set_other table (edge.voter * 16 + place) (voter * 16 + k) true false (λ e. differ (sym e))
+      at (inr differ) = get_or-set_other table (edge.voter * MOST_NOMINATIONS + place) (voter * MOST_NOMINATIONS + k) true false (λ e. differ (sym e))
           ∙ pairs voter k p q
           ∙ or_none (has_pair (take i edges) voter (get_or (votes_of snapshot voter) k 0)) (nat_eq edge.voter voter && nat_eq edge.target (get_or (votes_of snapshot voter) k 0)) (other_pair voter k p q differ)
 

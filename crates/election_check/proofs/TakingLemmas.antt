@@ -16,18 +16,17 @@ use Rattle.election_snapshot.specs.Snapshot.{Snapshot, has, stake_of}
 use Rattle.npos_base.specs.declared.figures.Edge.{Edge}
 use Rattle.weight_book.specs.Weights.{Weights}
 use Rattle.weight_book.specs.Room.{WeightBook, HasRoom, KeepsRoom, vote_count}
-use Rattle.compact_solution.specs.Solution.{Entry, targets_of, entries_of}
-use Rattle.compact_solution.specs.declared.entry.TheConstants.{WHOLE_STAKE}
-use Rattle.election_check.specs.declared.verdict.Verdict.{Verdict}
+use Rattle.compact_solution.specs.Solution.{Entry, targets_of, entries_of, whole_stake}
+use Rattle.election_check.specs.declared.fault.Fault.{Fault}
 use Rattle.election_check.specs.First.{answer_of, first_of}
-use Rattle.election_check.specs.Packed.{edges_of, listed_in, weights_of, entry_fault, voters_in, entries_fault}
+use Rattle.election_check.specs.Packed.{entry_edges, listed_in, weights_of, entry_fault, voters_in, entries_fault}
 use Rattle.election_check.specs.Taking.{AreTaken}
 use Rattle.election_check.proofs.FirstLemmas.{first_none}
 use Rattle.election_check.proofs.ListFacts.{find_none_all}
 use Rattle.election_check.proofs.SoundLemmas.{entry_sound, edges_within, length_of_edges}
 
 -- a stake that is split at a multiple of all parts
-pub parts_of_whole : (stake parts : ℕ) → stake / 65535 * parts + stake % 65535 * parts / 65535 ≡ stake * parts / WHOLE_STAKE
+pub parts_of_whole : (stake parts : ℕ) → stake / 65535 * parts + stake % 65535 * parts / 65535 ≡ stake * parts / whole_stake
 parts_of_whole stake parts =
     let split : stake / 65535 * 65535 + stake % 65535 ≡ stake = omega arith in
     let product : stake / 65535 * parts * 65535 + stake % 65535 * parts ≡ stake * parts = regroup stake (stake / 65535) (stake % 65535) 65535 parts split in
@@ -36,11 +35,11 @@ parts_of_whole stake parts =
     regroup : (s q r w p : ℕ) → q * w + r ≡ s → q * p * w + r * p ≡ s * p
     regroup s q r w p split = subst (λ (n : ℕ). q * p * w + r * p ≡ n * p) split (omega arith)
 
-pub no_error : (o : Option Verdict) → answer_of o ≡ Ok tt → o ≡ None
+pub no_error : (o : Option Fault) → answer_of o ≡ Ok tt → o ≡ None
 no_error None e = refl
 no_error (Some fault) e = absurd (cc)
 
-pub an_error : (o : Option Verdict) (fault : Verdict) → answer_of o ≡ Err fault → o ≡ Some fault
+pub an_error : (o : Option Fault) (fault : Fault) → answer_of o ≡ Err fault → o ≡ Some fault
 an_error None fault e = absurd (cc)
 an_error (Some other) fault e = ap (λ v. Some v) (cc)
 
@@ -86,11 +85,11 @@ has_room_then snapshot old new has keeps = record { members = omega (arith, has.
 
 -- ## Entries one after the other
 
-pub alone : (o : Option Verdict) → first_of (o ∷ []) ≡ o
+pub alone : (o : Option Fault) → first_of (o ∷ []) ≡ o
 alone None = refl
 alone (Some fault) = refl
 
-regroup_first : (a b c d : Option Verdict) → c ≡ first_of (b ∷ d ∷ []) → first_of (a ∷ c ∷ []) ≡ first_of (first_of (a ∷ b ∷ []) ∷ d ∷ [])
+regroup_first : (a b c d : Option Fault) → c ≡ first_of (b ∷ d ∷ []) → first_of (a ∷ c ∷ []) ≡ first_of (first_of (a ∷ b ∷ []) ∷ d ∷ [])
 regroup_first None b c d e = alone c ∙ (e ∙ ap (λ o. first_of (o ∷ d ∷ [])) (sym (alone b)))
 regroup_first (Some fault) b c d e = refl
 
@@ -133,7 +132,7 @@ module _ (snapshot : Snapshot) where
       (first_none (entries_fault snapshot [] before) (entries_fault snapshot before xs ∷ []) (sym (entries-append snapshot [] before xs) ∙ none)).0
 
   -- the first fault of a group, after groups that have none and entries of its own that have none
-  pub stops_in : (before xs : List Entry) (i : ℕ) (entry : Entry) (fault : Verdict) → i < length xs → entry ≡ get_or xs i entry
+  pub stops_in : (before xs : List Entry) (i : ℕ) (entry : Entry) (fault : Fault) → i < length xs → entry ≡ get_or xs i entry
       → entries_fault snapshot [] (before ++ take i xs) ≡ None → entry_fault snapshot (has (voters_in (before ++ take i xs)) entry.voter) entry ≡ Some fault
       → entries_fault snapshot before xs ≡ Some fault
   stops_in before xs i entry fault below is none faulty =
@@ -147,7 +146,7 @@ module _ (snapshot : Snapshot) where
       ∙ ap (λ o. first_of (o ∷ entries_fault snapshot ((before ++ take i xs) ++ entry ∷ []) rest ∷ [])) faulty)))
 
   -- the first fault of a solution, after groups that have none
-  pub stops_at_group : (solution : List (List Entry)) (place : ℕ) (fault : Verdict) → place < length solution
+  pub stops_at_group : (solution : List (List Entry)) (place : ℕ) (fault : Fault) → place < length solution
       → entries_fault snapshot [] (entries_of (take place solution)) ≡ None
       → entries_fault snapshot (entries_of (take place solution)) (get_or solution place []) ≡ Some fault
       → entries_fault snapshot [] (entries_of solution) ≡ Some fault
@@ -172,9 +171,9 @@ module _ (snapshot : Snapshot) where
     still_sound : entries_fault snapshot [] (done ++ entry ∷ []) ≡ None
     still_sound = sound_more done entry taken.sound fine_behind
 
-    edges_more : (weights_of snapshot (done ++ entry ∷ [])).edges ≡ (weights_of snapshot done).edges ++ edges_of (stake_of snapshot entry.voter) entry
-    edges_more = flat_map-append (λ (e : Entry). edges_of (stake_of snapshot e.voter) e) done (entry ∷ [])
-        ∙ ap (λ es. (weights_of snapshot done).edges ++ es) (append-nil (edges_of (stake_of snapshot entry.voter) entry))
+    edges_more : (weights_of snapshot (done ++ entry ∷ [])).edges ≡ (weights_of snapshot done).edges ++ entry_edges (stake_of snapshot entry.voter) entry
+    edges_more = flat_map-append (λ (e : Entry). entry_edges (stake_of snapshot e.voter) e) done (entry ∷ [])
+        ∙ ap (λ es. (weights_of snapshot done).edges ++ es) (append-nil (entry_edges (stake_of snapshot entry.voter) entry))
 
     -- there is room for the edges of one entry more
     pub room_for : length (targets_of entry) ≤ book.edge_spare
@@ -184,7 +183,7 @@ module _ (snapshot : Snapshot) where
           arith,
           within,
           ap length edges_more,
-          length-append (weights_of snapshot done).edges (edges_of (stake_of snapshot entry.voter) entry),
+          length-append (weights_of snapshot done).edges (entry_edges (stake_of snapshot entry.voter) entry),
           length_of_edges (stake_of snapshot entry.voter) entry,
           ap length taken.edges,
           taken.room.edges,
@@ -199,7 +198,7 @@ module _ (snapshot : Snapshot) where
 
     module _ (marks' : List Bool) (stamps' : List ℕ) (book' : WeightBook) (voters : length marks ≡ length snapshot.voters) (marked : marks' ≡ slice_set marks entry.voter true)
         (stamped : (target : ℕ) → get_or stamps' target 0 ≡ (if has (targets_of entry) target then entry.voter + 1 else get_or stamps target 0))
-        (edges : book'.plain.edges ≡ book.plain.edges ++ edges_of (stake_of snapshot entry.voter) entry)
+        (edges : book'.plain.edges ≡ book.plain.edges ++ entry_edges (stake_of snapshot entry.voter) entry)
         (members : book'.plain.committee ≡ book.plain.committee) (room : KeepsRoom book book') where
       in_range : entry.voter < length marks
       in_range = omega (arith, (entry_sound snapshot (has (voters_in done) entry.voter) entry fine_behind).0.voter, voters)
@@ -240,7 +239,7 @@ module _ (snapshot : Snapshot) where
         stamped = stamped_more;
         own = own_more;
         committee = members ∙ taken.committee;
-        edges = edges ∙ (ap (λ es. es ++ edges_of (stake_of snapshot entry.voter) entry) taken.edges ∙ sym edges_more);
+        edges = edges ∙ (ap (λ es. es ++ entry_edges (stake_of snapshot entry.voter) entry) taken.edges ∙ sym edges_more);
         room = has_room_then snapshot book book' taken.room room;
       }
 

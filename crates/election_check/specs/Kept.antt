@@ -1,15 +1,16 @@
 -- The tables of a checker. What they hold between two checks says nothing.
 use Rattle.std.specs.Prelude.{◌≡◌, ℕ, ◌*◌, Bool, false, not, ◌&&◌, nat_le, List, length, sum_by, slice_index_or, Option, option_map, find}
 use Rattle.std.specs.List.{range_with_len}
+use Rattle.npos_base.specs.declared.limits.TheConstants.{MOST_NOMINATIONS}
 use Rattle.election_snapshot.specs.Snapshot.{Snapshot, has}
 use Rattle.weight_book.specs.Passing.{nominators}
-use Rattle.election_check.specs.declared.verdict.Verdict.{Verdict}
-use Rattle.election_check.specs.declared.verdict.Verdict.TheVariants.{Outweighed}
+use Rattle.election_check.specs.declared.fault.Fault.{Fault}
+use Rattle.election_check.specs.declared.fault.Fault.TheVariants.{Outweighed}
 use Rattle.election_check.specs.declared.tables.Tables.{Tables}
 
 pub record AreTablesOf (snapshot : Snapshot) (tables : Tables) : Type 0 where
   pub members : length tables.is_member.items ≡ length snapshot.targets
-  pub pairs : length tables.is_seen.items ≡ length snapshot.voters * 16
+  pub pairs : length tables.is_seen.items ≡ length snapshot.voters * MOST_NOMINATIONS
   pub stakes : length tables.left.items ≡ length snapshot.voters
   pub prescores : length tables.prescores.items ≡ length snapshot.targets
   pub entries : length tables.has_entry.items ≡ length snapshot.voters
@@ -29,6 +30,6 @@ reaches price marks prescores target =
     not (slice_index_or marks target false) && nat_le price (slice_index_or prescores target 0)
 
 -- the lowest such target, with its prescore
-abbrev pub reached : ℕ → List Bool → List ℕ → Option Verdict
+abbrev pub reached : ℕ → List Bool → List ℕ → Option Fault
 reached price marks prescores = option_map (λ target. Outweighed target (slice_index_or prescores target 0))
     (find (reaches price marks prescores) (range_with_len 0 (length prescores)))

@@ -9,11 +9,12 @@ use Rattle.election_snapshot.specs.Snapshot.{Snapshot, has, nominates, stake_of}
 use Rattle.weight_book.specs.Weights.{Weights, no_weights}
 use Rattle.weight_book.specs.Scoring.{score_of}
 use Rattle.compact_solution.specs.declared.entry.Share.{Share}
-use Rattle.compact_solution.specs.declared.entry.TheConstants.{WHOLE_STAKE}
-use Rattle.compact_solution.specs.Solution.{Entry, targets_of, parts_of, entries_of}
+use Rattle.compact_solution.specs.Solution.{Entry, targets_of, parts_of, entries_of, whole_stake}
 use Rattle.compact_solution.specs.Decoded.{decoded}
+use Rattle.election_check.specs.declared.fault.Fault.{Fault}
+use Rattle.election_check.specs.declared.fault.Fault.TheVariants.{NoVoter, NoTarget, VoterTwice, TargetTwice, NotNominated, BadShare, WrongScore}
 use Rattle.election_check.specs.declared.verdict.Verdict.{Verdict}
-use Rattle.election_check.specs.declared.verdict.Verdict.TheVariants.{Undecodable, NoVoter, NoTarget, VoterTwice, TargetTwice, NotNominated, BadShare, WrongScore}
+use Rattle.election_check.specs.declared.verdict.Verdict.TheVariants.{Undecodable}
 use Rattle.election_check.specs.First.{when, first_of, or_yes}
 use Rattle.election_check.specs.Steps.{size_fault, outweighed}
 
@@ -21,7 +22,7 @@ use Rattle.election_check.specs.Steps.{size_fault, outweighed}
 
 -- what a share of this stake is, rounded down
 abbrev pub amount_of : ℕ → Share → ℕ
-amount_of stake share = stake * share.parts / WHOLE_STAKE
+amount_of stake share = stake * share.parts / whole_stake
 
 -- the edge of a share, of a voter with this stake
 abbrev pub edge_of : ℕ → ℕ → Share → Edge
@@ -32,8 +33,8 @@ abbrev pub rest_of : ℕ → List Share → ℕ
 rest_of stake shares = stake - sum_by (amount_of stake) shares
 
 -- the edges of an entry whose voter has this stake, in the order of its targets
-abbrev pub edges_of : ℕ → Entry → List Edge
-edges_of stake entry =
+abbrev pub entry_edges : ℕ → Entry → List Edge
+entry_edges stake entry =
     map (edge_of stake entry.voter) entry.shares
     ++ record { voter = entry.voter; target = entry.last; amount = rest_of stake entry.shares } ∷ []
 
@@ -45,7 +46,7 @@ listed_in entries = flat_map targets_of entries
 abbrev pub weights_of : Snapshot → List Entry → Weights
 weights_of snapshot entries = record {
   committee = filter (has (listed_in entries)) (range_with_len 0 (length snapshot.targets));
-  edges = flat_map (λ entry. edges_of (stake_of snapshot entry.voter) entry) entries;
+  edges = flat_map (λ entry. entry_edges (stake_of snapshot entry.voter) entry) entries;
 }
 
 abbrev pub expanded : Snapshot → List (List Entry) → Weights
@@ -61,14 +62,14 @@ first_repeat before (target ∷ targets) =
     else first_repeat (before ++ target ∷ []) targets
 
 -- Each of these is looked for among all targets of an entry.
-abbrev pub unknown_target : Snapshot → Entry → Option Verdict
+abbrev pub unknown_target : Snapshot → Entry → Option Fault
 unknown_target snapshot entry =
     option_map NoTarget (find (λ target. nat_le (length snapshot.targets) target) (targets_of entry))
 
-abbrev pub repeated_target : Entry → Option Verdict
+abbrev pub repeated_target : Entry → Option Fault
 repeated_target entry = option_map TargetTwice (first_repeat [] (targets_of entry))
 
-abbrev pub unnominated_target : Snapshot → Entry → Option Verdict
+abbrev pub unnominated_target : Snapshot → Entry → Option Fault
 unnominated_target snapshot entry =
     option_map (NotNominated entry.voter)
     (find (λ target. not (nominates snapshot entry.voter target)) (targets_of entry))
@@ -76,10 +77,10 @@ unnominated_target snapshot entry =
 -- a share is nothing, or the shares leave nothing for the last target
 abbrev pub has_bad_share : Entry → Bool
 has_bad_share entry =
-    list_any (λ parts. nat_eq parts 0) (parts_of entry) || nat_le WHOLE_STAKE (sum (parts_of entry))
+    list_any (λ parts. nat_eq parts 0) (parts_of entry) || nat_le whole_stake (sum (parts_of entry))
 
 -- the first fault of an entry, whose voter stands in an earlier one or not
-abbrev pub entry_fault : Snapshot → Bool → Entry → Option Verdict
+abbrev pub entry_fault : Snapshot → Bool → Entry → Option Fault
 entry_fault snapshot is_repeated entry = first_of (
     when (nat_le (length snapshot.voters) entry.voter) (NoVoter entry.voter)
     ∷ unknown_target snapshot entry
@@ -93,7 +94,7 @@ abbrev pub voters_in : List Entry → List ℕ
 voters_in entries = map (λ entry. entry.voter) entries
 
 -- the first fault of entries behind others
-abbrev pub entries_fault : Snapshot → List Entry → List Entry → Option Verdict
+abbrev pub entries_fault : Snapshot → List Entry → List Entry → Option Fault
 entries_fault snapshot before [] = None
 entries_fault snapshot before (entry ∷ entries) = first_of (
     entry_fault snapshot (has (voters_in before) entry.voter) entry
@@ -102,7 +103,7 @@ entries_fault snapshot before (entry ∷ entries) = first_of (
 
 -- ## The verdicts
 
-abbrev pub expand_fault : Snapshot → List (List Entry) → Option Verdict
+abbrev pub expand_fault : Snapshot → List (List Entry) → Option Fault
 expand_fault snapshot solution = first_of (
     entries_fault snapshot [] (entries_of solution)
     ∷ size_fault snapshot (expanded snapshot solution)
@@ -116,10 +117,10 @@ abbrev pub same_score : Score → Score → Bool
 same_score a b = nat_eq a.minimal b.minimal && (nat_eq a.sum b.sum && nat_eq a.squares b.squares)
 
 -- the weights have another score than the claim
-abbrev pub score_fault : Score → Weights → Option Verdict
+abbrev pub score_fault : Score → Weights → Option Fault
 score_fault claim weights = when (not (same_score (score_of weights) claim)) (WrongScore (score_of weights))
 
-abbrev pub solution_fault : Snapshot → Score → List (List Entry) → Option Verdict
+abbrev pub solution_fault : Snapshot → Score → List (List Entry) → Option Fault
 solution_fault snapshot claim solution = first_of (
     expand_fault snapshot solution
     ∷ score_fault claim (expanded snapshot solution)
@@ -139,7 +140,7 @@ abbrev pub verdict_packed : Snapshot → Score → List ℕ → Verdict
 verdict_packed snapshot claim bytes = verdict_decoded snapshot claim (decoded bytes)
 
 -- weights that stand where there is no fault, and else none
-abbrev pub given : Option Verdict → Weights → Weights
+abbrev pub given : Option Fault → Weights → Weights
 given None weights = weights
 given (Some fault) weights = no_weights
 

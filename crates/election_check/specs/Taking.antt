@@ -3,7 +3,7 @@ use Rattle.std.specs.Prelude.{◌≡◌, ℕ, ◌+◌, Bool, true, false, nat_lt
 use Rattle.election_snapshot.specs.Snapshot.{Snapshot, has, stake_of}
 use Rattle.weight_book.specs.Room.{WeightBook, HasRoom}
 use Rattle.compact_solution.specs.Solution.{Entry, targets_of}
-use Rattle.election_check.specs.Packed.{entries_fault, voters_in, listed_in, edges_of, weights_of}
+use Rattle.election_check.specs.Packed.{entries_fault, voters_in, listed_in, entry_edges, weights_of}
 
 -- These entries have no fault, their voters are marked, their targets are stamped, each stamp is
 -- one more than a voter of theirs, and their edges stand.
@@ -25,5 +25,5 @@ pub record IsTaken (snapshot : Snapshot) (entry : Entry) (marks marks' : List Bo
   pub marked : marks' ≡ slice_set marks entry.voter true
   pub stamped : (target : ℕ) → slice_index_or stamps' target 0
       ≡ (if has (targets_of entry) target then entry.voter + 1 else slice_index_or stamps target 0)
-  pub edges : book'.plain.edges ≡ book.plain.edges ++ edges_of (stake_of snapshot entry.voter) entry
+  pub edges : book'.plain.edges ≡ book.plain.edges ++ entry_edges (stake_of snapshot entry.voter) entry
   pub members : book'.plain.committee ≡ book.plain.committee

@@ -7,6 +7,7 @@ ghost use Rattle.election_check.specs.Kept.{AreTablesOf};
 ghost use Rattle.election_check.specs.Plain.{plain_fault, verdict_plain};
 ghost use Rattle.election_check.specs.Seats.{IsReordered};
 
+use crate::fault::Fault;
 use crate::plain::{check_edges, check_members, check_spending};
 use crate::prescores::{check_prescores, check_size};
 use crate::tables::Tables;
@@ -62,12 +63,12 @@ impl Checker {
     {
         match self.check_plain(weights) {
             Ok(()) => Verdict::Yes,
-            Err(fault) => fault,
+            Err(fault) => fault.verdict(),
         }
     }
 
     /// Tells the first fault of plain weights.
-    fn check_plain(&mut self, weights: &Weights) -> Result<(), Verdict>
+    fn check_plain(&mut self, weights: &Weights) -> Result<(), Fault>
         ensures fault { result ≡ answer_of (plain_fault self.old weights.now.plain) }
         ensures snapshot { self.new ≡ self.old }
     {
@@ -90,9 +91,9 @@ impl Checker {
         ensures handed_back { IfErr result (λ back. (back.0 ≡ self) × (back.1 ≡ weights)) }
     {
         let mut checker = self;
-        match checker.verdict(&weights) {
-            Verdict::Yes => Ok(Elected::new(checker.into_snapshot(), weights)),
-            verdict => Err((checker, weights, verdict)),
+        match checker.check_plain(&weights) {
+            Ok(()) => Ok(Elected::new(checker.into_snapshot(), weights)),
+            Err(fault) => Err((checker, weights, fault.verdict())),
         }
     }
 

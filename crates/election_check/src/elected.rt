@@ -42,6 +42,7 @@ impl Elected {
         ensures snapshot { result.snapshot ≡ snapshot }
         ensures weights { IsReordered weights result.weights }
     {
+        // Reading the seats tells the prover that the snapshot is well formed.
         let _seats = snapshot.seats();
         let mut weights = weights;
         weights.sort_members();

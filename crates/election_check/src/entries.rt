@@ -6,10 +6,10 @@ ghost use Rattle.weight_book.specs.Weights.{no_weights, IsFeasible};
 ghost use Rattle.weight_book.specs.Room.{HasRoom, KeepsRoom};
 ghost use Rattle.compact_solution.specs.Solution.{targets_of, parts_of, entries_of};
 ghost use Rattle.election_check.specs.First.{answer_of};
-ghost use Rattle.election_check.specs.Packed.{expanded, expand_fault, entries_fault, entry_fault, first_repeat, has_bad_share, edges_of, score_fault};
+ghost use Rattle.election_check.specs.Packed.{expanded, expand_fault, entries_fault, entry_fault, first_repeat, has_bad_share, entry_edges, score_fault};
 ghost use Rattle.election_check.specs.Taking.{AreTaken, IsTaken};
 
-use crate::Verdict;
+use crate::fault::Fault;
 use crate::prescores::check_size;
 use compact_solution::{Entry, GROUPS, Solution, WHOLE_STAKE};
 use election_snapshot::Snapshot;
@@ -24,7 +24,7 @@ pub(crate) fn fill_weights(
     has_entry: &mut [bool],
     stamps: &mut [u32],
     weights: &mut Weights,
-) -> Result<(), Verdict>
+) -> Result<(), Fault>
     requires empty { weights.old.plain ≡ no_weights }
     requires room { HasRoom snapshot.now weights.old }
     requires voters { length has_entry.old ≡ length snapshot.now.voters }
@@ -46,7 +46,7 @@ fn take_entries(
     has_entry: &mut [bool],
     stamps: &mut [u32],
     weights: &mut Weights,
-) -> Result<(), Verdict>
+) -> Result<(), Fault>
     requires empty { weights.old.plain ≡ no_weights }
     requires room { HasRoom snapshot.now weights.old }
     requires voters { length has_entry.old ≡ length snapshot.now.voters }
@@ -74,7 +74,7 @@ fn take_group(
     has_entry: &mut [bool],
     stamps: &mut [u32],
     weights: &mut Weights,
-) -> Result<(), Verdict>
+) -> Result<(), Fault>
     requires place { place < length solution.now }
     requires few { place < GROUPS }
     requires taken { AreTaken snapshot.now (entries_of (take place solution.now))
@@ -100,7 +100,7 @@ fn take_entry(
     has_entry: &mut [bool],
     stamps: &mut [u32],
     weights: &mut Weights,
-) -> Result<(), Verdict>
+) -> Result<(), Fault>
     requires voters { length has_entry.old ≡ length snapshot.now.voters }
     requires targets { length stamps.old ≡ length snapshot.now.targets }
     requires own { (target : ℕ) → slice_index_or stamps.old target 0 ≡ entry.now.voter + 1
@@ -130,7 +130,7 @@ fn take_single(
     has_entry: &mut [bool],
     stamps: &mut [u32],
     weights: &mut Weights,
-) -> Result<(), Verdict>
+) -> Result<(), Fault>
     requires single { entry.now.shares ≡ [] }
     requires voters { length has_entry.old ≡ length snapshot.now.voters }
     requires targets { length stamps.old ≡ length snapshot.now.targets }
@@ -147,16 +147,16 @@ fn take_single(
     let place = voter as usize;
     let target = entry.last();
     if place >= snapshot.voter_count() {
-        return Err(Verdict::NoVoter(voter));
+        return Err(Fault::NoVoter(voter));
     }
     if usize::from(target) >= snapshot.target_count() {
-        return Err(Verdict::NoTarget(target));
+        return Err(Fault::NoTarget(target));
     }
     if has_entry[place] {
-        return Err(Verdict::VoterTwice(voter));
+        return Err(Fault::VoterTwice(voter));
     }
     if !is_vote(snapshot.votes(voter), target) {
-        return Err(Verdict::NotNominated { voter, target });
+        return Err(Fault::NotNominated { voter, target });
     }
     has_entry[place] = true;
     stamps[usize::from(target)] = voter + 1;
@@ -176,7 +176,7 @@ fn check_entry(
     entry: &Entry,
     has_entry: &mut [bool],
     stamps: &mut [u32],
-) -> Result<(), Verdict>
+) -> Result<(), Fault>
     requires voters { length has_entry.old ≡ length snapshot.now.voters }
     requires targets { length stamps.old ≡ length snapshot.now.targets }
     requires own { (target : ℕ) → slice_index_or stamps.old target 0 ≡ entry.now.voter + 1
@@ -190,22 +190,22 @@ fn check_entry(
 {
     let voter = entry.voter();
     if voter as usize >= snapshot.voter_count() {
-        return Err(Verdict::NoVoter(voter));
+        return Err(Fault::NoVoter(voter));
     }
     if let Some(target) = first_unknown(snapshot, entry) {
-        return Err(Verdict::NoTarget(target));
+        return Err(Fault::NoTarget(target));
     }
     if has_entry[voter as usize] {
-        return Err(Verdict::VoterTwice(voter));
+        return Err(Fault::VoterTwice(voter));
     }
     if let Some(target) = stamp_targets(entry, voter + 1, stamps) {
-        return Err(Verdict::TargetTwice(target));
+        return Err(Fault::TargetTwice(target));
     }
     if let Some(target) = first_unnominated(snapshot, entry) {
-        return Err(Verdict::NotNominated { voter, target });
+        return Err(Fault::NotNominated { voter, target });
     }
     if has_bad_share(entry) {
-        return Err(Verdict::BadShare(voter));
+        return Err(Fault::BadShare(voter));
     }
     has_entry[voter as usize] = true;
     Ok(())
@@ -318,14 +318,15 @@ fn has_bad_share(entry: &Entry) -> bool
 fn push_edges(stake: u64, entry: &Entry, weights: &mut Weights)
     requires spare { length (targets_of entry.now) ≤ weights.old.edge_spare }
     requires shares { sum (parts_of entry.now) < WHOLE_STAKE }
-    ensures edges { weights.new.plain.edges ≡ weights.old.plain.edges ++ edges_of stake entry.now }
+    ensures edges { weights.new.plain.edges
+        ≡ weights.old.plain.edges ++ entry_edges stake entry.now }
     ensures members { weights.new.plain.committee ≡ weights.old.plain.committee }
     ensures room { KeepsRoom weights.old weights.new }
 {
     let voter = entry.voter();
     let mut rest = stake;
     for share in entry.shares() {
-        let amount = share_of(stake, share.parts);
+        let amount = amount_of(stake, share.parts);
         weights.push_edge(Edge {
             voter,
             target: share.target,
@@ -342,7 +343,7 @@ fn push_edges(stake: u64, entry: &Entry, weights: &mut Weights)
 
 /// So many parts of the stake, rounded down. The product of the two may not fit, so the stake is
 /// split at a multiple of all parts.
-fn share_of(stake: u64, parts: u16) -> u64
+fn amount_of(stake: u64, parts: u16) -> u64
     ensures { result ≡ stake * parts / WHOLE_STAKE }
 {
     let parts = u64::from(parts);
@@ -372,7 +373,7 @@ pub(crate) fn check_score(
     snapshot: &Snapshot,
     claim: &Score,
     weights: &Weights,
-) -> Result<(), Verdict>
+) -> Result<(), Fault>
     requires { IsFeasible snapshot.now weights.now.plain }
     ensures { result ≡ answer_of (score_fault claim.now weights.now.plain) }
 {
@@ -382,6 +383,6 @@ pub(crate) fn check_score(
     if score == *claim {
         Ok(())
     } else {
-        Err(Verdict::WrongScore(score))
+        Err(Fault::WrongScore(score))
     }
 }

@@ -13,8 +13,8 @@ pub fn a_packed_yes_is_a_plain_yes()
     ensures { PackedYesIsAccepting }
 {}
 
-/// Feasible weights can be packed, where each edge gives something: each voter nominates at most 16
-/// targets, and has at most one edge to each.
+/// Feasible weights can be packed, where each edge gives something: each voter nominates no more
+/// targets than a solution has groups, and has at most one edge to each.
 pub fn feasible_weights_are_packable()
     ensures { FeasibleIsPackable }
 {}

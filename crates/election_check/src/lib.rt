@@ -5,6 +5,7 @@
 mod checker;
 mod elected;
 mod entries;
+mod fault;
 pub mod laws;
 mod packed;
 mod plain;

@@ -8,6 +8,7 @@ ghost use Rattle.election_check.specs.Packed.{expanded, expand_fault, expand_ver
 ghost use Rattle.compact_solution.specs.Decoded.{decoded};
 
 use crate::entries::{check_score, fill_weights};
+use crate::fault::Fault;
 use crate::prescores::check_prescores;
 use crate::tables::Tables;
 use crate::{Checker, Verdict};
@@ -34,7 +35,7 @@ impl Checker {
             Ok(()) => Verdict::Yes,
             Err(fault) => {
                 weights.clear();
-                fault
+                fault.verdict()
             }
         }
     }
@@ -54,11 +55,11 @@ impl Checker {
         match self.take_solution(solution, weights) {
             Ok(()) => match self.check_claim(claim, weights) {
                 Ok(()) => Verdict::Yes,
-                Err(fault) => fault,
+                Err(fault) => fault.verdict(),
             },
             Err(fault) => {
                 weights.clear();
-                fault
+                fault.verdict()
             }
         }
     }
@@ -93,7 +94,7 @@ impl Checker {
     }
 
     /// Fills empty weights, or tells the first fault of the entries or of the number of members.
-    fn take_solution(&mut self, solution: &Solution, weights: &mut Weights) -> Result<(), Verdict>
+    fn take_solution(&mut self, solution: &Solution, weights: &mut Weights) -> Result<(), Fault>
         requires empty { weights.old.plain ≡ no_weights }
         requires room { HasRoom self.old weights.old }
         ensures fault { result ≡ answer_of (expand_fault self.old solution.now) }
@@ -112,7 +113,7 @@ impl Checker {
 
     /// Tells that the score is another one than the claim, or the lowest target outside that
     /// outweighs.
-    fn check_claim(&mut self, claim: &Score, weights: &Weights) -> Result<(), Verdict>
+    fn check_claim(&mut self, claim: &Score, weights: &Weights) -> Result<(), Fault>
         requires { IsFeasible self.old weights.now.plain }
         ensures fault { result ≡ answer_of (first_of
             (score_fault claim.now weights.now.plain ∷ outweighed self.old weights.now.plain

@@ -5,10 +5,9 @@ ghost use Rattle.election_check.specs.First.{answer_of};
 ghost use Rattle.election_check.specs.Kept.{AreMarks};
 ghost use Rattle.election_check.specs.Plain.{members_fault, edges_fault, overspent};
 
-use crate::Verdict;
-use crate::tables::MOST_VOTES;
+use crate::fault::Fault;
 use election_snapshot::Snapshot;
-use npos_base::Edge;
+use npos_base::{Edge, MOST_NOMINATIONS};
 use weight_book::Weights;
 
 /// Tells the first fault of the members, and marks them where there is none.
@@ -16,7 +15,7 @@ pub(crate) fn check_members(
     snapshot: &Snapshot,
     members: &[u16],
     is_member: &mut [bool],
-) -> Result<(), Verdict>
+) -> Result<(), Fault>
     requires { length is_member.old ≡ length snapshot.now.targets }
     ensures fault { result ≡ answer_of (members_fault snapshot.now [] members.now) }
     ensures marks { OnOk result (AreMarks is_member.new members.now) }
@@ -25,10 +24,10 @@ pub(crate) fn check_members(
     for member in members {
         let place = usize::from(*member);
         if place >= snapshot.target_count() {
-            return Err(Verdict::NoTarget(*member));
+            return Err(Fault::NoTarget(*member));
         }
         if is_member[place] {
-            return Err(Verdict::TargetTwice(*member));
+            return Err(Fault::TargetTwice(*member));
         }
         is_member[place] = true;
     }
@@ -41,29 +40,29 @@ pub(crate) fn check_edges(
     weights: &Weights,
     is_member: &[bool],
     is_seen: &mut [bool],
-) -> Result<(), Verdict>
+) -> Result<(), Fault>
     requires marks { AreMarks is_member.now weights.now.plain.committee }
-    requires pairs { length is_seen.old ≡ length snapshot.now.voters * 16 }
+    requires pairs { length is_seen.old ≡ length snapshot.now.voters * MOST_NOMINATIONS }
     ensures { let plain = weights.now.plain in
         result ≡ answer_of (edges_fault snapshot.now plain.committee [] plain.edges) }
 {
     is_seen.fill(false);
     for edge in weights.edges() {
         if edge.voter as usize >= snapshot.voter_count() {
-            return Err(Verdict::NoVoter(edge.voter));
+            return Err(Fault::NoVoter(edge.voter));
         }
         if !is_marked(is_member, edge.target) {
-            return Err(Verdict::NoTarget(edge.target));
+            return Err(Fault::NoTarget(edge.target));
         }
         let Some(vote) = place_of(edge.target, snapshot.votes(edge.voter)) else {
-            return Err(Verdict::NotNominated {
+            return Err(Fault::NotNominated {
                 voter: edge.voter,
                 target: edge.target,
             });
         };
-        let place = edge.voter as usize * MOST_VOTES + vote;
+        let place = edge.voter as usize * MOST_NOMINATIONS + vote;
         if is_seen[place] {
-            return Err(Verdict::TargetTwice(edge.target));
+            return Err(Fault::TargetTwice(edge.target));
         }
         is_seen[place] = true;
     }
@@ -99,7 +98,7 @@ pub(crate) fn check_spending(
     snapshot: &Snapshot,
     edges: &[Edge],
     left: &mut [u64],
-) -> Result<(), Verdict>
+) -> Result<(), Fault>
     requires voters { All (λ edge. edge.voter < length snapshot.now.voters) edges.now }
     requires stakes { length left.old ≡ length snapshot.now.voters }
     ensures { result ≡ answer_of (overspent snapshot.now edges.now) }
@@ -114,7 +113,7 @@ pub(crate) fn check_spending(
         }
     }
     if lowest < snapshot.voter_count() {
-        Err(Verdict::Overspent(lowest as u32))
+        Err(Fault::Overspent(lowest as u32))
     } else {
         Ok(())
     }

@@ -9,14 +9,14 @@ ghost use Rattle.election_check.specs.First.{answer_of};
 ghost use Rattle.election_check.specs.Kept.{AreTablesOf, AreMarks, left_of, reached};
 ghost use Rattle.election_check.specs.Steps.{size_fault, outweighed, slack_of};
 
-use crate::Verdict;
+use crate::fault::Fault;
 use crate::tables::Tables;
 use election_snapshot::Snapshot;
 use npos_base::Edge;
 use weight_book::Weights;
 
 /// Tells whether there is not one member for each seat.
-pub(crate) fn check_size(snapshot: &Snapshot, weights: &Weights) -> Result<(), Verdict>
+pub(crate) fn check_size(snapshot: &Snapshot, weights: &Weights) -> Result<(), Fault>
     requires { length weights.now.plain.committee ≤ length snapshot.now.targets }
     ensures { result ≡ answer_of (size_fault snapshot.now weights.now.plain) }
 {
@@ -25,7 +25,7 @@ pub(crate) fn check_size(snapshot: &Snapshot, weights: &Weights) -> Result<(), V
     if found == seats {
         Ok(())
     } else {
-        Err(Verdict::WrongSize(found))
+        Err(Fault::WrongSize(found))
     }
 }
 
@@ -34,7 +34,7 @@ pub(crate) fn check_prescores(
     snapshot: &Snapshot,
     weights: &Weights,
     tables: &mut Tables,
-) -> Result<(), Verdict>
+) -> Result<(), Fault>
     requires feasible { IsFeasible snapshot.now weights.now.plain }
     requires tables { AreTablesOf snapshot.now tables.old }
     ensures verdict { result ≡ answer_of (outweighed snapshot.now weights.now.plain) }
@@ -56,7 +56,7 @@ fn check_outside(
     is_member: &mut [bool],
     left: &mut [u64],
     prescores: &mut [u64],
-) -> Result<(), Verdict>
+) -> Result<(), Fault>
     requires feasible { IsFeasible snapshot.now weights.now.plain }
     requires members { length is_member.old ≡ length snapshot.now.targets }
     requires voters { length left.old ≡ length snapshot.now.voters }
@@ -136,14 +136,14 @@ fn add_to_all(votes: &[u16], slack: u64, prescores: &mut [u64])
 }
 
 /// Tells the lowest target that is not marked and whose prescore reaches the price of a seat.
-fn check_reached(price: u64, is_member: &[bool], prescores: &[u64]) -> Result<(), Verdict>
+fn check_reached(price: u64, is_member: &[bool], prescores: &[u64]) -> Result<(), Fault>
     requires same { length is_member.now ≡ length prescores.now }
     requires few { length prescores.now ≤ MOST_TARGETS }
     ensures { result ≡ answer_of (reached price is_member.now prescores.now) }
 {
     for target in 0..prescores.len() {
         if !is_member[target] && prescores[target] >= price {
-            return Err(Verdict::Outweighed {
+            return Err(Fault::Outweighed {
                 target: target as u16,
                 prescore: prescores[target],
             });

@@ -3,11 +3,8 @@ ghost use Rattle.std.specs.Prelude.{IfOk};
 ghost use Rattle.election_check.specs.Kept.{AreTablesOf};
 
 use election_snapshot::Snapshot;
-use npos_base::NoMemory;
+use npos_base::{MOST_NOMINATIONS, NoMemory};
 use std::alloc::Global;
-
-/// The most nominations of one voter.
-pub(crate) const MOST_VOTES: usize = 16;
 
 /// What a check looks up in place of a search. Each table is filled anew where it is used.
 #[derive(Drop)]
@@ -35,7 +32,7 @@ impl Tables {
         let targets = snapshot.target_count();
         let voters = snapshot.voter_count();
         let is_member = vec![in alloc; false; targets]?;
-        let is_seen = vec![in alloc; false; voters * MOST_VOTES]?;
+        let is_seen = vec![in alloc; false; voters * MOST_NOMINATIONS]?;
         let left = vec![in alloc; 0; voters]?;
         let prescores = vec![in alloc; 0; targets]?;
         let has_entry = vec![in alloc; false; voters]?;

@@ -5,6 +5,7 @@ use Rattle.std.proofs.lemmas.List.Sums.{sum_by-cons, sum_by-append}
 use Rattle.std.proofs.lemmas.List.Elements.{All-push}
 use Rattle.std.proofs.lemmas.Bool.Decides.{nat_tests}
 use Rattle.election_snapshot.specs.declared.fault.SnapshotFault.{SnapshotFault}
+use Rattle.npos_base.specs.declared.limits.TheConstants.{MOST_NOMINATIONS, MOST_VOTERS}
 use Rattle.npos_base.specs.declared.account.AccountId.{AccountId}
 use Rattle.npos_base.specs.Account.{same_account}
 use Rattle.npos_base.proofs.AccountOrder.{same_itself, same_exact}
@@ -73,11 +74,11 @@ stake_within (voter ∷ voters) (suc i) = let rest = stake_within voters i in rw
 
 -- a voter with no fault
 pub record IsSound (draft : Draft) (who : AccountId) (stake : ℕ) (votes : List ℕ) : Type 0 where
-  pub room : length draft.voters < 16384
+  pub room : length draft.voters < MOST_VOTERS
   pub is_new : stands_in (accounts_of draft.voters) who ≡ false
   pub stake_above : 0 < stake
   pub some_votes : 1 ≤ length votes
-  pub few_votes : length votes ≤ 16
+  pub few_votes : length votes ≤ MOST_NOMINATIONS
   pub in_range : list_any (λ target. nat_le (length draft.targets) target) votes ≡ false
   pub no_repeat : has_repeat votes ≡ false
   pub fits : total_of draft.voters + stake < 2 ^ 64
@@ -88,20 +89,20 @@ passed false fault rest e = (refl, e)
 
 pub sound : (draft : Draft) (who : AccountId) (stake : ℕ) (votes : List ℕ) → voter_fault draft who stake votes ≡ None → IsSound draft who stake votes
 sound draft who stake votes e =
-    let (full, e1) = passed (nat_le 16384 (length draft.voters)) _ _ e in
+    let (full, e1) = passed (nat_le MOST_VOTERS (length draft.voters)) _ _ e in
     let (old, e2) = passed (stands_in (accounts_of draft.voters) who) _ _ e1 in
     let (poor, e3) = passed (nat_eq stake 0) _ _ e2 in
     let (empty, e4) = passed (nat_eq (length votes) 0) _ _ e3 in
-    let (many, e5) = passed (nat_lt 16 (length votes)) _ _ e4 in
+    let (many, e5) = passed (nat_lt MOST_NOMINATIONS (length votes)) _ _ e4 in
     let (past, e6) = passed (list_any (λ target. nat_le (length draft.targets) target) votes) _ _ e5 in
     let (twice, e7) = passed (has_repeat votes) _ _ e6 in
     let (large, e8) = passed (nat_le (2 ^ 64) (total_of draft.voters + stake)) _ _ e7 in
     record {
-      room = over 16384 (length draft.voters) full;
+      room = over MOST_VOTERS (length draft.voters) full;
       is_new = old;
       stake_above = above stake poor;
       some_votes = above (length votes) empty;
-      few_votes = under 16 (length votes) many;
+      few_votes = under MOST_NOMINATIONS (length votes) many;
       in_range = past;
       no_repeat = twice;
       fits = over (2 ^ 64) (total_of draft.voters + stake) large;

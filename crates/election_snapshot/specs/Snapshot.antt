@@ -53,7 +53,7 @@ total_stake snapshot = total_of snapshot.voters
 abbrev pub threshold : Snapshot → ℕ
 threshold snapshot = total_stake snapshot / snapshot.seats
 
--- a voter has stake, and nominates 1 to 16 different targets
+-- a voter has stake, and nominates different targets, one at least and no more than MOST_NOMINATIONS
 pub record IsVoterOf (targets : ℕ) (voter : Voter) : Type 0 where
   pub stake_above : 0 < voter.stake
   pub some_votes : 1 ≤ length voter.votes

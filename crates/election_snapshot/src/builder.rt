@@ -161,7 +161,7 @@ fn pass(votes: &[u16], targets: usize) -> bool
     votes.iter().any(|target| targets <= usize::from(*target))
 }
 
-/// Whether some vote stands twice. The votes are at most 16.
+/// Whether some vote stands twice. The votes are few: at most as many as a voter can nominate.
 fn repeats(votes: &[u16]) -> bool
     ensures { result ≡ has_repeat votes.now }
 {

@@ -13,6 +13,9 @@ pub const MOST_TARGETS: usize = MOST_VALIDATORS;
 /// Voters of a snapshot.
 pub const MOST_VOTERS: usize = 16_384;
 
+/// Edges of weights: one for each vote of each voter.
+pub const MOST_EDGES: usize = MOST_NOMINATIONS * MOST_VOTERS;
+
 /// Seats of an election, of which there is at least one.
 pub const MOST_SEATS: u32 = 512;
 

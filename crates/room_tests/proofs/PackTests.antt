@@ -7,9 +7,10 @@ use Rattle.std.proofs.lemmas.List.FromFn.{length-range_with_len, get_or-range_wi
 use Rattle.std.proofs.lemmas.Map.Keys.{IsDistinct-cons}
 use Rattle.std.proofs.lemmas.Bool.Decides.{nat_tests}
 use Rattle.npos_base.specs.declared.figures.Edge.{Edge}
+use Rattle.npos_base.specs.declared.limits.TheConstants.{MOST_NOMINATIONS, MOST_VOTERS}
 use Rattle.compact_solution.specs.Packing.{IsPackable, edges_of, stake_at, same_pair}
 use Rattle.compact_solution.proofs.FitLemmas.{short_filter}
-use Rattle.compact_solution.proofs.GroupLemmas.{sixteen}
+use Rattle.compact_solution.proofs.GroupLemmas.{all_nominations}
 
 both : (b c : Bool) → (b && c) ≡ true → (b ≡ true) × (c ≡ true)
 both true c e = (refl, e)
@@ -45,26 +46,26 @@ has_stake stakes edges voter = nat_le (sum_by (λ edge. edge.amount) (edges_of e
 
 abbrev pub is_packable : List ℕ → List ℕ → List Edge → Bool
 is_packable stakes committee edges =
-    nat_le (length stakes) 16384 && (list_all (λ edge. nat_lt edge.voter (length stakes)) edges && (are_distinct edges
+    nat_le (length stakes) MOST_VOTERS && (list_all (λ edge. nat_lt edge.voter (length stakes)) edges && (are_distinct edges
     && (list_all (λ edge. list_any (λ member. nat_eq member edge.target) committee) edges && (list_all (λ edge. nat_lt 0 edge.amount) edges
-    && (nat_le (length edges) 16 && list_all (has_stake stakes edges) (range_with_len 0 (length stakes)))))))
+    && (nat_le (length edges) MOST_NOMINATIONS && list_all (has_stake stakes edges) (range_with_len 0 (length stakes)))))))
 
 pub packable : (stakes committee : List ℕ) (edges : List Edge) → is_packable stakes committee edges ≡ true → IsPackable stakes committee edges
 packable stakes committee edges e =
-    let a = both (nat_le (length stakes) 16384) _ e in
+    let a = both (nat_le (length stakes) MOST_VOTERS) _ e in
     let b = both (list_all (λ edge. nat_lt edge.voter (length stakes)) edges) _ a.1 in
     let c = both (are_distinct edges) _ b.1 in
     let d = both (list_all (λ edge. list_any (λ member. nat_eq member edge.target) committee) edges) _ c.1 in
     let f = both (list_all (λ edge. nat_lt 0 edge.amount) edges) _ d.1 in
-    let g = both (nat_le (length edges) 16) _ f.1 in
-    let few : length edges ≤ 16 = grind (arith, nat_tests, g.0) in
+    let g = both (nat_le (length edges) MOST_NOMINATIONS) _ f.1 in
+    let few : length edges ≤ MOST_NOMINATIONS = grind (arith, nat_tests, g.0) in
     record {
       few_voters = grind (arith, nat_tests, a.0);
       voters_in_range = all_from (λ (edge : Edge). edge.voter < length stakes) (λ edge. nat_lt edge.voter (length stakes)) (λ edge e. grind (arith, nat_tests, e)) edges b.0;
       pairs_distinct = distinct_from edges c.0;
       to_members = all_from (λ (edge : Edge). list_any (λ member. nat_eq member edge.target) committee ≡ true) (λ edge. list_any (λ member. nat_eq member edge.target) committee) (λ edge e. e) edges d.0;
       above = all_from (λ (edge : Edge). 0 < edge.amount) (λ edge. nat_lt 0 edge.amount) (λ edge e. grind (arith, nat_tests, e)) edges f.0;
-      few_edges = λ voter. omega (arith, few, sixteen, short_filter (λ (edge : Edge). nat_eq edge.voter voter) edges);
+      few_edges = λ voter. omega (arith, few, all_nominations, short_filter (λ (edge : Edge). nat_eq edge.voter voter) edges);
       within = λ voter h. within_at voter h (all_from (λ (voter : ℕ). sum_by (λ edge. edge.amount) (edges_of edges voter) ≤ stake_at stakes voter) (has_stake stakes edges) (λ voter e. grind (arith, nat_tests, e)) (range_with_len 0 (length stakes)) g.1);
     } where
       within_at : (voter : ℕ) → voter < length stakes → All (λ (voter : ℕ). sum_by (λ edge. edge.amount) (edges_of edges voter) ≤ stake_at stakes voter) (range_with_len 0 (length stakes))

@@ -1,7 +1,7 @@
 //! Worked verdicts on packed solutions.
 use crate::verdicts::{at, checker_of, finished};
 use compact_solution::Solution;
-use election_check::Verdict;
+use election_check::{Checker, Verdict};
 use election_snapshot::{Snapshot, SnapshotBuilder};
 use npos_base::{List, Score};
 use scale_wire::Pen;
@@ -22,10 +22,10 @@ const fn claim(minimal: u64, sum: u64, squares: u128) -> Score {
 /// A voter's stake and votes.
 type Voter<'a> = (u64, &'a [u16]);
 
-/// Two voters with a target each.
+/// Two voters, of whom the second nominates two targets.
 const SIXTY: Voter<'_> = (60, &[0]);
 
-const FORTY: Voter<'_> = (40, &[1]);
+const FORTY: Voter<'_> = (40, &[1, 2]);
 
 /// Three targets, two voters and two seats.
 fn small(alloc: Global, first: Voter<'_>, second: Voter<'_>) -> Result<Snapshot, Fail> {
@@ -47,18 +47,25 @@ fn whole(alloc: Global, groups: &[u8], empty: usize) -> Result<Vec<u8>, Fail> {
     Ok(bytes)
 }
 
+/// Bytes that are no solution, for this reason at this place.
+const fn undecodable(at: u64, why: Why) -> Verdict {
+    Verdict::Undecodable { at, why }
+}
+
 /// The verdict on bytes with a claim, and how many members and edges the weights then have.
 fn judged(
     alloc: Global,
-    snapshot: Snapshot,
+    checker: &mut Checker,
     bytes: &[u8],
     claim: &Score,
 ) -> Result<(Verdict, usize, usize), Fail> {
-    let mut checker = checker_of(alloc, snapshot)?;
     let mut weights = Weights::with_room(alloc, checker.snapshot())?;
     let verdict = checker.judge_bytes(alloc, bytes, claim, &mut weights)?;
     Ok((verdict, weights.committee().len(), weights.edges().len()))
 }
+
+/// The right entries of both voters.
+const RIGHT: [u8; 5] = [0x08, 0x00, 0x00, 0x04, 0x04];
 
 #[test]
 fn the_first_fault_of_bytes_is_the_verdict(rt: HostRuntime) -> Result<(), Fail> {
@@ -67,24 +74,33 @@ fn the_first_fault_of_bytes_is_the_verdict(rt: HostRuntime) -> Result<(), Fail> 
         target: 0,
     };
     // Each after the right entry of voter 0, and how many empty groups follow.
-    let table: [(&[u8], usize, Verdict); 10] = [
-        (&[0x08, 0x00, 0x00, 0x04, 0x04], 15, Verdict::Yes),
+    let table: [(&[u8], usize, Verdict); 14] = [
+        (&RIGHT, 15, Verdict::Yes),
+        (&RIGHT, 16, undecodable(20, Why::Trailing)),
+        (&[0x08, 0x00, 0x00, 0x04], 0, undecodable(4, Why::Short)),
         (
-            &[0x08, 0x00, 0x00, 0x04, 0x04],
-            16,
-            Verdict::Undecodable {
-                at: 20,
-                why: Why::Trailing,
-            },
+            &[0x08, 0x00, 0x00, 0x01, 0x00, 0x04],
+            15,
+            undecodable(3, Why::NotShortest),
+        ),
+        (
+            &[0x08, 0x00, 0x00, 0x04, 0x02, 0x00, 0x04, 0x00],
+            15,
+            undecodable(4, Why::TooWide),
+        ),
+        (
+            &[0x04, 0x00, 0x00, 0x06, 0x00, 0x01, 0x00],
+            14,
+            undecodable(3, Why::TooMany),
         ),
         (&[0x08, 0x00, 0x00, 0x08, 0x0c], 15, Verdict::NoVoter(2)),
         (&[0x08, 0x00, 0x00, 0x04, 0x0c], 15, Verdict::NoTarget(3)),
         (&[0x08, 0x00, 0x00, 0x00, 0x04], 15, Verdict::VoterTwice(0)),
-        // The target 2 twice, of a voter that does not nominate it, with a share of 0.
+        // The target 0 twice, of a voter that does not nominate it, with a share of 0.
         (
-            &[0x04, 0x00, 0x00, 0x04, 0x04, 0x08, 0x00, 0x08],
+            &[0x04, 0x00, 0x00, 0x04, 0x04, 0x00, 0x00, 0x00],
             14,
-            Verdict::TargetTwice(2),
+            Verdict::TargetTwice(0),
         ),
         (&[0x08, 0x00, 0x00, 0x04, 0x00], 15, unlike),
         // The target 0, which the voter does not nominate, and then the target 3.
@@ -93,22 +109,24 @@ fn the_first_fault_of_bytes_is_the_verdict(rt: HostRuntime) -> Result<(), Fail> 
             14,
             Verdict::NoTarget(3),
         ),
-        (&[0x04, 0x00, 0x00], 15, Verdict::WrongSize(1)),
         (
-            &[],
-            0,
-            Verdict::Undecodable {
-                at: 0,
-                why: Why::Short,
-            },
+            &[0x04, 0x00, 0x00, 0x04, 0x04, 0x04, 0x00, 0x08],
+            14,
+            Verdict::BadShare(1),
         ),
+        (&[0x04, 0x00, 0x00], 15, Verdict::WrongSize(1)),
     ];
+    let mut checker = checker_of(rt.alloc(), small(rt.alloc(), SIXTY, FORTY)?)?;
+    let right = whole(rt.alloc(), &RIGHT, 15)?;
+    let right_claim = claim(40, 100, 5200);
     for (groups, empty, verdict) in table {
         let bytes = whole(rt.alloc(), groups, empty)?;
-        let snapshot = small(rt.alloc(), SIXTY, FORTY)?;
         let size = if verdict == Verdict::Yes { 2 } else { 0 };
-        let found = judged(rt.alloc(), snapshot, &bytes, &claim(40, 100, 5200))?;
+        let found = judged(rt.alloc(), &mut checker, &bytes, &right_claim)?;
         assert_eq!(rt; found, (verdict, size, size));
+        // What was refused leaves nothing in the checker.
+        let after = judged(rt.alloc(), &mut checker, &right, &right_claim)?;
+        assert_eq!(rt; after, (Verdict::Yes, 2, 2));
     }
     Ok(())
 }
@@ -153,7 +171,8 @@ fn shares_are_rounded_down_and_the_last_target_gets_the_rest(rt: HostRuntime) ->
         bytes.push(0x04)?;
         let bytes = whole(rt.alloc(), &bytes, 14)?;
         let snapshot = small(rt.alloc(), (first, &[0, 1]), (second, &[2]))?;
-        let found = judged(rt.alloc(), snapshot, &bytes, &claim)?;
+        let mut checker = checker_of(rt.alloc(), snapshot)?;
+        let found = judged(rt.alloc(), &mut checker, &bytes, &claim)?;
         assert_eq!(rt; found.0, verdict);
     }
     Ok(())
@@ -206,6 +225,7 @@ fn the_last_entry_is_told_from_all_before_it(rt: HostRuntime) -> Result<(), Fail
         let bytes = ones(rt.alloc(), count, groups)?;
         let solution = Solution::decode(rt.alloc(), bytes.as_slice())?;
         assert_eq!(rt; checker.expand(&solution, &mut weights), verdict);
+        assert!(rt; weights.committee().is_empty() && weights.edges().is_empty());
     }
     Ok(())
 }

@@ -1,7 +1,7 @@
 //! Worked verdicts, and the verdict on the largest weights many times over.
 use election_check::{Checker, Verdict};
 use election_snapshot::{Snapshot, SnapshotBuilder};
-use npos_base::{AccountId, Edge, NoMemory};
+use npos_base::{AccountId, Edge, MOST_NOMINATIONS, NoMemory};
 use std::alloc::Global;
 use std::test::Fail;
 use weight_book::Weights;
@@ -296,8 +296,8 @@ fn the_first_fault_is_the_verdict(rt: HostRuntime) -> Result<(), Fail> {
 
 /// The votes of a voter of the largest snapshot: eight targets that are elected, eight that are
 /// not.
-fn large_votes(voter: u16) -> [u16; 16] {
-    let mut votes = [0; 16];
+fn large_votes(voter: u16) -> [u16; MOST_NOMINATIONS] {
+    let mut votes = [0; MOST_NOMINATIONS];
     for i in 0..8 {
         let place = usize::from(voter) * 8 + i;
         votes[i] = (place % 512) as u16;

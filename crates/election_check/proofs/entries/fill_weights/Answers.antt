@@ -1,7 +1,7 @@
 use Rattle.std.proofs.Common.{◌≡◌, ◌∙◌, [], ◌∷◌, Option, None, ap, sym, length, rules, arith}
 use Rattle.weight_book.specs.Weights.{Weights}
 use Rattle.compact_solution.specs.Solution.{entries_of}
-use Rattle.election_check.specs.declared.verdict.Verdict.{Verdict}
+use Rattle.election_check.specs.declared.fault.Fault.{Fault}
 use Rattle.election_check.specs.First.{answer_of, first_of}
 use Rattle.election_check.specs.Packed.{expanded, entries_fault}
 use Rattle.election_check.specs.Steps.{size_fault}
@@ -26,7 +26,7 @@ returns-clause-fault c =
     c.check_size.ensures
     ∙ (ap (λ (w : Weights). answer_of (size_fault snapshot w)) is
     ∙ (ap answer_of (sym (alone (size_fault snapshot (expanded snapshot c.args.solution.now))))
-    ∙ ap (λ (o : Option Verdict). answer_of (first_of (o ∷ size_fault snapshot (expanded snapshot c.args.solution.now) ∷ []))) (sym sound)))
+    ∙ ap (λ (o : Option Fault). answer_of (first_of (o ∷ size_fault snapshot (expanded snapshot c.args.solution.now) ∷ []))) (sym sound)))
 
 pub returns-clause-weights : goal.returns-clause-weights
 returns-clause-weights c =

@@ -19,7 +19,7 @@ overflow_sub-rest c =
     let within : sum_by (amount_of c.args.stake) items ≤ c.args.stake =
     subst (λ (s : List Share). sum_by (amount_of c.args.stake) s ≤ c.args.stake) (sym c.shares-share-items.ensures.shares)
     (shares_within c.args.stake c.args.entry.now c.requires.shares) in
-    omega (arith, more, within, c.share_of-amount.ensures, c.loop-share.invariant.rest_is)
+    omega (arith, more, within, c.amount_of-amount.ensures, c.loop-share.invariant.rest_is)
 
 pub loop-share-preserved : goal.loop-share-preserved
 loop-share-preserved c =
@@ -28,12 +28,12 @@ loop-share-preserved c =
     let voter = c.voter-voter.result in
     let made : ℕ → Edge = λ (n : ℕ). record { voter = voter; target = (get_or items i no_share).target; amount = n } in
     record {
-      rest_is = omega (arith, sum_by_more (amount_of c.args.stake) items i no_share c.loop-share-test.true, c.share_of-amount.ensures, c.loop-share.invariant.rest_is, overflow_sub-rest c);
+      rest_is = omega (arith, sum_by_more (amount_of c.args.stake) items i no_share c.loop-share-test.true, c.amount_of-amount.ensures, c.loop-share.invariant.rest_is, overflow_sub-rest c);
       edges = c.push_edge.ensures.edges
-          ∙ (ap (λ (es : List Edge). es ++ made c.share_of-amount.result ∷ []) c.loop-share.invariant.edges
-          ∙ (append_assoc c.args.weights.now.plain.edges (map (edge_of c.args.stake voter) (take i items)) (made c.share_of-amount.result ∷ [])
+          ∙ (ap (λ (es : List Edge). es ++ made c.amount_of-amount.result ∷ []) c.loop-share.invariant.edges
+          ∙ (append_assoc c.args.weights.now.plain.edges (map (edge_of c.args.stake voter) (take i items)) (made c.amount_of-amount.result ∷ [])
           ∙ ap (λ (es : List Edge). c.args.weights.now.plain.edges ++ es)
-          (ap (λ (n : ℕ). map (edge_of c.args.stake voter) (take i items) ++ made n ∷ []) c.share_of-amount.ensures
+          (ap (λ (n : ℕ). map (edge_of c.args.stake voter) (take i items) ++ made n ∷ []) c.amount_of-amount.ensures
           ∙ sym (map_more (edge_of c.args.stake voter) items i no_share c.loop-share-test.true))));
       members = c.push_edge.ensures.members ∙ c.loop-share.invariant.members;
       spare = omega (arith, c.push_edge.ensures.edge_spare, c.loop-share.invariant.spare);

@@ -1,5 +1,6 @@
 use Rattle.std.proofs.Common.{rules, ◌≡◌, ◌+◌, ◌*◌, ◌<◌, true, false, length, get_or, slice_index, slice_index_or}
 use Rattle.npos_base.specs.declared.figures.Edge.{Edge}
+use Rattle.npos_base.specs.declared.limits.TheConstants.{MOST_NOMINATIONS}
 use Rattle.election_snapshot.specs.Snapshot.{has, votes_of}
 use Rattle.election_check.proofs.EdgeLemmas.{twice, goes_on}
 use Rattle.election_check.proofs.plain.check_edges.Goals as goal
@@ -17,7 +18,7 @@ returns-then-is_seen-place c =
     let member : has c.args.weights.now.plain.committee (get_or edges i none).target ≡ true = search rules in
     let in_votes : c.in-Some.vote < length (votes_of snapshot (get_or edges i none).voter) = search rules in
     let is : slice_index (votes_of snapshot (get_or edges i none).voter) c.in-Some.vote ≡ (get_or edges i none).target = search rules in
-    let seen : slice_index_or c.loop-edge.is_seen ((get_or edges i none).voter * 16 + c.in-Some.vote) false ≡ true = search rules in
+    let seen : slice_index_or c.loop-edge.is_seen ((get_or edges i none).voter * MOST_NOMINATIONS + c.in-Some.vote) false ≡ true = search rules in
     rw c.edges-edge-items.ensures
     (twice snapshot c.args.weights.now.plain c.loop-edge.is_seen i none h c.loop-edge.invariant in_range c.voter_count.ensures.well_formed member c.in-Some.vote in_votes is seen)
 
@@ -31,6 +32,6 @@ loop-edge-preserved c =
     let member : has c.args.weights.now.plain.committee (get_or edges i none).target ≡ true = search rules in
     let in_votes : c.in-Some.vote < length (votes_of snapshot (get_or edges i none).voter) = search rules in
     let is : slice_index (votes_of snapshot (get_or edges i none).voter) c.in-Some.vote ≡ (get_or edges i none).target = search rules in
-    let seen : slice_index_or c.loop-edge.is_seen ((get_or edges i none).voter * 16 + c.in-Some.vote) false ≡ false = search rules in
+    let seen : slice_index_or c.loop-edge.is_seen ((get_or edges i none).voter * MOST_NOMINATIONS + c.in-Some.vote) false ≡ false = search rules in
     rw c.edges-edge-items.ensures
     (goes_on snapshot c.args.weights.now.plain c.loop-edge.is_seen i none h c.loop-edge.invariant in_range c.voter_count.ensures.well_formed member c.in-Some.vote in_votes is seen)

@@ -1,5 +1,5 @@
 use Rattle.std.proofs.Common.{rules, arith, ◌≡◌, true, length, get_or, option_map, ap, sym}
-use Rattle.election_check.specs.declared.verdict.Verdict.TheVariants.{Outweighed}
+use Rattle.election_check.specs.declared.fault.Fault.TheVariants.{Outweighed}
 use Rattle.election_check.specs.First.{answer_of}
 use Rattle.election_check.specs.Kept.{reaches}
 use Rattle.election_check.proofs.FirstLemmas.{lowest_found, none_found}

@@ -1,17 +1,13 @@
 use Rattle.std.proofs.Common.{arith}
 use Rattle.std.proofs.lemmas.Result.{err_from_is_err_and}
-use Rattle.compact_solution.specs.Solution.{group_count, group_form}
+use Rattle.compact_solution.specs.Solution.{group_form}
 use Rattle.compact_solution.proofs.Readers.{row_err, row_read}
-use Rattle.compact_solution.proofs.solution.SolutionWire.read.Goals as goal
-
-pub read_group-requires : goal.read_group-requires
-unfolding group_count
-read_group-requires c = omega arith
+use Rattle.compact_solution.proofs.reading.read_groups.Goals as goal
 
 pub returns-in_err-read_group : goal.returns-in_err-read_group
 returns-in_err-read_group c =
     let p = err_from_is_err_and c.from_residual-in_err-read_group.result c.from_residual-in_err-read_group.ensures.1 in
-    rw (p.1, p.2) (row_err group_form group_count c.loop-shares.shares c.args.cursor.now c.fork-here.result c.loop-shares.here c.read_group.new.cursor c.loop-shares.groups.items c.in_err-read_group.field-0.0 c.fork-here.ensures (omega arith) c.loop-shares.invariant c.in_err-read_group.ensures)
+    rw (p.1, p.2) (row_err group_form c.args.count c.loop-shares.shares c.args.cursor.now c.fork-here.result c.loop-shares.here c.read_group.new.cursor c.loop-shares.groups.items c.in_err-read_group.field-0.0 c.fork-here.ensures (omega arith) c.loop-shares.invariant c.in_err-read_group.ensures)
 
 pub loop-shares-preserved : goal.loop-shares-preserved
 loop-shares-preserved c =
