@@ -1,5 +1,6 @@
 pub mod Account
 pub mod Adapted
+pub mod Edge
 pub mod Kept
 pub mod Memory
 pub mod Outside
