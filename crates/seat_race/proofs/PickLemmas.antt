@@ -7,7 +7,7 @@ use Rattle.std.proofs.lemmas.List.FromFn.{length-range_with_len}
 use Rattle.election_snapshot.specs.Snapshot.{has}
 use Rattle.weight_book.proofs.SumLemmas.{sum_covered, sum_of_ones, eqb_turned}
 use Rattle.seat_race.specs.Picks.{better_of, first_best, less, more, outside, picks_by, IsPick}
-use Rattle.seat_race.proofs.InLemmas.{In, in_at, from_range}
+use Rattle.seat_race.proofs.InLemmas.{In, in_at, from_filter, from_range}
 use Rattle.seat_race.proofs.OrderLemmas.{rises_range, rises_distinct}
 
 -- ---- orders
@@ -250,6 +250,9 @@ not_false false h = absurd (true≢false h)
 to_not : (b : Bool) → b ≡ false → not b ≡ true
 to_not false h = refl
 to_not true h = absurd (true≢false h)
+
+pub outside_below : (targets : ℕ) (picks : List ℕ) (n : ℕ) → In (outside targets picks) n → n < targets
+outside_below targets picks n i = omega (arith, (from_range 0 targets n (from_filter (λ m. not (has picks m)) (range_with_len 0 targets) n i).0).1)
 
 -- of so many targets, each pick the first best outside by what it is worth after those before
 module _ (targets : ℕ) (better : ℕ → ℕ → Bool) (order : IsOrder better) (value : List ℕ → ℕ → ℕ) where

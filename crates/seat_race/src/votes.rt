@@ -36,17 +36,17 @@ pub fn raise_at(votes: &[u16], amount: u64, table: &mut [u64])
 }
 
 /// Adds the amount at each of the votes, in a table of wide numbers.
-pub fn raise_wide_at(votes: &[u16], amount: u128, table: &mut [u128])
-    requires in_range { All (λ vote. vote < length table.old) votes.now }
+pub fn raise_wide_at(votes: &[u16], amount: u128, wide: &mut [u128])
+    requires in_range { All (λ vote. vote < length wide.old) votes.now }
     requires distinct { IsDistinct nat_eq votes.now }
-    requires fits { (target : ℕ) → target < length table.old
-        → says table.old target + amount < 2 ^ 128 }
-    ensures { (target : ℕ) → target < length table.old
-        → says table.new target ≡ if has votes.now target then says table.old target + amount
-        else says table.old target }
+    requires fits { (target : ℕ) → target < length wide.old
+        → says wide.old target + amount < 2 ^ 128 }
+    ensures { (target : ℕ) → target < length wide.old
+        → says wide.new target ≡ if has votes.now target then says wide.old target + amount
+        else says wide.old target }
 {
     for vote in votes {
-        table[usize::from(*vote)] += amount;
+        wide[usize::from(*vote)] += amount;
     }
 }
 
