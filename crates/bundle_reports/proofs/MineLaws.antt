@@ -11,8 +11,8 @@ use Rattle.npos_base.specs.declared.figures.Score.{Score}
 use Rattle.election_snapshot.specs.Snapshot.{Snapshot, IsWellFormed, has, stakes_of}
 use Rattle.weight_book.specs.Weights.{Weights, IsFeasible, support}
 use Rattle.weight_book.proofs.SumLemmas.{eqb_turned}
-use Rattle.quota_fill.proofs.InLemmas.{in_filter, from_filter, in_range, in_has, from_has, in_permuted, all_at}
-use Rattle.quota_fill.proofs.OrderLemmas.{same_list, rises_sorted, rises-filter, rises_range}
+use Rattle.seat_race.proofs.InLemmas.{in_filter, from_filter, in_range, in_has, from_has, in_permuted, all_at}
+use Rattle.seat_race.proofs.OrderLemmas.{same_list, rises_sorted, rises-filter, rises_range}
 use Rattle.bundle_reports.specs.Verdicts.{member_line, score_line, solution_line}
 use Rattle.bundle_reports.specs.Bundles.{told}
 use Rattle.weight_book.specs.Scoring.{score_of}

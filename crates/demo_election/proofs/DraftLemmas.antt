@@ -6,9 +6,10 @@ use Rattle.std.proofs.lemmas.List.Sums.{sum_by-cons}
 use Rattle.std.proofs.lemmas.Bool.Decides.{nat_tests}
 use Rattle.std.proofs.lemmas.List.FromFn.{map-range_with_len_more, length-map-range_with_len}
 use Rattle.npos_base.specs.declared.account.AccountId.{AccountId}
+use Rattle.npos_base.specs.declared.limits.TheConstants.{MOST_NOMINATIONS}
 use Rattle.election_snapshot.specs.Snapshot.{total_of}
 use Rattle.election_snapshot.specs.Draft.{Draft, accounts_of, has_repeat, stands_in, target_fault, voter_fault, finish_fault}
-use Rattle.demo_election.specs.Generated.{next_state, state_after, drawn, voter_from, stake_from, count_from, target_account, voter_account, targets_of, voters_of, voter_of, votes_round}
+use Rattle.demo_election.specs.Generated.{next_state, state_after, drawn, voter_from, stake_from, count_from, target_account, voter_account, targets_of, voters_of, voter_of, votes_round, most_drawn}
 use Rattle.demo_election.specs.Begun.{IsBegun}
 use Rattle.demo_election.proofs.VoteLemmas.{votes_distinct, votes_within}
 
@@ -47,14 +48,14 @@ target_is_free place draft e h =
     ∙ on (stands_in draft.targets (target_account place)) _ _ (ap (λ accounts. stands_in accounts (target_account place)) e ∙ new_target 0 place place (omega arith))
 
 pub voter_is_free : (targets place first count stake : ℕ) (draft : Draft) → IsBegun targets place draft → place < 16384
-    → first < targets → 1 ≤ count → count ≤ 16 → count ≤ targets → 1000000 ≤ stake → stake < 2000000
+    → first < targets → 1 ≤ count → count ≤ most_drawn → count ≤ targets → 1000000 ≤ stake → stake < 2000000
     → voter_fault draft (voter_account place) stake (votes_round targets first count) ≡ None
 voter_is_free targets place first count stake draft begun h p q r s t u =
     on (nat_le 16384 (length draft.voters)) _ _ (let e = begun.count in grind (arith, nat_tests, h, e))
     ∙ on (stands_in (accounts_of draft.voters) (voter_account place)) _ _ (ap (λ accounts. stands_in accounts (voter_account place)) begun.accounts ∙ new_voter 0 place place (omega arith))
     ∙ on (nat_eq stake 0) _ _ (grind (arith, nat_tests, t))
     ∙ on (nat_eq (length votes) 0) _ _ (grind (arith, nat_tests, counted, q))
-    ∙ on (nat_lt 16 (length votes)) _ _ (grind (arith, nat_tests, counted, r))
+    ∙ on (nat_lt MOST_NOMINATIONS (length votes)) _ _ (grind (arith, nat_tests, counted, r))
     ∙ on (list_any (λ target. nat_le (length draft.targets) target) votes) _ _ (ap (λ n. list_any (λ target. nat_le n target) votes) begun.targets_are ∙ votes_within targets first count (omega (arith, p)))
     ∙ on (has_repeat votes) _ _ (votes_distinct targets first count p s)
     ∙ on (nat_le (2 ^ 64) (total_of draft.voters + stake)) _ _ (let e = begun.at_most in let d : total_of draft.voters + stake < 2 ^ 64 = omega (arith, e, h, u) in grind (arith, nat_tests, d))
@@ -73,8 +74,8 @@ pub drawn_is_free : (targets place draw1 draw2 draw3 : ℕ) (draft : Draft) → 
     → voter_fault draft (voter_account place) (stake_from draw1) (votes_round targets (draw3 % targets) (count_from targets draw2)) ≡ None
 drawn_is_free targets place draw1 draw2 draw3 draft begun h =
     let some = begun.some_targets in
-    let most : 1 ≤ min targets 16 = omega (arith, some) in
-    let below = mod_below draw2 (min targets 16) most in
+    let most : 1 ≤ min targets most_drawn = omega (arith, some) in
+    let below = mod_below draw2 (min targets most_drawn) most in
     voter_is_free targets place (draw3 % targets) (count_from targets draw2) (stake_from draw1) draft begun h
     (mod_below draw3 targets some) (omega arith) (omega (arith, below)) (omega (arith, below)) (stake_between draw1).0 (stake_between draw1).1
 

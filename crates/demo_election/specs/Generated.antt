@@ -2,7 +2,6 @@
 use Rattle.std.specs.Prelude.{ℕ, zero, suc, ◌+◌, ◌*◌, ◌/◌, ◌%◌, ◌^◌, min, List, map}
 use Rattle.std.specs.List.{range_with_len}
 use Rattle.npos_base.specs.declared.account.AccountId.{AccountId}
-use Rattle.npos_base.specs.declared.limits.TheConstants.{MOST_NOMINATIONS}
 use Rattle.election_snapshot.specs.Snapshot.{Voter, Snapshot}
 
 -- ## The draws of a linear congruential generator with 64 bits
@@ -35,9 +34,14 @@ voter_account place = record { hi = 1; lo = place + 1 }
 abbrev pub stake_from : ℕ → ℕ
 stake_from draw = 1000000 + draw % 1000000
 
--- one vote at least, and no more than there may be, or there are targets
+-- No more votes are drawn. It stays 16 whatever nominators may name, so that a seed generates the
+-- same election from then on.
+abbrev pub most_drawn : ℕ
+most_drawn = 16
+
+-- one vote at least, and no more than that, or than there are targets
 abbrev pub count_from : ℕ → ℕ → ℕ
-count_from targets draw = 1 + draw % min targets MOST_NOMINATIONS
+count_from targets draw = 1 + draw % min targets most_drawn
 
 -- so many votes from the first on, and from the last target on to target 0
 abbrev pub votes_round : ℕ → ℕ → ℕ → List ℕ

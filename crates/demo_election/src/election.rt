@@ -7,11 +7,14 @@ ghost use Rattle.npos_base.specs.declared.limits.TheConstants.{MOST_SEATS, MOST_
 
 use crate::generator::draw;
 use election_snapshot::{Snapshot, SnapshotFault, SnapshotParts};
-use npos_base::{AccountId, MOST_NOMINATIONS, NoMemory};
+use npos_base::{AccountId, NoMemory};
 use std::alloc::Global;
 
 /// How many targets there are for each seat.
 const TARGETS_A_SEAT: u32 = 4;
+/// How many votes a voter draws at most. It stays 16 whatever nominators may name, so that a seed
+/// generates the same election from then on.
+const MOST_DRAWN: u32 = 16;
 /// The least stake of a voter, in units; the greatest is below twice as much.
 const LEAST_STAKE: u64 = 1_000_000;
 
@@ -77,7 +80,7 @@ fn add_voter(
     ensures state { OnOk result (state.new ≡ state_after state.old 3) }
 {
     let stake = LEAST_STAKE + draw(state) % LEAST_STAKE;
-    let most = u64::from(targets.min(MOST_NOMINATIONS as u32));
+    let most = u64::from(targets.min(MOST_DRAWN));
     let count = 1 + (draw(state) % most) as u32;
     let first = (draw(state) % u64::from(targets)) as u32;
     put_votes(votes, targets, first, count)?;
@@ -104,7 +107,7 @@ fn add_voters(
     ensures { OnOk result (parts.new
         ≡ record { targets = targets_of targets; voters = voters_of seed targets count }) }
 {
-    let mut votes = Vec::with_capacity(alloc, MOST_NOMINATIONS)?;
+    let mut votes = Vec::with_capacity(alloc, MOST_DRAWN as usize)?;
     let mut state = seed;
     for place in 0..count {
         add_voter(parts, &mut votes, &mut state, targets, place)?;

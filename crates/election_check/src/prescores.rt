@@ -1,18 +1,17 @@
 //! The last step of a check: what is left of the voters' stake, and whether it would pay for a seat
 //! outside.
-ghost use Rattle.std.specs.Prelude.{◌≡◌, ◌<◌, ◌≤◌, ◌+◌, ◌*◌, ◌/◌, ◌^◌, ℕ, min, cond, false, length, nat_eq, slice_index_or, All};
+ghost use Rattle.std.specs.Prelude.{◌≡◌, ◌<◌, ◌≤◌, ◌*◌, ◌/◌, ℕ, min, false, length, slice_index_or, All};
 ghost use Rattle.npos_base.specs.declared.limits.TheConstants.{MOST_TARGETS};
-ghost use Rattle.std.specs.List.{IsDistinct};
-ghost use Rattle.election_snapshot.specs.Snapshot.{has, stake_of};
 ghost use Rattle.weight_book.specs.Weights.{IsFeasible};
 ghost use Rattle.election_check.specs.First.{answer_of};
-ghost use Rattle.election_check.specs.Kept.{AreTablesOf, AreMarks, left_of, reached};
+ghost use Rattle.election_check.specs.Kept.{AreTablesOf, AreMarks, reached};
 ghost use Rattle.election_check.specs.Steps.{size_fault, outweighed, slack_of};
 
 use crate::fault::Fault;
 use crate::tables::Tables;
 use election_snapshot::Snapshot;
 use npos_base::Edge;
+use seat_race::fill_sums;
 use weight_book::Weights;
 
 /// Tells whether there is not one member for each seat.
@@ -65,7 +64,7 @@ fn check_outside(
 {
     mark(weights.committee(), is_member);
     fill_slacks(snapshot, weights, left);
-    fill_prescores(snapshot, left, prescores);
+    fill_sums(snapshot, left, prescores);
     check_reached(snapshot.threshold(), is_member, prescores)
 }
 
@@ -103,36 +102,6 @@ fn pay(edge: &Edge, price: u64, support: u128) -> u64
         return edge.amount;
     }
     (u128::from(edge.amount) * u128::from(price) / support) as u64
-}
-
-/// By target, what its nominators have left.
-fn fill_prescores(snapshot: &Snapshot, slacks: &[u64], prescores: &mut [u64])
-    requires voters { length slacks.now ≡ length snapshot.now.voters }
-    requires within { (voter : ℕ)
-        → slice_index_or slacks.now voter 0 ≤ stake_of snapshot.now voter }
-    requires targets { length prescores.old ≡ length snapshot.now.targets }
-    ensures { (target : ℕ) → target < length snapshot.now.targets
-        → slice_index_or prescores.new target 0 ≡ left_of slacks.now snapshot.now target }
-{
-    prescores.fill(0);
-    for voter in 0..snapshot.voter_count() {
-        add_to_all(snapshot.votes(voter as u32), slacks[voter], prescores);
-    }
-}
-
-/// Adds the slack at each of the votes.
-fn add_to_all(votes: &[u16], slack: u64, prescores: &mut [u64])
-    requires in_range { All (λ vote. vote < length prescores.old) votes.now }
-    requires distinct { IsDistinct nat_eq votes.now }
-    requires fits { (target : ℕ) → target < length prescores.old
-        → slice_index_or prescores.old target 0 + slack < 2 ^ 64 }
-    ensures { (target : ℕ) → target < length prescores.old
-        → slice_index_or prescores.new target 0
-        ≡ slice_index_or prescores.old target 0 + cond (has votes.now target) slack 0 }
-{
-    for vote in votes {
-        prescores[usize::from(*vote)] += slack;
-    }
 }
 
 /// Tells the lowest target that is not marked and whose prescore reaches the price of a seat.

@@ -1,5 +1,4 @@
 pub mod NarrowLemmas
-pub mod PassLemmas
 pub mod RateLemmas
 pub mod RunLemmas
 pub mod ScoreLemmas

@@ -1,9 +1,8 @@
 -- What a pass over edges and votes stands on.
-use Rattle.std.specs.Prelude.{◌≡◌, ℕ, ◌*◌, ◌/◌, ◌^◌, ◌<◌, ◌≤◌, List, length, sum_by, slice_index_or, All}
+use Rattle.std.specs.Prelude.{◌≡◌, ℕ, ◌*◌, ◌/◌, ◌^◌, ◌<◌, ◌≤◌, List, length, slice_index_or, All}
 use Rattle.npos_base.specs.declared.figures.Edge.{Edge}
 use Rattle.election_snapshot.specs.Snapshot.{Snapshot, stake_of}
 use Rattle.weight_book.specs.Weights.{support, spent}
-use Rattle.weight_book.specs.Passing.{nominators}
 
 -- edges with the table of their supports, which spend no more than the stakes
 pub record AreSpare (snapshot : Snapshot) (edges : List Edge) (supports : List ℕ) : Type 0 where
@@ -15,7 +14,3 @@ pub record AreSpare (snapshot : Snapshot) (edges : List Edge) (supports : List �
 -- what part of a support above the price the price is, in units of a 2 ^ 64th
 abbrev pub IsRate : ℕ → ℕ → ℕ → Type 0
 IsRate price support rate = price < support → rate ≡ price * 2 ^ 64 / support
-
--- by what the table says, what the target's nominators have left
-abbrev pub left_of : List ℕ → Snapshot → ℕ → ℕ
-left_of slacks snapshot target = sum_by (λ voter. slice_index_or slacks voter 0) (nominators snapshot target)

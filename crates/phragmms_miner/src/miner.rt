@@ -7,10 +7,10 @@ ghost use Rattle.phragmms_miner.specs.Scores.{IsBest, score};
 ghost use Rattle.phragmms_miner.specs.Search.{AreTables};
 ghost use Rattle.phragmms_miner.specs.Run.{IsRun, IsNext};
 
-use crate::pass::fill_votes;
 use crate::search::best_outside;
 use election_snapshot::Snapshot;
 use npos_base::NoMemory;
+use seat_race::fill_sums;
 use std::alloc::Global;
 use support_balance::Backing;
 use weight_book::Weights;
@@ -63,7 +63,7 @@ impl Tables {
         let prescores = vec![in alloc; 0; snapshot.target_count()]?;
         let outside = vec![in alloc; 0; snapshot.target_count()]?;
         let mut approvals = vec![in alloc; 0; snapshot.target_count()]?;
-        fill_votes(snapshot, snapshot.stakes(), &mut approvals);
+        fill_sums(snapshot, snapshot.stakes(), &mut approvals);
         Ok(Tables {
             rates,
             left,

@@ -1,13 +1,12 @@
 //! Prescores of all targets at one price of a seat: one pass over the edges and one over the votes.
 //! There is one division for each target, and none for the edges.
-ghost use Rattle.std.specs.Prelude.{◌≡◌, ◌<◌, ◌≤◌, ◌+◌, ◌*◌, ◌/◌, ◌^◌, ℕ, min, cond, length, nat_eq, slice_index_or, All};
-ghost use Rattle.std.specs.List.{IsDistinct};
-ghost use Rattle.election_snapshot.specs.Snapshot.{has, stake_of};
+ghost use Rattle.std.specs.Prelude.{◌≡◌, ◌<◌, ◌≤◌, ◌*◌, ◌/◌, ℕ, min, length, slice_index_or};
 ghost use Rattle.weight_book.specs.Passing.{slack, prescore};
-ghost use Rattle.phragmms_miner.specs.Passes.{AreSpare, IsRate, left_of};
+ghost use Rattle.phragmms_miner.specs.Passes.{AreSpare, IsRate};
 
 use election_snapshot::Snapshot;
 use npos_base::Edge;
+use seat_race::fill_sums;
 
 /// Rates are in so many parts of one: `2^64`.
 const WHOLE: u128 = 18_446_744_073_709_551_616;
@@ -31,7 +30,7 @@ pub(crate) fn fill_prescores(
 {
     fill_rates(price, supports, rates);
     fill_slacks(price, snapshot, edges, supports, rates, left);
-    fill_votes(snapshot, left, prescores);
+    fill_sums(snapshot, left, prescores);
 }
 
 /// By target, what part of its support is paid.
@@ -96,35 +95,5 @@ fn pay(price: u64, amount: u64, support: u128, rate: u64) -> u64
         part as u64
     } else {
         part as u64 + 1
-    }
-}
-
-/// By target, what its nominators have left.
-pub(crate) fn fill_votes(snapshot: &Snapshot, slacks: &[u64], prescores: &mut [u64])
-    requires voters { length slacks.now ≡ length snapshot.now.voters }
-    requires within { (voter : ℕ)
-        → slice_index_or slacks.now voter 0 ≤ stake_of snapshot.now voter }
-    requires targets { length prescores.old ≡ length snapshot.now.targets }
-    ensures { (target : ℕ) → target < length snapshot.now.targets
-        → slice_index_or prescores.new target 0 ≡ left_of slacks.now snapshot.now target }
-{
-    prescores.fill(0);
-    for voter in 0..snapshot.voter_count() {
-        add_to_all(snapshot.votes(voter as u32), slacks[voter], prescores);
-    }
-}
-
-/// Adds the slack at each of the votes.
-fn add_to_all(votes: &[u16], slack: u64, prescores: &mut [u64])
-    requires in_range { All (λ vote. vote < length prescores.old) votes.now }
-    requires distinct { IsDistinct nat_eq votes.now }
-    requires fits { (target : ℕ) → target < length prescores.old
-        → slice_index_or prescores.old target 0 + slack < 2 ^ 64 }
-    ensures { (target : ℕ) → target < length prescores.old
-        → slice_index_or prescores.new target 0
-        ≡ slice_index_or prescores.old target 0 + cond (has votes.now target) slack 0 }
-{
-    for vote in votes {
-        prescores[usize::from(*vote)] += slack;
     }
 }

@@ -1,12 +1,14 @@
 -- What one target draws: of each nominator no more than it has left, and in all the price of a seat or all that there is.
-use Rattle.std.proofs.Common.{◌≡◌, ℕ, zero, suc, ◌+◌, ◌-◌, ◌<◌, ◌≤◌, ◌⊎◌, min, true, false, cond, List, filter, sum_by, inl, inr, ap, sym, subst, ◌∙◌, arith}
+use Rattle.std.proofs.Common.{◌≡◌, ℕ, zero, suc, ◌+◌, ◌-◌, ◌<◌, ◌≤◌, ◌⊎◌, min, true, false, cond, List, sum_by, inl, inr, ap, sym, subst, ◌∙◌, arith}
 use Rattle.std.specs.List.{range_with_len}
 use Rattle.std.proofs.lemmas.Bool.{cases_Bool, cond-true, cond-false, cond_both}
 use Rattle.std.proofs.lemmas.List.Sums.{sum_by_push}
 use Rattle.election_snapshot.specs.Snapshot.{Snapshot, nominates, threshold}
-use Rattle.weight_book.proofs.SumLemmas.{sum_filter_push, sum_of_sums, sum_same}
+use Rattle.weight_book.proofs.SumLemmas.{sum_of_sums, sum_same}
 use Rattle.weight_book.proofs.StakeLemmas.{range_more}
-use Rattle.quota_fill.specs.Filled.{nominators_before, draw}
+use Rattle.seat_race.specs.Tables.{nominators_before}
+use Rattle.seat_race.proofs.NominatorLemmas.{before_more as sum_more}
+use Rattle.quota_fill.specs.Filled.{draw}
 
 module _ (snapshot : Snapshot) (left : ℕ → ℕ) (target : ℕ) where
   abbrev price : ℕ
@@ -17,8 +19,7 @@ module _ (snapshot : Snapshot) (left : ℕ → ℕ) (target : ℕ) where
   before voter = sum_by left (nominators_before snapshot target voter)
 
   pub before_more : (voter : ℕ) → before (voter + 1) ≡ before voter + cond (nominates snapshot voter target) (left voter) 0
-  before_more voter = ap (λ ns. sum_by left (filter (λ n. nominates snapshot n target) ns)) (range_more voter)
-      ∙ sum_filter_push (λ n. nominates snapshot n target) left (range_with_len 0 voter) voter
+  before_more voter = sum_more snapshot left target voter
 
   pub drawn_from_nominator : (voter : ℕ) → nominates snapshot voter target ≡ true → draw snapshot left target voter ≡ min (left voter) (price - min price (before voter))
   drawn_from_nominator voter t = cond-true (nominates snapshot voter target) (min (left voter) (price - min price (before voter))) 0 t

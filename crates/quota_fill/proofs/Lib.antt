@@ -1,10 +1,7 @@
 pub mod DrawLemmas
 pub mod EdgeLemmas
-pub mod InLemmas
-pub mod OrderLemmas
 pub mod PassingLemmas
 pub mod PickLemmas
 pub mod RoundLemmas
 pub mod SeatLemmas
 pub mod SortLemmas
-pub mod TableLemmas

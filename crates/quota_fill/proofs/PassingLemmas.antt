@@ -1,25 +1,25 @@
 -- The fill passes. Either some pick found less than the price of a seat, and from then on every target outside has less;
 -- or each pick drew the price, and in all less than one unit a seat is left, which is no more than the price.
-use Rattle.std.proofs.Common.{◌≡◌, ℕ, suc, ◌+◌, ◌*◌, ◌/◌, ◌%◌, ◌<◌, ◌≤◌, ◌⊎◌, true, false, nat_eq, List, [], ◌∷◌, length, reverse, sum_by, inl, inr, refl, ap, sym, ◌∙◌, arith}
-use Rattle.std.specs.List.{range_with_len}
+use Rattle.std.proofs.Common.{◌≡◌, ℕ, suc, ◌+◌, ◌*◌, ◌/◌, ◌%◌, ◌<◌, ◌≤◌, ◌⊎◌, true, false, nat_eq, List, [], ◌∷◌, length, reverse, sum_by, inl, inr, ap, sym, ◌∙◌, arith}
+use Rattle.std.specs.List.{range_with_len, IsDistinct}
 use Rattle.std.proofs.Math.Nat.{div-add-mod, mul-le-mul_left}
 use Rattle.std.proofs.lemmas.Nat.{mod_below}
-use Rattle.std.proofs.lemmas.Bool.{cases_Bool, cases_lt, or_right, eqb-true, true≢false}
-use Rattle.std.proofs.lemmas.List.Sorted.{IsPermutation-reverse, IsPermutation-sym, length_permutation}
-use Rattle.std.proofs.lemmas.Map.Keys.{IsDistinct-IsPermutation}
-use Rattle.npos_base.specs.declared.figures.Edge.{Edge}
+use Rattle.std.proofs.lemmas.Bool.{cases_Bool, cases_lt, or_right, true≢false}
+use Rattle.std.proofs.lemmas.List.Sorted.{IsPermutation-reverse, length_permutation}
 use Rattle.election_snapshot.specs.Snapshot.{Snapshot, IsWellFormed, has, nominates, threshold, total_stake}
-use Rattle.weight_book.specs.Weights.{Follows, same_pair}
 use Rattle.weight_book.specs.Passing.{nominators, Passes, slack}
-use Rattle.weight_book.proofs.SumLemmas.{sum_filter-le, sum_le, eqb_turned}
+use Rattle.weight_book.proofs.SumLemmas.{sum_filter-le, sum_le}
 use Rattle.weight_book.proofs.StakeLemmas.{stakes_in_order}
-use Rattle.quota_fill.specs.Filled.{left_after, backing, picked, filled, edges_after}
+use Rattle.seat_race.specs.Giving.{edges_given}
+use Rattle.seat_race.specs.Picks.{more}
+use Rattle.seat_race.proofs.GivingLemmas.{given_follows, is_member, spent_is}
+use Rattle.seat_race.proofs.PickLemmas.{all_picks, more_orders, pick_in_range, picks_distinct}
+use Rattle.quota_fill.specs.Filled.{left_after, given, backing, picked, filled}
 use Rattle.quota_fill.specs.Laws.{EveryFillPasses}
-use Rattle.quota_fill.proofs.InLemmas.{In, in_permuted, in_has, from_has, all_in, from_filter, from_range, sum_agree}
-use Rattle.quota_fill.proofs.OrderLemmas.{distinct_by}
-use Rattle.quota_fill.proofs.PickLemmas.{AreRun, are_run, all_picks, pick_in_range, picks_distinct}
+use Rattle.seat_race.proofs.InLemmas.{In, from_has, from_filter, from_range, sum_agree}
+use Rattle.quota_fill.proofs.PickLemmas.{AreRun, are_run, greatest_of}
 use Rattle.quota_fill.proofs.DrawLemmas.{drawn_in_all, left_and_drawn}
-use Rattle.quota_fill.proofs.EdgeLemmas.{given_member, given_and_left, spent_is, edge_is, slack_is_left, place, edges_rise}
+use Rattle.quota_fill.proofs.EdgeLemmas.{given_member, given_and_left, slack_is_left}
 
 not_in : (numbers : List ℕ) (pick target : ℕ) → has (pick ∷ numbers) target ≡ false → has numbers target ≡ false
 not_in numbers pick target h = at (cases_Bool (has numbers target)) where
@@ -53,7 +53,7 @@ module _ (snapshot : Snapshot) (formed : IsWellFormed snapshot) where
     at : NoneCanPay picks ⊎ (left_in_all picks + length picks * price ≡ total_stake snapshot) → (backing snapshot picks pick < price) ⊎ (price ≤ backing snapshot picks pick)
         → NoneCanPay (pick ∷ picks) ⊎ (left_in_all (pick ∷ picks) + length (pick ∷ picks) * price ≡ total_stake snapshot)
     at (inl none) _ = inl (still_none pick picks none)
-    at (inr whole) (inl less) = inl (still_none pick picks (λ target h out. omega (arith, less, run.0.greatest target h out)))
+    at (inr whole) (inl less) = inl (still_none pick picks (λ target h out. omega (arith, less, (greatest_of snapshot picks pick run.0).greatest target h out)))
     at (inr whole) (inr enough) =
         let drawn = drawn_in_all snapshot (left_after snapshot picks) pick (length snapshot.voters) in
         let split = left_and_drawn snapshot (left_after snapshot picks) pick voters in
@@ -71,7 +71,7 @@ module _ (snapshot : Snapshot) (formed : IsWellFormed snapshot) where
   run = are_run snapshot snapshot.seats
 
   as_many : length picks ≡ snapshot.seats
-  as_many = all_picks snapshot snapshot.seats formed.targets_enough
+  as_many = all_picks (length snapshot.targets) more more_orders (backing snapshot) snapshot.seats formed.targets_enough
 
   -- a seat stands for at least as many units as there are seats
   seats_le_price : snapshot.seats ≤ price
@@ -109,40 +109,21 @@ module _ (snapshot : Snapshot) (formed : IsWellFormed snapshot) where
   abbrev members : List ℕ
   members = reverse picks
 
-  is_pick : (target : ℕ) → In members target → In picks target
-  is_pick target h = in_permuted members picks target (IsPermutation-sym picks members (IsPermutation-reverse picks)) h
+  below : (target : ℕ) → In picks target → target < length snapshot.targets
+  below = pick_in_range (length snapshot.targets) more more_orders (backing snapshot) picks run
 
-  is_member : (target : ℕ) → In picks target → has members target ≡ true
-  is_member target h = in_has members target (in_permuted picks members target (IsPermutation-reverse picks) h)
-
-  follows : Follows snapshot (filled snapshot)
-  follows = record {
-    members_in_range = all_in (λ member. member < length snapshot.targets) members (λ member h. pick_in_range snapshot picks run member (is_pick member h));
-    members_distinct = IsDistinct-IsPermutation nat_eq eqb_turned picks members (IsPermutation-reverse picks) (picks_distinct snapshot picks run);
-    pairs_distinct = distinct_by (place snapshot picks) same_pair apart (edges_after snapshot picks) (edges_rise snapshot picks (omega (arith, formed.voters.targets_few)));
-    voters_in_range = all_in (λ edge. edge.voter < length snapshot.voters) (edges_after snapshot picks) (λ edge h. (edge_is snapshot picks edge h).voter_in_range);
-    to_members = all_in (λ edge. has members edge.target ≡ true) (edges_after snapshot picks) (λ edge h. is_member edge.target (from_has picks edge.target (gave edge h).0));
-    nominated = all_in (λ edge. nominates snapshot edge.voter edge.target ≡ true) (edges_after snapshot picks) (λ edge h. (gave edge h).1);
-  } where
-    gave : (edge : Edge) → In (edges_after snapshot picks) edge → (has picks edge.target ≡ true) × (nominates snapshot edge.voter edge.target ≡ true)
-    gave edge h = let is = edge_is snapshot picks edge h in given_member snapshot picks edge.voter edge.target (omega (arith, is.more, is.is))
-
-    apart : (a b : Edge) → place snapshot picks a < place snapshot picks b → same_pair a b ≡ false
-    apart a b l = at (cases_Bool (nat_eq a.voter b.voter)) (cases_Bool (nat_eq a.target b.target)) where
-      at : (nat_eq a.voter b.voter ≡ true) ⊎ (nat_eq a.voter b.voter ≡ false) → (nat_eq a.target b.target ≡ true) ⊎ (nat_eq a.target b.target ≡ false) → same_pair a b ≡ false
-      at (inr f) _ = rw f refl
-      at (inl t) (inr f) = rw (t, f) refl
-      at (inl t) (inl s) = absurd (omega (arith, l, eqb-true a.voter b.voter t, eqb-true a.target b.target s))
+  distinct : IsDistinct nat_eq picks
+  distinct = picks_distinct (length snapshot.targets) more more_orders (backing snapshot) picks run
 
   pub fill_passes : Passes snapshot (filled snapshot)
   fill_passes = record {
     feasible = record {
-      follows = follows;
+      follows = given_follows snapshot (given snapshot picks) picks below distinct (given_member snapshot picks) (omega (arith, formed.voters.targets_few));
       seats_filled = length_permutation picks members (IsPermutation-reverse picks) ∙ as_many;
-      within_stakes = λ voter h. omega (arith, spent_is snapshot picks voter h, given_and_left snapshot picks run voter);
+      within_stakes = λ voter h. omega (arith, spent_is snapshot (given snapshot picks) voter h, given_and_left snapshot picks run voter);
     };
     none_outweighs = λ target h out.
-        let same = sum_agree (slack price snapshot (edges_after snapshot picks)) (left_after snapshot picks) (nominators snapshot target)
+        let same = sum_agree (slack price snapshot (edges_given snapshot (given snapshot picks))) (left_after snapshot picks) (nominators snapshot target)
         (λ voter i. slack_is_left snapshot picks run voter (in_reach target voter i)) in
         omega (arith, same, none_can_pay target h (not_picked target out));
   } where
@@ -153,7 +134,7 @@ module _ (snapshot : Snapshot) (formed : IsWellFormed snapshot) where
     not_picked target out = at (cases_Bool (has picks target)) where
       at : (has picks target ≡ true) ⊎ (has picks target ≡ false) → has picks target ≡ false
       at (inr f) = f
-      at (inl t) = absurd (true≢false (sym (is_member target (from_has picks target t)) ∙ out))
+      at (inl t) = absurd (true≢false (sym (is_member snapshot (given snapshot picks) picks below distinct (given_member snapshot picks) target (from_has picks target t)) ∙ out))
 
 pub every_fill_passes : EveryFillPasses
 every_fill_passes snapshot formed = fill_passes snapshot formed

@@ -1,44 +1,23 @@
 -- One pick's draws, nominator by nominator, and the tables beside them.
 use Rattle.std.proofs.Common.{◌≡◌, ℕ, zero, suc, ◌+◌, ◌-◌, ◌<◌, ◌≤◌, ◌⊎◌, min, Bool, true, false, cond, nat_eq, nat_lt, List, [], ◌∷◌, ◌++◌, length, length-append, take, get_or, set, map, filter, sum_by, inl, inr, refl, ap, sym, subst, ◌∙◌, arith}
-use Rattle.std.specs.List.{range_with_len, IsDistinct}
-use Rattle.std.proofs.Math.ListN.{get_or-eq_default}
+use Rattle.std.specs.List.{range_with_len}
 use Rattle.std.proofs.Math.Seq.{take-append_seam}
 use Rattle.std.proofs.lemmas.List.{take_all, take_more, map_more, length-set, take-append-le, get_or_append_left, get_or_push, get_or-set_same, get_or-set_other, append_assoc}
 use Rattle.std.proofs.lemmas.List.Elements.{filter-append}
 use Rattle.std.proofs.lemmas.List.Sums.{sum_by_push}
 use Rattle.std.proofs.lemmas.Bool.{cases_Bool, cases_eq, cases_lt, cond-true, cond-false, eq-eqb, ne_eqb, true≢false}
 use Rattle.npos_base.specs.declared.figures.Edge.{Edge}
-use Rattle.election_snapshot.specs.Snapshot.{Snapshot, Voter, nobody, IsVoterOf, voter_at, has, nominates, stake_of, votes_of, total_stake, threshold}
+use Rattle.election_snapshot.specs.Snapshot.{Snapshot, IsVoterOf, voter_at, has, nominates, votes_of, threshold}
 use Rattle.weight_book.specs.Passing.{nominators}
-use Rattle.weight_book.proofs.SumLemmas.{sum_filter-le, sum_of_sums, sum_same}
-use Rattle.weight_book.proofs.StakeLemmas.{range_more, stakes_before}
-use Rattle.quota_fill.specs.Filled.{nominators_before, draw}
-use Rattle.quota_fill.specs.Kept.{says, AreBackings, draw_edge, draws_of}
-use Rattle.quota_fill.proofs.InLemmas.{In, in_at, in_has, in_filter, in_range, from_has, from_filter, term_le, all_at, sum_filter}
-use Rattle.quota_fill.proofs.OrderLemmas.{rises_range, rises_distinct, rises-filter}
-use Rattle.quota_fill.proofs.EdgeLemmas.{only_one}
-use Rattle.quota_fill.proofs.DrawLemmas.{before, drawn_nominates, drawn_from_nominator}
-use Rattle.quota_fill.proofs.TableLemmas.{fresh, now_there, still_there}
-
--- only voters nominate
-pub nominates_in_range : (snapshot : Snapshot) (voter target : ℕ) → nominates snapshot voter target ≡ true → voter < length snapshot.voters
-nominates_in_range snapshot voter target t = elim (cases_lt voter (length snapshot.voters)) [
-  | inl l ↦ l
-  | inr l ↦ absurd (true≢false (sym t ∙ ap (λ (v : Voter). has v.votes target) (get_or-eq_default snapshot.voters nobody l)))
-]
-
-pub has_nominators : (snapshot : Snapshot) (voter target : ℕ) → nominates snapshot voter target ≡ true → In (nominators snapshot target) voter
-has_nominators snapshot voter target t = in_filter (λ n. nominates snapshot n target) (range_with_len 0 (length snapshot.voters)) voter
-    (in_range 0 (length snapshot.voters) voter (omega arith) (omega (arith, nominates_in_range snapshot voter target t))) t
-
-pub nominators_distinct : (snapshot : Snapshot) (target : ℕ) → IsDistinct nat_eq (nominators snapshot target)
-nominators_distinct snapshot target = rises_distinct (λ n. n) (nominators snapshot target)
-    (rises-filter (λ n. n) (λ n. nominates snapshot n target) (range_with_len 0 (length snapshot.voters)) (rises_range 0 (length snapshot.voters)))
-
-pub nominators_more : (snapshot : Snapshot) (target voter : ℕ) → nominators_before snapshot target (voter + 1)
-    ≡ nominators_before snapshot target voter ++ cond (nominates snapshot voter target) (voter ∷ []) []
-nominators_more snapshot target voter = ap (filter (λ n. nominates snapshot n target)) (range_more voter)
-    ∙ filter-append (λ n. nominates snapshot n target) (range_with_len 0 voter) (voter ∷ [])
+use Rattle.weight_book.proofs.SumLemmas.{sum_of_sums, sum_same}
+use Rattle.weight_book.proofs.StakeLemmas.{range_more}
+use Rattle.seat_race.specs.Tables.{says, nominators_before, AreSums}
+use Rattle.quota_fill.specs.Filled.{draw}
+use Rattle.quota_fill.specs.Kept.{draw_edge, draws_of}
+use Rattle.seat_race.proofs.InLemmas.{In, in_at, in_has, from_has, from_filter, term_le, all_at}
+use Rattle.seat_race.proofs.NominatorLemmas.{has_nominators, nominates_in_range, nominators_distinct, one_nominator}
+use Rattle.quota_fill.proofs.DrawLemmas.{drawn_nominates, drawn_from_nominator}
+use Rattle.seat_race.proofs.TableLemmas.{fresh, now_there, still_there}
 
 -- the first of the numbers of a range that pass are those that pass before the next one
 module _ (p : ℕ → Bool) where
@@ -95,29 +74,19 @@ module _ (snapshot : Snapshot) (left : List ℕ) (voter amount : ℕ) (size : le
 
   pub sum_lowered : (target : ℕ) → sum_by (says lowered) (nominators snapshot target) + cond (nominates snapshot voter target) amount 0 ≡ sum_by (says left) (nominators snapshot target)
   sum_lowered target =
-      let all = range_with_len 0 (length snapshot.voters) in
       let split = sum_same (says left) (λ n. says lowered n + cond (nat_eq n voter) amount 0) lowered_at (nominators snapshot target)
       ∙ sum_of_sums (says lowered) (λ n. cond (nat_eq n voter) amount 0) (nominators snapshot target) in
-      let one = sum_filter (λ n. nominates snapshot n target) (λ n. cond (nat_eq n voter) amount 0) all
-      ∙ sum_same (λ n. cond (nominates snapshot n target) (cond (nat_eq n voter) amount 0) 0) (λ n. cond (nat_eq n voter) (cond (nominates snapshot n target) amount 0) 0)
-      (λ n. swapped (nominates snapshot n target) (nat_eq n voter)) all
-      ∙ only_one (λ n. cond (nominates snapshot n target) amount 0) voter 0 (length snapshot.voters) (omega arith) (omega (arith, in_reach)) in
+      let one = one_nominator snapshot (λ _. amount) voter target in_reach in
       omega (arith, split, one)
-    where
-      swapped : (a b : Bool) → cond a (cond b amount 0) 0 ≡ cond b (cond a amount 0) 0
-      swapped true true = refl
-      swapped true false = refl
-      swapped false true = refl
-      swapped false false = refl
 
-  module _ (backings : List ℕ) (are : AreBackings snapshot left backings) (sound : IsVoterOf (length snapshot.targets) (voter_at snapshot voter)) where
+  module _ (backings : List ℕ) (are : AreSums snapshot left backings) (sound : IsVoterOf (length snapshot.targets) (voter_at snapshot voter)) where
     pub backing_is_enough : (target : ℕ) → nominates snapshot voter target ≡ true → amount ≤ says backings target
     backing_is_enough target t =
         let in_targets : target < length snapshot.targets = all_at (λ n. n < length snapshot.targets) (votes_of snapshot voter) sound.votes_in_range target (from_has (votes_of snapshot voter) target t) in
         omega (arith, enough, are target in_targets, term_le (says left) (nominators snapshot target) voter (has_nominators snapshot voter target t))
 
     pub backings_lowered : (new : List ℕ) → ((target : ℕ) → target < length snapshot.targets
-        → says new target ≡ cond (nominates snapshot voter target) (says backings target - amount) (says backings target)) → AreBackings snapshot lowered new
+        → says new target ≡ cond (nominates snapshot voter target) (says backings target - amount) (says backings target)) → AreSums snapshot lowered new
     backings_lowered new change target h = elim (cases_Bool (nominates snapshot voter target)) [
       | inl t ↦ omega (
         arith,
@@ -137,7 +106,7 @@ module _ (snapshot : Snapshot) (left : List ℕ) (voter amount : ℕ) (size : le
       )
     ]
 
-  pub backings_stay : (backings : List ℕ) → AreBackings snapshot left backings → amount ≤ 0 → AreBackings snapshot lowered backings
+  pub backings_stay : (backings : List ℕ) → AreSums snapshot left backings → amount ≤ 0 → AreSums snapshot lowered backings
   backings_stay backings are none target h = omega (arith, are target h, sum_lowered target, nothing (nominates snapshot voter target)) where
     nothing : (b : Bool) → cond b amount 0 ≤ 0
     nothing true = none
@@ -152,7 +121,7 @@ module _ (snapshot : Snapshot) (target : ℕ) (old : List ℕ) (drawn : List Edg
   pub record IsDrawing (i : ℕ) (left backings : List ℕ) (due : ℕ) (draws : List Edge) : Type 0 where
     pub left_is : (voter : ℕ) → says left voter ≡ says old voter - cond (has (take i voters) voter) (draw snapshot (says old) target voter) 0
     pub left_size : length left ≡ length snapshot.voters
-    pub backings_are : AreBackings snapshot left backings
+    pub backings_are : AreSums snapshot left backings
     pub backings_size : length backings ≡ length snapshot.targets
     pub due_is : due + min (threshold snapshot) (sum_by (says old) (take i voters)) ≡ threshold snapshot
     pub draws_are : draws ≡ drawn ++ draws_of snapshot (says old) target (take i voters)
@@ -192,7 +161,7 @@ module _ (snapshot : Snapshot) (target : ℕ) (old : List ℕ) (drawn : List Edg
       drawn_from_nominator snapshot (says old) target giver giver_nominates,
     )
 
-    pub drawing_more : (new : List ℕ) → AreBackings snapshot (set left giver (says left giver - amount)) new → length new ≡ length backings
+    pub drawing_more : (new : List ℕ) → AreSums snapshot (set left giver (says left giver - amount)) new → length new ≡ length backings
         → IsDrawing (i + 1) (set left giver (says left giver - amount)) new (due - amount) (draws ++ cond (nat_lt 0 amount) (record { voter = giver; target = target; amount = amount } ∷ []) [])
     drawing_more new are size = record {
       left_is = λ voter. left_at voter (cases_eq giver voter);
@@ -248,16 +217,3 @@ module _ (snapshot : Snapshot) (target : ℕ) (old : List ℕ) (drawn : List Edg
         | inl l ↦ absurd (true≢false (sym (in_has voters voter (has_nominators snapshot voter target (drawn_nominates snapshot (says old) target voter l))) ∙ f))
         | inr l ↦ omega (arith, l, cond-false (has voters voter) (draw snapshot (says old) target voter) 0 f)
       ]
-
--- ---- the sums at the start
-pub sum_fits : (snapshot : Snapshot) (left : ℕ → ℕ) → ((voter : ℕ) → left voter ≡ stake_of snapshot voter) → (voter target : ℕ) → voter < length snapshot.voters
-    → before snapshot left target voter + left voter ≤ total_stake snapshot
-sum_fits snapshot left are voter target h = omega (
-  arith,
-  sum_filter-le (λ n. nominates snapshot n target) left (range_with_len 0 voter),
-  sum_same left (stake_of snapshot) are (range_with_len 0 voter),
-  are voter,
-  stakes_before snapshot (voter + 1) (omega (arith, h)),
-  ap (sum_by (stake_of snapshot)) (range_more voter),
-  sum_by_push (stake_of snapshot) (range_with_len 0 voter) voter,
-)

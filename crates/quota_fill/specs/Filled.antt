@@ -1,19 +1,15 @@
 -- The fill of an election, where nobody hands in a solution. Seat after seat, the target outside
 -- whose nominators have the most stake left joins the committee, and draws the price of a seat from
 -- them. Lists of picks have the latest first.
-use Rattle.std.specs.Prelude.{ℕ, zero, suc, ◌-◌, min, not, nat_eq, nat_lt, if◌then◌else◌, List, [], ◌∷◌, length, map, filter, flat_map, fold, reverse, sum_by, Option, Some, None}
-use Rattle.std.specs.List.{range_with_len, cons_option}
-use Rattle.npos_base.specs.declared.figures.Edge.{Edge}
-use Rattle.election_snapshot.specs.Snapshot.{Snapshot, has, nominates, stake_of, threshold}
+use Rattle.std.specs.Prelude.{ℕ, ◌-◌, min, nat_eq, if◌then◌else◌, List, [], ◌∷◌, length, reverse, sum_by, Option}
+use Rattle.election_snapshot.specs.Snapshot.{Snapshot, nominates, stake_of, threshold}
 use Rattle.weight_book.specs.Weights.{Weights}
 use Rattle.weight_book.specs.Passing.{nominators}
+use Rattle.seat_race.specs.Giving.{edges_given}
+use Rattle.seat_race.specs.Picks.{more, first_best, outside, picks_by}
+use Rattle.seat_race.specs.Tables.{nominators_before}
 
 -- ## Draws
-
--- the target's nominators before this voter
-abbrev pub nominators_before : Snapshot → ℕ → ℕ → List ℕ
-nominators_before snapshot target voter =
-    filter (λ other. nominates snapshot other target) (range_with_len 0 voter)
 
 -- What a target draws from a voter, where `left` is what each voter has left: all of it, until the
 -- target's nominators have given the price of a seat.
@@ -44,43 +40,19 @@ given snapshot (pick ∷ picks) voter target =
 abbrev pub backing : Snapshot → List ℕ → ℕ → ℕ
 backing snapshot picks target = sum_by (λ voter. left_after snapshot picks voter) (nominators snapshot target)
 
--- the targets that are not picked, rising
-abbrev pub outside : Snapshot → List ℕ → List ℕ
-outside snapshot picks =
-    filter (λ target. not (has picks target)) (range_with_len 0 (length snapshot.targets))
-
--- the better of the best so far and the next number: a later one has to have more
-abbrev pub better : (ℕ → ℕ) → Option ℕ → ℕ → Option ℕ
-better value None number = Some number
-better value (Some best) number = if nat_lt (value best) (value number) then Some number else Some best
-
--- the first number with the greatest value
-abbrev pub best_of : (ℕ → ℕ) → List ℕ → Option ℕ
-best_of value numbers = fold (better value) None numbers
-
 abbrev pub next_pick : Snapshot → List ℕ → Option ℕ
-next_pick snapshot picks = best_of (backing snapshot picks) (outside snapshot picks)
+next_pick snapshot picks =
+    first_best more (backing snapshot picks) (outside (length snapshot.targets) picks)
 
 -- the first picks, this many
 abbrev pub picked : Snapshot → ℕ → List ℕ
-picked snapshot zero = []
-picked snapshot (suc count) = cons_option (next_pick snapshot (picked snapshot count)) (picked snapshot count)
+picked snapshot count = picks_by (next_pick snapshot) count
 
 -- ## The weights
-
-abbrev pub edge_along : Snapshot → List ℕ → ℕ → ℕ → Edge
-edge_along snapshot picks voter target =
-    record { voter = voter; target = target; amount = given snapshot picks voter target }
-
--- what each voter has given to each target, by voter and then by target, where it is more than nothing
-abbrev pub edges_after : Snapshot → List ℕ → List Edge
-edges_after snapshot picks = filter (λ edge. nat_lt 0 edge.amount)
-    (flat_map (λ voter. map (edge_along snapshot picks voter) (range_with_len 0 (length snapshot.targets)))
-    (range_with_len 0 (length snapshot.voters)))
 
 -- the committee in the order of the picks, one for each seat, with what the voters gave
 abbrev pub filled : Snapshot → Weights
 filled snapshot = record {
   committee = reverse (picked snapshot snapshot.seats);
-  edges = edges_after snapshot (picked snapshot snapshot.seats);
+  edges = edges_given snapshot (given snapshot (picked snapshot snapshot.seats));
 }

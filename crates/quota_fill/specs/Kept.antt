@@ -1,44 +1,21 @@
 -- What a fill keeps while it goes on.
-use Rattle.std.specs.Prelude.{◌≡◌, ℕ, ◌<◌, Bool, false, not, nat_lt, List, [], ◌∷◌, ◌++◌, length, map, filter, reverse, sum_by, slice_index_or, Option}
-use Rattle.std.specs.List.{range_with_len, cons_option}
+use Rattle.std.specs.Prelude.{◌≡◌, ℕ, nat_lt, List, [], ◌∷◌, ◌++◌, length, map, filter, reverse}
+use Rattle.std.specs.List.{cons_option}
 use Rattle.npos_base.specs.declared.figures.Edge.{Edge}
-use Rattle.election_snapshot.specs.Snapshot.{Snapshot, has}
+use Rattle.election_snapshot.specs.Snapshot.{Snapshot}
 use Rattle.weight_book.specs.Passing.{nominators}
 use Rattle.weight_book.specs.Room.{WeightBook, HasRoom}
+use Rattle.seat_race.specs.Tables.{says, AreMarks, AreNominators, AreSums}
 use Rattle.quota_fill.specs.declared.race.Race.{Race}
-use Rattle.quota_fill.specs.Filled.{draw, left_after, best_of, next_pick}
+use Rattle.quota_fill.specs.Filled.{draw, left_after, next_pick}
 
 -- ## Tables
-
--- what a table of numbers says of each voter or target
-abbrev pub says : List ℕ → ℕ → ℕ
-says table number = slice_index_or table number 0
-
--- by target, the sum of what the other table says of its nominators
-abbrev pub AreBackings : Snapshot → List ℕ → List ℕ → Type 0
-AreBackings snapshot left backings = (target : ℕ) → target < length snapshot.targets
-    → says backings target ≡ sum_by (says left) (nominators snapshot target)
-
--- by target, its nominators
-abbrev pub AreNominators : Snapshot → List (List ℕ) → Type 0
-AreNominators snapshot lists = (target : ℕ) → target < length snapshot.targets
-    → slice_index_or lists target [] ≡ nominators snapshot target
-
--- the table tells which numbers stand in the list
-abbrev pub AreMarks : List Bool → List ℕ → Type 0
-AreMarks marks numbers = (number : ℕ) → slice_index_or marks number false ≡ has numbers number
-
--- by the tables, the first with the greatest backing of those that are not marked
-abbrev pub best_by : List ℕ → List Bool → ℕ → Option ℕ
-best_by backings marks count =
-    best_of (says backings) (filter (λ target. not (slice_index_or marks target false))
-    (range_with_len 0 count))
 
 -- the tables after these picks, the latest first
 pub record IsAfter (snapshot : Snapshot) (picks : List ℕ) (race : Race) : Type 0 where
   pub left : (voter : ℕ) → says race.left.items voter ≡ left_after snapshot picks voter
   pub left_size : length race.left.items ≡ length snapshot.voters
-  pub backings : AreBackings snapshot race.left.items race.backings.items
+  pub backings : AreSums snapshot race.left.items race.backings.items
   pub backings_size : length race.backings.items ≡ length snapshot.targets
   pub marks : AreMarks race.is_picked.items picks
   pub marks_size : length race.is_picked.items ≡ length snapshot.targets

@@ -1,21 +1,23 @@
 //! One pick: the target that joins, and what it draws.
-ghost use Rattle.std.specs.Prelude.{◌≡◌, ℕ, ◌-◌, ◌<◌, ◌≤◌, ◌∷◌, [], ◌++◌, if◌then◌else◌, length, nat_eq, nat_lt, is_none, ◌||◌, slice_set, All, IsTrue, IfSome, OnOk};
+ghost use Rattle.std.specs.Prelude.{◌≡◌, ℕ, ◌-◌, ◌<◌, ◌≤◌, ◌∷◌, [], ◌++◌, if◌then◌else◌, length, nat_lt, is_none, ◌||◌, slice_set, IfSome, OnOk};
 ghost use Rattle.npos_base.specs.declared.limits.TheConstants.{MOST_TARGETS};
-ghost use Rattle.std.specs.List.{IsDistinct};
-ghost use Rattle.election_snapshot.specs.Snapshot.{has};
 ghost use Rattle.weight_book.specs.Passing.{nominators};
 ghost use Rattle.quota_fill.specs.Filled.{draw};
-ghost use Rattle.quota_fill.specs.Kept.{says, best_by, draws_of, AreBackings};
+ghost use Rattle.seat_race.specs.Picks.{more, first_best};
+ghost use Rattle.seat_race.specs.Tables.{says, unmarked, AreSums};
+ghost use Rattle.quota_fill.specs.Kept.{draws_of};
 
 use election_snapshot::Snapshot;
 use npos_base::{Edge, NoMemory};
+use seat_race::lower_at;
 
 /// The lowest of the targets that are not picked with the greatest backing, if one is not picked. A
 /// backing is seldom more than the most so far, so a mark is looked at only then.
 pub(crate) fn best_outside(backings: &[u64], is_picked: &[bool]) -> Option<u16>
     requires same { length is_picked.now ≡ length backings.now }
     requires few { length backings.now ≤ MOST_TARGETS }
-    ensures best { result ≡ best_by backings.now is_picked.now (length backings.now) }
+    ensures best { result ≡ first_best more (says backings.now)
+        (unmarked is_picked.now (length is_picked.now)) }
     ensures in_range { IfSome result (λ target. target < length backings.now) }
 {
     let mut best = None;
@@ -51,10 +53,10 @@ pub(crate) fn draw_from_all(
     requires voters { voters.now ≡ nominators snapshot.now target }
     requires left_size { length left.old ≡ length snapshot.now.voters }
     requires backings_size { length backings.old ≡ length snapshot.now.targets }
-    requires backings { AreBackings snapshot.now left.old backings.old }
+    requires backings { AreSums snapshot.now left.old backings.old }
     ensures left { OnOk result ((voter : ℕ) → says left.new voter
         ≡ says left.old voter - draw snapshot.now (says left.old) target voter) }
-    ensures backings { OnOk result (AreBackings snapshot.now left.new backings.new) }
+    ensures backings { OnOk result (AreSums snapshot.now left.new backings.new) }
     ensures draws { OnOk result (draws.new.items
         ≡ draws.old.items ++ draws_of snapshot.now (says left.old) target voters.now) }
 {
@@ -74,28 +76,13 @@ fn draw_from(snapshot: &Snapshot, voter: u32, amount: u64, left: &mut [u64], bac
     requires enough { amount ≤ says left.old voter }
     requires left_size { length left.old ≡ length snapshot.now.voters }
     requires backings_size { length backings.old ≡ length snapshot.now.targets }
-    requires backings { AreBackings snapshot.now left.old backings.old }
+    requires backings { AreSums snapshot.now left.old backings.old }
     ensures left { left.new ≡ slice_set left.old voter (says left.old voter - amount) }
-    ensures backings { AreBackings snapshot.now left.new backings.new }
+    ensures backings { AreSums snapshot.now left.new backings.new }
 {
     left[voter as usize] -= amount;
     if amount > 0 {
-        lower_all(snapshot.votes(voter), amount, backings);
-    }
-}
-
-/// Takes the amount away at each of the votes.
-fn lower_all(votes: &[u16], amount: u64, backings: &mut [u64])
-    requires in_range { All (λ vote. vote < length backings.old) votes.now }
-    requires distinct { IsDistinct nat_eq votes.now }
-    requires enough { (target : ℕ) → IsTrue (has votes.now target)
-        → amount ≤ says backings.old target }
-    ensures { (target : ℕ) → target < length backings.old
-        → says backings.new target ≡ if has votes.now target then says backings.old target - amount
-        else says backings.old target }
-{
-    for vote in votes {
-        backings[usize::from(*vote)] -= amount;
+        lower_at(snapshot.votes(voter), amount, backings);
     }
 }
 

@@ -1,6 +1,6 @@
 //! Seats filled one after the other.
-ghost use Rattle.std.specs.Prelude.{◌≡◌, ◌<◌, ◌+◌, ◌*◌, [], reverse, IfOk, OnOk};
-ghost use Rattle.weight_book.specs.Room.{HasRoom, KeepsRoom};
+ghost use Rattle.std.specs.Prelude.{◌≡◌, ◌<◌, reverse, IfOk, OnOk};
+ghost use Rattle.weight_book.specs.Room.{HasRoom};
 ghost use Rattle.quota_fill.specs.Filled.{filled};
 ghost use Rattle.quota_fill.specs.Kept.{IsFilling, with_next};
 
@@ -8,6 +8,7 @@ use crate::drawing::{best_outside, draw_from_all};
 use crate::race::Race;
 use election_snapshot::Snapshot;
 use npos_base::{Edge, NoMemory};
+use seat_race::put_by_voter;
 use std::alloc::Global;
 use weight_book::Weights;
 
@@ -29,8 +30,7 @@ pub fn fill(alloc: Global, snapshot: &Snapshot) -> Result<Weights, NoMemory>
     for _ in 0..snapshot.seats() {
         fill_seat(snapshot, &mut race, &mut weights, &mut draws)?;
     }
-    draws.sort_unstable_by_key(|draw| place_of(draw));
-    put_edges(draws.as_slice(), &mut weights)?;
+    put_by_voter(&mut draws, &mut weights)?;
     Ok(weights)
 }
 
@@ -48,6 +48,8 @@ fn fill_seat(
         (with_next snapshot.now (reverse weights.old.plain.committee)) race.new
         weights.new draws.new.items) }
 {
+    // How many targets there are is asked for, since only calls tell that a snapshot is well formed:
+    // a target has 16 bits.
     let _targets = snapshot.target_count();
     let Some(target) = best_outside(&race.backings, &race.is_picked) else {
         return Ok(());
@@ -62,26 +64,5 @@ fn fill_seat(
         &mut race.backings,
         draws,
     )?;
-    Ok(())
-}
-
-/// The place of an edge in the order by voter and then by target.
-fn place_of(edge: &Edge) -> u64
-    ensures { result ≡ edge.now.voter * 65536 + edge.now.target }
-{
-    u64::from(edge.voter) * 65_536 + u64::from(edge.target)
-}
-
-/// Appends the edges to the weights.
-fn put_edges(edges: &[Edge], weights: &mut Weights) -> Result<(), NoMemory>
-    requires { weights.old.plain.edges ≡ [] }
-    ensures edges { OnOk result (weights.new.plain.edges ≡ edges.now) }
-    ensures members { OnOk result (weights.new.plain.committee ≡ weights.old.plain.committee) }
-    ensures room { KeepsRoom weights.old weights.new }
-{
-    weights.reserve(0, edges.len())?;
-    for edge in edges {
-        weights.push_edge(*edge);
-    }
     Ok(())
 }

@@ -3,9 +3,11 @@ use Rattle.std.proofs.Common.{◌≡◌, ℕ, ◌-◌, ◌<◌, ◌≤◌, nat_l
 use Rattle.npos_base.specs.declared.figures.Edge.{Edge}
 use Rattle.election_snapshot.specs.Snapshot.{Snapshot, stake_of}
 use Rattle.seq_phragmen.specs.declared.rise.Rise.{Rise}
-use Rattle.seq_phragmen.specs.Mined.{load_after, edge_along}
-use Rattle.seq_phragmen.specs.Kept.{says, rises_after, last_after, earlier_parts, gift_edge, gifts_of, gifts_after, CanSplit}
-use Rattle.seq_phragmen.proofs.InLemmas.{In, all_in}
+use Rattle.seat_race.specs.Giving.{edge_along}
+use Rattle.seq_phragmen.specs.Mined.{load_after, given}
+use Rattle.seat_race.specs.Tables.{says}
+use Rattle.seq_phragmen.specs.Kept.{rises_after, last_after, earlier_parts, gift_edge, gifts_of, gifts_after, CanSplit}
+use Rattle.seat_race.proofs.InLemmas.{In, all_in}
 use Rattle.seq_phragmen.proofs.PickLemmas.{AreRun}
 use Rattle.seq_phragmen.proofs.LoadLemmas.{load_some}
 use Rattle.seq_phragmen.proofs.SplitLemmas.{IsNote, note_is, earlier, earlier_within, gift_is}
@@ -44,7 +46,7 @@ module _ (snapshot : Snapshot) (picks : List ℕ) (run : AreRun snapshot picks) 
       ∙ ap (λ (rest : ℕ → ℕ). gifts_of snapshot (load_after snapshot picks) (last_after snapshot picks) rest rises) rest_path
       ∙ ap (λ rs. gifts_of snapshot (load_after snapshot picks) (last_after snapshot picks) (λ voter. stake_of snapshot voter - earlier snapshot picks voter) rs) rises_are
       ∙ ap (filter (λ (edge : Edge). nat_lt 0 edge.amount)) (map_agree (gift_edge snapshot (load_after snapshot picks) (last_after snapshot picks) (λ voter. stake_of snapshot voter - earlier snapshot picks voter))
-      (λ note. edge_along snapshot picks note.voter note.target) (rises_after snapshot picks) (λ note h. ap (edge_with note) (gift_is snapshot picks run note h)))
+      (λ note. edge_along (given snapshot picks) note.voter note.target) (rises_after snapshot picks) (λ note h. ap (edge_with note) (gift_is snapshot picks run note h)))
     where
       load_path : says loads ≡ load_after snapshot picks
       load_path = λ i voter. loads_are voter i

@@ -1,10 +1,6 @@
-pub mod EdgeLemmas
 pub mod FeasibleLemmas
 pub mod GiftLemmas
-pub mod InLemmas
 pub mod LoadLemmas
-pub mod NominatorLemmas
-pub mod OrderLemmas
 pub mod PartLemmas
 pub mod PickLemmas
 pub mod RaiseLemmas

@@ -7,8 +7,8 @@ use Rattle.election_snapshot.specs.Snapshot.{Snapshot, has, nominates, stake_of,
 use Rattle.weight_book.specs.Passing.{nominators}
 use Rattle.weight_book.proofs.SumLemmas.{sum_le}
 use Rattle.seq_phragmen.specs.Mined.{greatest_score, seat_load, approval, burden, shared_load, score, load_after, rise, part, parts}
-use Rattle.seq_phragmen.proofs.NominatorLemmas.{approval_fits, sum_times}
-use Rattle.seq_phragmen.proofs.PickLemmas.{AreRun}
+use Rattle.seat_race.proofs.NominatorLemmas.{stakes_to_fit, sum_times}
+use Rattle.seq_phragmen.proofs.PickLemmas.{AreRun, least_of}
 
 shared_grows : (seat a b stake : ℕ) → a ≤ b → shared_load seat a stake ≤ shared_load seat b stake
 shared_grows seat a b stake l = at (nat_eq stake 0) where
@@ -39,7 +39,7 @@ burden_fits snapshot load most target = omega (
   sum_le (λ voter. stake_of snapshot voter * load voter) (λ voter. stake_of snapshot voter * greatest_score) (nominators snapshot target)
       (λ k d _. mul-le-mul_left (stake_of snapshot (get_or (nominators snapshot target) k d)) (most (get_or (nominators snapshot target) k d))),
   sum_times (stake_of snapshot) greatest_score (nominators snapshot target),
-  mul-le-mul_right greatest_score (approval_fits snapshot target),
+  mul-le-mul_right greatest_score (stakes_to_fit snapshot target),
 )
 
 module _ (snapshot : Snapshot) where
@@ -53,7 +53,7 @@ module _ (snapshot : Snapshot) where
   score_most picks target = shared_most (seat_load snapshot) (burden snapshot (load picks) target) (approval snapshot target)
 
   pub score_some : (picks : List ℕ) (target : ℕ) → 0 < score_now picks target
-  score_some picks target = shared_some (seat_load snapshot) (burden snapshot (load picks) target) (approval snapshot target) (omega (arith, approval_fits snapshot target))
+  score_some picks target = shared_some (seat_load snapshot) (burden snapshot (load picks) target) (approval snapshot target) (omega (arith, stakes_to_fit snapshot target))
 
   score_grows : (f g : ℕ → ℕ) → ((voter : ℕ) → f voter ≤ g voter) → (target : ℕ) → score snapshot f target ≤ score snapshot g target
   score_grows f g l target = shared_grows (seat_load snapshot) (burden snapshot f target) (burden snapshot g target) (approval snapshot target)
@@ -85,7 +85,7 @@ module _ (snapshot : Snapshot) where
   load_low [] run voter target h out = omega arith
   load_low (pick ∷ picks) run voter target h out =
       let before = rest_outside pick target picks out in
-      let chosen = run.0.least target h before in
+      let chosen = least_of snapshot picks pick run.0 target h before in
       let grown = score_grows (load picks) (load (pick ∷ picks)) (λ other. mutual_up pick picks other (load_low picks run.1 other pick run.0.in_range run.0.is_outside)) target in
       let earlier = load_low picks run.1 voter target h before in
       cond_both (nominates snapshot voter pick) (score_now picks pick) (load picks voter) (λ n. n ≤ score_now (pick ∷ picks) target)

@@ -8,7 +8,8 @@ use Rattle.election_snapshot.specs.Snapshot.{Snapshot, stake_of}
 use Rattle.weight_book.proofs.SumLemmas.{sum_filter_more, sum_filter-take-le}
 use Rattle.seq_phragmen.specs.declared.rise.Rise.{Rise}
 use Rattle.seq_phragmen.specs.Mined.{part}
-use Rattle.seq_phragmen.specs.Kept.{says, earlier_parts, gift_edge, gifts_of}
+use Rattle.seat_race.specs.Tables.{says}
+use Rattle.seq_phragmen.specs.Kept.{earlier_parts, gift_edge, gifts_of}
 
 module _ (snapshot : Snapshot) (loads lasts : List ℕ) (rises : List Rise) where
   abbrev pub taken_from : ℕ → ℕ → ℕ

@@ -10,10 +10,11 @@ use Rattle.weight_book.specs.Passing.{nominators}
 use Rattle.weight_book.proofs.SumLemmas.{sum_of_sums, sum_of_none, sum_same}
 use Rattle.seq_phragmen.specs.declared.rise.Rise.{Rise}
 use Rattle.seq_phragmen.specs.Mined.{greatest_score, burden}
-use Rattle.seq_phragmen.specs.Kept.{says, rise_of, AreBurdens}
-use Rattle.seq_phragmen.proofs.InLemmas.{in_at, in_has, from_has, from_filter}
-use Rattle.seq_phragmen.proofs.NominatorLemmas.{nominates_in_range, has_nominators, nominators_distinct, one_nominator, stake_fits}
-use Rattle.seq_phragmen.proofs.TableLemmas.{AreChanged, not_yet, changed}
+use Rattle.seat_race.specs.Tables.{says}
+use Rattle.seq_phragmen.specs.Kept.{rise_of, AreBurdens}
+use Rattle.seat_race.proofs.InLemmas.{in_at, in_has, from_has, from_filter}
+use Rattle.seat_race.proofs.NominatorLemmas.{nominates_in_range, has_nominators, nominators_distinct, one_nominator, stake_fits}
+use Rattle.seat_race.proofs.TableLemmas.{AreChanged, not_yet, changed}
 use Rattle.seq_phragmen.proofs.LoadLemmas.{burden_fits}
 
 -- ---- what is put on one voter comes to what the nominators of each of its votes carry

@@ -1,37 +1,21 @@
 -- One seat more: the tables tell the next pick, and what it raises makes the tables after it.
-use Rattle.std.proofs.Common.{◌≡◌, ℕ, suc, ◌+◌, ◌^◌, ◌<◌, ◌≤◌, ◌⊎◌, Bool, true, false, not, cond, ◌||◌, nat_eq, nat_lt, List, [], ◌∷◌, ◌++◌, length, get_or, set, map, filter, reverse, Option, Some, None, inl, inr, refl, ap, ap₂, sym, subst, ◌∙◌, arith}
-use Rattle.std.specs.List.{range_with_len, fold}
+use Rattle.std.proofs.Common.{◌≡◌, ℕ, suc, ◌+◌, ◌^◌, ◌<◌, ◌≤◌, Bool, true, false, cond, List, [], ◌∷◌, ◌++◌, length, get_or, set, map, reverse, inl, inr, ap, ap₂, sym, subst, ◌∙◌, arith}
 use Rattle.std.proofs.lemmas.List.{length-set, get_or-set_same, get_or-set_other, reverse-append, reverse-reverse, length-reverse}
-use Rattle.std.proofs.lemmas.Bool.{cases_eq, cond_both, eq-eqb, ne_eqb, true≢false}
-use Rattle.election_snapshot.specs.Snapshot.{Snapshot, IsWellFormed, has, nominates, total_stake}
+use Rattle.std.proofs.lemmas.Bool.{cases_eq, true≢false}
+use Rattle.election_snapshot.specs.Snapshot.{Snapshot, IsWellFormed, nominates, total_stake}
 use Rattle.weight_book.specs.Passing.{nominators}
 use Rattle.weight_book.specs.Room.{WeightBook, KeepsRoom}
 use Rattle.seq_phragmen.specs.declared.race.Race.{Race}
 use Rattle.seq_phragmen.specs.declared.rise.Rise.{Rise}
-use Rattle.seq_phragmen.specs.Mined.{greatest_score, seat_load, shared_load, score, load_after, lighter, lightest, outside, next_pick, picked}
-use Rattle.seq_phragmen.specs.Kept.{says, score_by, lightest_by, rise_of, rises_after, with_next, AreBurdens, AreFloors, IsAfter, IsRunning}
-use Rattle.seq_phragmen.proofs.InLemmas.{In, from_filter, from_range}
-use Rattle.seq_phragmen.proofs.PickLemmas.{AreRun, few_picks, all_picks}
+use Rattle.seq_phragmen.specs.Mined.{greatest_score, seat_load, shared_load, score, load_after, next_pick, picked}
+use Rattle.seat_race.specs.Tables.{says}
+use Rattle.seq_phragmen.specs.Kept.{score_by, rise_of, rises_after, with_next, AreBurdens, AreFloors, IsAfter, IsRunning}
+use Rattle.seat_race.specs.Picks.{less, first_best, outside}
+use Rattle.seat_race.specs.Tables.{unmarked}
+use Rattle.seat_race.proofs.PickLemmas.{all_picks, best_agree, few_picks, less_orders, outside_below}
+use Rattle.seat_race.proofs.TableLemmas.{marked_more, unmarked_outside}
+use Rattle.seq_phragmen.proofs.PickLemmas.{AreRun, scores}
 use Rattle.seq_phragmen.proofs.LoadLemmas.{burden_fits, load_most, score_up}
-
--- ---- the search goes by values where the list has them
-module _ (f g : ℕ → ℕ) where
-  abbrev agree : Option ℕ → Type 0
-  agree None = Unit {0}
-  agree (Some best) = f best ≡ g best
-
-  same_lighter : (o : Option ℕ) (n : ℕ) → agree o → f n ≡ g n → lighter f o n ≡ lighter g o n
-  same_lighter None n a e = refl
-  same_lighter (Some best) n a e = ap₂ (λ x y. cond (nat_lt y x) (Some n) (Some best)) a e
-
-  still_agree : (o : Option ℕ) (n : ℕ) → agree o → f n ≡ g n → agree (lighter g o n)
-  still_agree None n a e = e
-  still_agree (Some best) n a e = cond_both (nat_lt (g n) (g best)) (Some n) (Some best) agree (λ _. e) (λ _. a)
-
-  lightest_agree : (numbers : List ℕ) (o : Option ℕ) → agree o → ((n : ℕ) → In numbers n → f n ≡ g n) → fold (lighter f) o numbers ≡ fold (lighter g) o numbers
-  lightest_agree [] o a h = refl
-  lightest_agree (n ∷ numbers) o a h = ap (λ p. fold (lighter f) p numbers) (same_lighter o n a (h n (inl refl)))
-      ∙ lightest_agree numbers (lighter g o n) (still_agree o n a (h n (inl refl))) (λ m i. h m (inr i))
 
 module _ (snapshot : Snapshot) (picks : List ℕ) (race : Race) (after : IsAfter snapshot picks race) where
   loads_are : says race.loads.items ≡ load_after snapshot picks
@@ -47,29 +31,14 @@ module _ (snapshot : Snapshot) (picks : List ℕ) (race : Race) (after : IsAfter
   scores_are target h = ap₂ (λ b a. shared_load (seat_load snapshot) b a) (after.burdens target h) (after.approvals target h)
       ∙ ap (λ (load : ℕ → ℕ). score snapshot load target) loads_are
 
-  pub lightest_is_next : lightest_by (score_by (seat_load snapshot) race.burdens.items race.approvals.items) race.is_picked.items (length race.is_picked.items) ≡ next_pick snapshot picks
+  pub lightest_is_next : first_best less (score_by (seat_load snapshot) race.burdens.items race.approvals.items) (unmarked race.is_picked.items (length race.is_picked.items)) ≡ next_pick snapshot picks
   lightest_is_next =
-      ap (lightest_by value race.is_picked.items) after.marks_size
-      ∙ unfolded
-      ∙ lightest_agree value (score snapshot (load_after snapshot picks)) (outside snapshot picks) None tt (λ n i. scores_are n (in_targets n i))
+      ap (λ n. first_best less value (unmarked race.is_picked.items n)) after.marks_size
+      ∙ ap (first_best less value) (unmarked_outside race.is_picked.items picks (length snapshot.targets) after.marks)
+      ∙ best_agree less value (score snapshot (load_after snapshot picks)) (outside (length snapshot.targets) picks) (λ n i. scores_are n (outside_below (length snapshot.targets) picks n i))
     where
       value : ℕ → ℕ
       value target = score_by (seat_load snapshot) race.burdens.items race.approvals.items target
-
-      unmarked : ℕ → Bool
-      unmarked n = not (get_or race.is_picked.items n false)
-
-      unpicked : ℕ → Bool
-      unpicked n = not (has picks n)
-
-      tests : unmarked ≡ unpicked
-      tests = λ i n. not (after.marks n i)
-
-      unfolded : lightest_by value race.is_picked.items (length snapshot.targets) ≡ lightest value (outside snapshot picks)
-      unfolded = ap (λ (test : ℕ → Bool). lightest value (filter test (range_with_len 0 (length snapshot.targets)))) tests
-
-      in_targets : (n : ℕ) → In (outside snapshot picks) n → n < length snapshot.targets
-      in_targets n i = omega (arith, (from_range 0 (length snapshot.targets) n (from_filter (λ m. not (has picks m)) (range_with_len 0 (length snapshot.targets)) n i).0).1)
 
   -- what a search by equal tables finds
   pub score_found : (burdens approvals : List ℕ) (seat : ℕ) → burdens ≡ race.burdens.items → approvals ≡ race.approvals.items → seat ≡ seat_load snapshot
@@ -77,7 +46,7 @@ module _ (snapshot : Snapshot) (picks : List ℕ) (race : Race) (after : IsAfter
   score_found burdens approvals seat burdens_are approvals_are whole target h = rw (burdens_are, approvals_are, whole) (scores_are target h)
 
   pub next_found : (burdens approvals : List ℕ) (marks : List Bool) (seat : ℕ) → burdens ≡ race.burdens.items → approvals ≡ race.approvals.items → marks ≡ race.is_picked.items → seat ≡ seat_load snapshot
-      → lightest_by (score_by seat burdens approvals) marks (length marks) ≡ next_pick snapshot picks
+      → first_best less (score_by seat burdens approvals) (unmarked marks (length marks)) ≡ next_pick snapshot picks
   next_found burdens approvals marks seat burdens_are approvals_are marks_are whole = rw (burdens_are, approvals_are, marks_are, whole) lightest_is_next
 
   pub floors_found : (burdens approvals : List ℕ) (marks : List Bool) (floors : List ℕ) (seat : ℕ) → burdens ≡ race.burdens.items → approvals ≡ race.approvals.items → marks ≡ race.is_picked.items
@@ -119,16 +88,6 @@ module _ (snapshot : Snapshot) (picks : List ℕ) (race : Race) (after : IsAfter
 -- ---- one seat more
 module _ (snapshot : Snapshot) (picks : List ℕ) (race : Race) (book : WeightBook) (rises : List Rise) (running : IsRunning snapshot picks race book rises)
     (target : ℕ) (in_range : target < length snapshot.targets) where
-  marked : (number : ℕ) → get_or (set race.is_picked.items target true) number false ≡ (nat_eq target number || has picks number)
-  marked number = at (cases_eq target number) where
-    at : (target ≡ number) ⊎ (target ≡ number → ⊥) → get_or (set race.is_picked.items target true) number false ≡ (nat_eq target number || has picks number)
-    at (inl e) = ap (λ n. get_or (set race.is_picked.items n true) number false) e
-        ∙ get_or-set_same race.is_picked.items number true false (omega (arith, in_range, e, running.after.marks_size))
-        ∙ sym (ap (λ b. b || has picks number) (eq-eqb target number e))
-    at (inr d) = get_or-set_other race.is_picked.items target number true false (λ e. d (sym e))
-        ∙ running.after.marks number
-        ∙ sym (ap (λ b. b || has picks number) (ne_eqb target number d))
-
   -- scores only grow, and whatever stands at the pick is of no use any more
   floors_more : (floors : List ℕ) (top : ℕ) → AreRun snapshot (target ∷ picks) → AreFloors (score snapshot (load_after snapshot picks)) race.is_picked.items floors
       → AreFloors (score snapshot (load_after snapshot (target ∷ picks))) (set race.is_picked.items target true) (set floors target top)
@@ -179,7 +138,7 @@ module _ (snapshot : Snapshot) (picks : List ℕ) (race : Race) (book : WeightBo
       floors = subst (λ (ms : List Bool). AreFloors (score snapshot (load_after snapshot (target ∷ picks))) ms next.floors.items) (sym marks)
           (subst (λ (ns : List ℕ). AreFloors (score snapshot (load_after snapshot (target ∷ picks))) (set race.is_picked.items target true) ns) (sym floors_are) (floors_more floors_now top run floors));
       floors_size = ap length floors_are ∙ length-set floors_now target top ∙ floors_size ∙ running.after.floors_size;
-      marks = λ number. ap (λ ms. get_or ms number false) marks ∙ marked number;
+      marks = λ number. ap (λ ms. get_or ms number false) marks ∙ marked_more race.is_picked.items picks target running.after.marks (omega (arith, in_range, running.after.marks_size)) number;
       marks_size = ap length marks ∙ length-set race.is_picked.items target true ∙ running.after.marks_size;
       nominators_are = λ other h. ap (λ lists. get_or lists other []) nominators_same ∙ running.after.nominators_are other h;
       nominators_size = ap length nominators_same ∙ running.after.nominators_size;
@@ -217,10 +176,10 @@ has_spare snapshot count race book rises formed h running = omega (
   running.room.members,
   ap length running.members,
   length-reverse (picked snapshot count),
-  few_picks snapshot count,
+  few_picks (length snapshot.targets) less less_orders (scores snapshot) count,
 )
 
 pub as_many : (snapshot : Snapshot) (count : ℕ) (race : Race) (book : WeightBook) (rises : List Rise) → IsWellFormed snapshot → count < snapshot.seats
     → IsRunning snapshot (picked snapshot count) race book rises → count ≡ length book.plain.committee
 as_many snapshot count race book rises formed h running = sym (ap length running.members ∙ length-reverse (picked snapshot count)
-    ∙ all_picks snapshot count (omega (arith, h, formed.targets_enough)))
+    ∙ all_picks (length snapshot.targets) less less_orders (scores snapshot) count (omega (arith, h, formed.targets_enough)))

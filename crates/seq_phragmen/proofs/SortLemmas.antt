@@ -1,23 +1,22 @@
 -- What the rises give, sorted by voter and then by target, are the edges of the run.
 use Rattle.std.proofs.Common.{◌≡◌, ℕ, zero, suc, ◌+◌, ◌*◌, ◌<◌, ◌≤◌, ◌≢◌, Bool, true, false, nat_eq, nat_lt, List, [], ◌∷◌, length, map, filter, IsPermutation, inl, inr, refl, ap, sym, subst, ◌∙◌, arith}
-use Rattle.std.specs.List.{range_with_len, flat_map, IsDistinct, AllByRecursion}
+use Rattle.std.specs.List.{range_with_len, IsDistinct, AllByRecursion}
 use Rattle.std.specs.List.Sorted.{IsNonDecreasingBy}
 use Rattle.std.proofs.lemmas.Nat.{same_from_place}
 use Rattle.std.proofs.lemmas.Bool.{cases_Bool, lt-ltb, true≢false}
-use Rattle.std.proofs.lemmas.List.Sorted.{IsPermutation-sym}
-use Rattle.std.proofs.lemmas.Map.Keys.{IsDistinct-IsPermutation}
 use Rattle.npos_base.specs.declared.figures.Edge.{Edge}
 use Rattle.election_snapshot.specs.Snapshot.{Snapshot, has, nominates}
 use Rattle.weight_book.specs.Passing.{nominators}
-use Rattle.weight_book.proofs.SumLemmas.{eqb_turned}
+use Rattle.npos_base.specs.Edge.{place_of}
+use Rattle.seat_race.specs.Giving.{edge_along, edges_given}
 use Rattle.seq_phragmen.specs.declared.rise.Rise.{Rise}
-use Rattle.seq_phragmen.specs.Mined.{score, load_after, given, edge_along, edges_after}
+use Rattle.seq_phragmen.specs.Mined.{score, load_after, given}
 use Rattle.seq_phragmen.specs.Kept.{rise_of, rises_after, gifts_after}
-use Rattle.seq_phragmen.proofs.InLemmas.{In, in_filter, from_filter, in_map, from_map, in_flat_map, in_range, in_permuted}
-use Rattle.seq_phragmen.proofs.OrderLemmas.{Rises, same_list, same_key, rises_sorted, rises-map_over, rises_distinct, rising_range, rising_filter, distinct-append, distinct-nil}
+use Rattle.seat_race.proofs.InLemmas.{In, in_filter, from_filter, in_map, from_map}
+use Rattle.seat_race.proofs.OrderLemmas.{Rises, same_key, rises-map_over, rises_distinct, rising_range, rising_filter, distinct-append, distinct-nil}
 use Rattle.seq_phragmen.proofs.PickLemmas.{AreRun}
 use Rattle.seq_phragmen.proofs.SplitLemmas.{IsNote, note_is, now_is, noted, rises_now, given_member}
-use Rattle.seq_phragmen.proofs.EdgeLemmas.{IsGiven, edge_is, edges_rise, place}
+use Rattle.seat_race.proofs.GivingLemmas.{IsGiven, sorted_given}
 
 module _ {X Y : Type 0} (key : X → ℕ) (key_of : Y → ℕ) (f : X → Y) (same : (x : X) → key_of (f x) ≡ key x) where
   distinct-map : (xs : List X) → IsDistinct (same_key key) xs → IsDistinct (same_key key_of) (map f xs)
@@ -51,7 +50,7 @@ module _ (snapshot : Snapshot) where
   above edge = nat_lt 0 edge.amount
 
   abbrev edge_for : List ℕ → Rise → Edge
-  edge_for picks note = edge_along snapshot picks note.voter note.target
+  edge_for picks note = edge_along (given snapshot picks) note.voter note.target
 
   -- no two rises are of one voter and one target
   notes_distinct : length snapshot.targets ≤ 65536 → (picks : List ℕ) → AreRun snapshot picks → IsDistinct (same_key note_place) (rises_after snapshot picks)
@@ -70,11 +69,11 @@ module _ (snapshot : Snapshot) where
           let same = (same_from_place x.voter x.target y.voter y.target 65536 (omega (arith, is.target_in_range, few)) (omega (arith, now.0.target_in_range, few)) e).1 in
           true≢false (sym is.member ∙ ap (has picks) (same ∙ now.1) ∙ run.0.is_outside)
 
-  gifts_distinct : length snapshot.targets ≤ 65536 → (picks : List ℕ) → AreRun snapshot picks → IsDistinct (same_key (place snapshot picks)) (gifts_after snapshot picks)
-  gifts_distinct few picks run = distinct-filter (same_key (place snapshot picks)) (λ (edge : Edge). nat_lt 0 edge.amount) (map (edge_for picks) (rises_after snapshot picks))
-      (distinct-map note_place (place snapshot picks) (edge_for picks) (λ _. refl) (rises_after snapshot picks) (notes_distinct few picks run))
+  gifts_distinct : length snapshot.targets ≤ 65536 → (picks : List ℕ) → AreRun snapshot picks → IsDistinct (same_key (place_of)) (gifts_after snapshot picks)
+  gifts_distinct few picks run = distinct-filter (same_key (place_of)) (λ (edge : Edge). nat_lt 0 edge.amount) (map (edge_for picks) (rises_after snapshot picks))
+      (distinct-map note_place (place_of) (edge_for picks) (λ _. refl) (rises_after snapshot picks) (notes_distinct few picks run))
 
-  gift_given : (picks : List ℕ) → AreRun snapshot picks → (edge : Edge) → In (gifts_after snapshot picks) edge → IsGiven snapshot picks edge
+  gift_given : (picks : List ℕ) → AreRun snapshot picks → (edge : Edge) → In (gifts_after snapshot picks) edge → IsGiven snapshot (given snapshot picks) edge
   gift_given picks run edge h =
       let kept = from_filter (λ (e : Edge). nat_lt 0 e.amount) (map (edge_for picks) (rises_after snapshot picks)) edge h in
       let made = from_map (edge_for picks) (rises_after snapshot picks) edge kept.0 in
@@ -84,7 +83,7 @@ module _ (snapshot : Snapshot) where
       some zero p = absurd (true≢false (sym p))
       some (suc n) p = omega arith
 
-      along : (note : Rise) (edge : Edge) → IsNote snapshot picks note → edge_for picks note ≡ edge → nat_lt 0 edge.amount ≡ true → IsGiven snapshot picks edge
+      along : (note : Rise) (edge : Edge) → IsNote snapshot picks note → edge_for picks note ≡ edge → nat_lt 0 edge.amount ≡ true → IsGiven snapshot (given snapshot picks) edge
       along note edge is e p = record {
         voter_in_range = omega (arith, is.voter_in_range, ap (λ (x : Edge). x.voter) e);
         target_in_range = omega (arith, is.target_in_range, ap (λ (x : Edge). x.target) e);
@@ -92,7 +91,7 @@ module _ (snapshot : Snapshot) where
         is = subst (λ (x : Edge). x.amount ≡ given snapshot picks x.voter x.target) e refl;
       }
 
-  to_gift : (picks : List ℕ) (edge : Edge) → IsGiven snapshot picks edge → In (gifts_after snapshot picks) edge
+  to_gift : (picks : List ℕ) (edge : Edge) → IsGiven snapshot (given snapshot picks) edge → In (gifts_after snapshot picks) edge
   to_gift picks edge is =
       let gives = given_member snapshot picks edge.voter edge.target (omega (arith, is.more, is.is)) in
       let note = noted snapshot picks edge.voter edge.target gives.0 gives.1 in
@@ -101,29 +100,13 @@ module _ (snapshot : Snapshot) where
       (lt-ltb 0 edge.amount is.more)
     where
       same : (note : Rise) → note.voter ≡ edge.voter → note.target ≡ edge.target → edge_for picks note ≡ edge
-      same note v t = ap (λ n. edge_along snapshot picks n note.target) v ∙ ap (λ n. edge_along snapshot picks edge.voter n) t
+      same note v t = ap (λ n. edge_along (given snapshot picks) n note.target) v ∙ ap (λ n. edge_along (given snapshot picks) edge.voter n) t
           ∙ ap (λ n. edge_with n) (sym is.is)
         where
           edge_with : ℕ → Edge
           edge_with n = record { voter = edge.voter; target = edge.target; amount = n }
 
-  to_edge : (picks : List ℕ) (edge : Edge) → IsGiven snapshot picks edge → In (edges_after snapshot picks) edge
-  to_edge picks edge is = in_filter (λ (e : Edge). nat_lt 0 e.amount)
-      (flat_map (λ voter. map (edge_along snapshot picks voter) (range_with_len 0 (length snapshot.targets))) (range_with_len 0 (length snapshot.voters))) edge
-      (in_flat_map (λ voter. map (edge_along snapshot picks voter) (range_with_len 0 (length snapshot.targets))) (range_with_len 0 (length snapshot.voters)) edge.voter edge
-      (in_range 0 (length snapshot.voters) edge.voter (omega arith) (omega (arith, is.voter_in_range))) there)
-      (lt-ltb 0 edge.amount is.more)
-    where
-      there : In (map (edge_along snapshot picks edge.voter) (range_with_len 0 (length snapshot.targets))) edge
-      there = subst (λ n. In (map (edge_along snapshot picks edge.voter) (range_with_len 0 (length snapshot.targets))) (record { voter = edge.voter; target = edge.target; amount = n })) (sym is.is)
-          (in_map (edge_along snapshot picks edge.voter) (range_with_len 0 (length snapshot.targets)) edge.target
-          (in_range 0 (length snapshot.targets) edge.target (omega arith) (omega (arith, is.target_in_range))))
-
   pub sorted_gifts : length snapshot.targets ≤ 65536 → (picks : List ℕ) → AreRun snapshot picks → (edges : List Edge) → IsPermutation (gifts_after snapshot picks) edges
-      → IsNonDecreasingBy (place snapshot picks) edges → edges ≡ edges_after snapshot picks
-  sorted_gifts few picks run edges moved up = same_list (place snapshot picks) edges (edges_after snapshot picks)
-      (rises_sorted (place snapshot picks) edges up (IsDistinct-IsPermutation (same_key (place snapshot picks)) (λ a b. eqb_turned (place snapshot picks a) (place snapshot picks b))
-      (gifts_after snapshot picks) edges moved (gifts_distinct few picks run)))
-      (edges_rise snapshot picks few)
-      (λ edge h. to_edge picks edge (gift_given picks run edge (in_permuted edges (gifts_after snapshot picks) edge (IsPermutation-sym (gifts_after snapshot picks) edges moved) h)))
-      (λ edge h. in_permuted (gifts_after snapshot picks) edges edge moved (to_gift picks edge (edge_is snapshot picks edge h)))
+      → IsNonDecreasingBy (place_of) edges → edges ≡ edges_given snapshot (given snapshot picks)
+  sorted_gifts few picks run edges moved up = sorted_given snapshot (given snapshot picks) few (gifts_after snapshot picks) edges
+      (gifts_distinct few picks run) (gift_given picks run) (to_gift picks) moved up

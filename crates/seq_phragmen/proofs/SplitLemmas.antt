@@ -11,8 +11,8 @@ use Rattle.weight_book.proofs.SumLemmas.{sum_filter-cons, sum_same, sum_of_sums,
 use Rattle.seq_phragmen.specs.declared.rise.Rise.{Rise}
 use Rattle.seq_phragmen.specs.Mined.{score, load_after, rise, part, part_to, parts, given}
 use Rattle.seq_phragmen.specs.Kept.{rise_of, rises_after, last_after, earlier_parts, gift}
-use Rattle.seq_phragmen.proofs.InLemmas.{In, in_either, in_left, in_right, in_map, from_filter, from_map}
-use Rattle.seq_phragmen.proofs.NominatorLemmas.{nominates_in_range, has_nominators, one_nominator, only_one}
+use Rattle.seat_race.proofs.InLemmas.{In, in_either, in_left, in_right, in_map, from_filter, from_map}
+use Rattle.seat_race.proofs.NominatorLemmas.{nominates_in_range, has_nominators, one_nominator, only_one}
 use Rattle.seq_phragmen.proofs.PickLemmas.{AreRun}
 use Rattle.seq_phragmen.proofs.LoadLemmas.{now_loaded, load_stays, load_up, score_some, parts_within}
 

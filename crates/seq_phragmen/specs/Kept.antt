@@ -1,19 +1,17 @@
 -- What a run keeps while it goes on.
-use Rattle.std.specs.Prelude.{◌≡◌, ℕ, ◌-◌, ◌<◌, ◌≤◌, Bool, false, not, ◌&&◌, nat_eq, nat_lt, if◌then◌else◌, List, [], ◌∷◌, ◌++◌, length, map, filter, reverse, sum_by, All, slice_index_or, Option}
-use Rattle.std.specs.List.{range_with_len, cons_option}
+use Rattle.std.specs.Prelude.{◌≡◌, ℕ, ◌-◌, ◌<◌, ◌≤◌, Bool, false, not, ◌&&◌, nat_eq, nat_lt, if◌then◌else◌, List, [], ◌∷◌, ◌++◌, length, map, filter, reverse, sum_by, All, slice_index_or}
+use Rattle.std.specs.List.{cons_option}
 use Rattle.npos_base.specs.declared.figures.Edge.{Edge}
-use Rattle.election_snapshot.specs.Snapshot.{Snapshot, has, nominates}
+use Rattle.election_snapshot.specs.Snapshot.{Snapshot, nominates}
 use Rattle.weight_book.specs.Passing.{nominators}
 use Rattle.weight_book.specs.Room.{WeightBook, HasRoom}
+use Rattle.seat_race.specs.Giving.{edge_along}
+use Rattle.seat_race.specs.Tables.{says, AreMarks, AreNominators}
 use Rattle.seq_phragmen.specs.declared.race.Race.{Race}
 use Rattle.seq_phragmen.specs.declared.rise.Rise.{Rise}
-use Rattle.seq_phragmen.specs.Mined.{approval, burden, shared_load, score, load_after, part, edge_along, lightest, next_pick}
+use Rattle.seq_phragmen.specs.Mined.{approval, burden, shared_load, score, load_after, part, given, next_pick}
 
 -- ## Tables
-
--- what a table of numbers says of each voter or target
-abbrev pub says : List ℕ → ℕ → ℕ
-says table number = slice_index_or table number 0
 
 -- by target, the stake of its nominators
 abbrev pub AreApprovals : Snapshot → List ℕ → Type 0
@@ -25,23 +23,9 @@ abbrev pub AreBurdens : Snapshot → List ℕ → List ℕ → Type 0
 AreBurdens snapshot loads burdens = (target : ℕ) → target < length snapshot.targets
     → says burdens target ≡ burden snapshot (says loads) target
 
--- by target, its nominators
-abbrev pub AreNominators : Snapshot → List (List ℕ) → Type 0
-AreNominators snapshot lists = (target : ℕ) → target < length snapshot.targets
-    → slice_index_or lists target [] ≡ nominators snapshot target
-
--- the table tells which numbers stand in the list
-abbrev pub AreMarks : List Bool → List ℕ → Type 0
-AreMarks marks numbers = (number : ℕ) → slice_index_or marks number false ≡ has numbers number
-
 -- by the tables, the load that the target's nominators would share, if it joined
 abbrev pub score_by : ℕ → List ℕ → List ℕ → ℕ → ℕ
 score_by seat burdens approvals target = shared_load seat (says burdens target) (says approvals target)
-
--- the first with the least value of those that are not marked
-abbrev pub lightest_by : (ℕ → ℕ) → List Bool → ℕ → Option ℕ
-lightest_by value marks count =
-    lightest value (filter (λ target. not (slice_index_or marks target false)) (range_with_len 0 count))
 
 -- by target, no more than its value, where it is not marked
 abbrev pub AreFloors : (ℕ → ℕ) → List Bool → List ℕ → Type 0
@@ -123,7 +107,7 @@ gifts_of snapshot load last rest rises =
 -- what these picks were given, in the order of the rises, where it is more than nothing
 abbrev pub gifts_after : Snapshot → List ℕ → List Edge
 gifts_after snapshot picks = filter (λ edge. nat_lt 0 edge.amount)
-    (map (λ rise. edge_along snapshot picks rise.voter rise.target) (rises_after snapshot picks))
+    (map (λ rise. edge_along (given snapshot picks) rise.voter rise.target) (rises_after snapshot picks))
 
 -- What is to be known of rises so that their stakes can be split.
 pub record CanSplit (snapshot : Snapshot) (load : ℕ → ℕ) (rises : List Rise) : Type 0 where

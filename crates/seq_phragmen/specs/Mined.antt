@@ -1,12 +1,12 @@
 -- Sequential Phragmén, after Brill et al., in whole numbers. Each member puts a load on its
 -- nominators, as evenly as it can; the target that would make the least greatest load joins. Lists
 -- of picks have the latest first.
-use Rattle.std.specs.Prelude.{ℕ, zero, suc, ◌+◌, ◌-◌, ◌*◌, ◌/◌, ◌^◌, min, not, nat_eq, nat_lt, if◌then◌else◌, List, [], ◌∷◌, length, map, filter, flat_map, fold, reverse, sum_by, Option, Some, None}
-use Rattle.std.specs.List.{range_with_len, cons_option}
-use Rattle.npos_base.specs.declared.figures.Edge.{Edge}
-use Rattle.election_snapshot.specs.Snapshot.{Snapshot, has, nominates, stake_of, total_stake}
+use Rattle.std.specs.Prelude.{ℕ, ◌+◌, ◌-◌, ◌*◌, ◌/◌, ◌^◌, min, nat_eq, if◌then◌else◌, List, [], ◌∷◌, length, reverse, sum_by, Option}
+use Rattle.election_snapshot.specs.Snapshot.{Snapshot, nominates, stake_of, total_stake}
 use Rattle.weight_book.specs.Weights.{Weights}
 use Rattle.weight_book.specs.Passing.{nominators}
+use Rattle.seat_race.specs.Giving.{edges_given}
+use Rattle.seat_race.specs.Picks.{less, first_best, outside, picks_by}
 
 -- ## Scores and loads
 
@@ -46,28 +46,13 @@ load_after snapshot (target ∷ picks) voter = if nominates snapshot voter targe
 
 -- ## Picks
 
--- the targets that are not picked, rising
-abbrev pub outside : Snapshot → List ℕ → List ℕ
-outside snapshot picks =
-    filter (λ target. not (has picks target)) (range_with_len 0 (length snapshot.targets))
-
--- the lighter of the lightest so far and the next number: a later one has to have less
-abbrev pub lighter : (ℕ → ℕ) → Option ℕ → ℕ → Option ℕ
-lighter value None number = Some number
-lighter value (Some best) number = if nat_lt (value number) (value best) then Some number else Some best
-
--- the first number with the least value
-abbrev pub lightest : (ℕ → ℕ) → List ℕ → Option ℕ
-lightest value numbers = fold (lighter value) None numbers
-
 abbrev pub next_pick : Snapshot → List ℕ → Option ℕ
-next_pick snapshot picks =
-    lightest (score snapshot (λ voter. load_after snapshot picks voter)) (outside snapshot picks)
+next_pick snapshot picks = first_best less (score snapshot (λ voter. load_after snapshot picks voter))
+    (outside (length snapshot.targets) picks)
 
 -- the first picks, this many
 abbrev pub picked : Snapshot → ℕ → List ℕ
-picked snapshot zero = []
-picked snapshot (suc count) = cons_option (next_pick snapshot (picked snapshot count)) (picked snapshot count)
+picked snapshot count = picks_by (next_pick snapshot) count
 
 -- ## The weights
 
@@ -102,19 +87,9 @@ given snapshot (pick ∷ picks) voter target = if nominates snapshot voter pick
     else part_to snapshot (load_after snapshot (pick ∷ picks) voter) picks voter target)
     else given snapshot picks voter target
 
-abbrev pub edge_along : Snapshot → List ℕ → ℕ → ℕ → Edge
-edge_along snapshot picks voter target =
-    record { voter = voter; target = target; amount = given snapshot picks voter target }
-
--- what each voter gives to each target, by voter and then by target, where it is more than nothing
-abbrev pub edges_after : Snapshot → List ℕ → List Edge
-edges_after snapshot picks = filter (λ edge. nat_lt 0 edge.amount)
-    (flat_map (λ voter. map (edge_along snapshot picks voter) (range_with_len 0 (length snapshot.targets)))
-    (range_with_len 0 (length snapshot.voters)))
-
 -- the committee in the order of the picks, one for each seat, with what the voters give
 abbrev pub mined : Snapshot → Weights
 mined snapshot = record {
   committee = reverse (picked snapshot snapshot.seats);
-  edges = edges_after snapshot (picked snapshot snapshot.seats);
+  edges = edges_given snapshot (given snapshot (picked snapshot snapshot.seats));
 }

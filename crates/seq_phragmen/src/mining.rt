@@ -1,7 +1,7 @@
 //! Seats filled one after the other, and then the stakes split.
-ghost use Rattle.std.specs.Prelude.{◌≡◌, ◌<◌, ◌+◌, ◌*◌, [], length, reverse, All, IfOk, OnOk};
+ghost use Rattle.std.specs.Prelude.{◌≡◌, ◌<◌, length, reverse, All, IfOk, OnOk};
 ghost use Rattle.weight_book.specs.Weights.{IsFeasible};
-ghost use Rattle.weight_book.specs.Room.{HasRoom, KeepsRoom};
+ghost use Rattle.weight_book.specs.Room.{HasRoom};
 ghost use Rattle.seq_phragmen.specs.Mined.{mined, picked};
 ghost use Rattle.seq_phragmen.specs.Kept.{gifts_after, rises_after, with_next, IsAfter, IsRunning};
 
@@ -11,6 +11,7 @@ use crate::rise::Rise;
 use crate::splitting::{list_edges, take_parts};
 use election_snapshot::Snapshot;
 use npos_base::{Edge, NoMemory};
+use seat_race::put_by_voter;
 use std::alloc::Global;
 use weight_book::Weights;
 
@@ -35,8 +36,7 @@ pub fn mine_seq(alloc: Global, snapshot: &Snapshot) -> Result<Weights, NoMemory>
         take_seat(snapshot, &mut race, &mut weights, &mut rises)?;
     }
     let mut edges = split(alloc, snapshot, &race, rises.as_slice())?;
-    edges.sort_unstable_by_key(|edge| place_of(edge));
-    put_edges(edges.as_slice(), &mut weights)?;
+    put_by_voter(&mut edges, &mut weights)?;
     Ok(weights)
 }
 
@@ -101,25 +101,4 @@ fn split(
     let mut edges = Vec::with_capacity(alloc, rises.len())?;
     list_edges(snapshot, &race.loads, &race.lasts, &left, rises, &mut edges)?;
     Ok(edges)
-}
-
-/// The place of an edge in the order by voter and then by target.
-fn place_of(edge: &Edge) -> u64
-    ensures { result ≡ edge.now.voter * 65536 + edge.now.target }
-{
-    u64::from(edge.voter) * 65_536 + u64::from(edge.target)
-}
-
-/// Appends the edges to the weights.
-fn put_edges(edges: &[Edge], weights: &mut Weights) -> Result<(), NoMemory>
-    requires { weights.old.plain.edges ≡ [] }
-    ensures edges { OnOk result (weights.new.plain.edges ≡ edges.now) }
-    ensures members { OnOk result (weights.new.plain.committee ≡ weights.old.plain.committee) }
-    ensures room { KeepsRoom weights.old weights.new }
-{
-    weights.reserve(0, edges.len())?;
-    for edge in edges {
-        weights.push_edge(*edge);
-    }
-    Ok(())
 }

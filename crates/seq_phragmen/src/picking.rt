@@ -1,15 +1,17 @@
 //! One pick: the target that joins, and what its nominators carry from then on.
-ghost use Rattle.std.specs.Prelude.{◌≡◌, ℕ, ◌+◌, ◌-◌, ◌*◌, ◌/◌, ◌^◌, ◌<◌, ◌≤◌, ◌∷◌, [], ◌++◌, if◌then◌else◌, length, map, nat_eq, nat_lt, slice_set, is_none, option_map, ◌||◌, All, IfSome, OnOk};
+ghost use Rattle.std.specs.Prelude.{◌≡◌, ℕ, ◌+◌, ◌-◌, ◌*◌, ◌/◌, ◌^◌, ◌<◌, ◌≤◌, ◌++◌, if◌then◌else◌, length, map, nat_lt, slice_set, is_none, option_map, ◌||◌, IfSome, OnOk};
 ghost use Rattle.npos_base.specs.declared.limits.TheConstants.{MOST_TARGETS};
-ghost use Rattle.std.specs.List.{IsDistinct};
-ghost use Rattle.election_snapshot.specs.Snapshot.{has, nominates, total_stake};
+ghost use Rattle.election_snapshot.specs.Snapshot.{nominates, total_stake};
 ghost use Rattle.weight_book.specs.Passing.{nominators};
 ghost use Rattle.seq_phragmen.specs.Mined.{greatest_score, shared_load};
-ghost use Rattle.seq_phragmen.specs.Kept.{says, score_by, lightest_by, rise_of, AreBurdens, AreFloors};
+ghost use Rattle.seat_race.specs.Picks.{less, first_best};
+ghost use Rattle.seat_race.specs.Tables.{says, unmarked};
+ghost use Rattle.seq_phragmen.specs.Kept.{score_by, rise_of, AreBurdens, AreFloors};
 
 use crate::rise::Rise;
 use election_snapshot::Snapshot;
 use npos_base::NoMemory;
+use seat_race::raise_wide_at;
 
 /// No score is greater.
 const GREATEST_SCORE: u64 = i64::MAX as u64;
@@ -40,8 +42,8 @@ pub(crate) fn lightest_outside(
     requires floors { AreFloors (score_by seat burdens.now approvals.now) is_picked.now floors.old }
     ensures floors { AreFloors (score_by seat burdens.now approvals.now) is_picked.now floors.new }
     ensures lightest { option_map (λ candidate. candidate.target) result
-        ≡ lightest_by (score_by seat burdens.now approvals.now)
-        is_picked.now (length is_picked.now) }
+        ≡ first_best less (score_by seat burdens.now approvals.now)
+        (unmarked is_picked.now (length is_picked.now)) }
     ensures score { IfSome result (λ candidate. candidate.score
         ≡ score_by seat burdens.now approvals.now candidate.target) }
     ensures in_range { IfSome result (λ candidate. candidate.target < length is_picked.now) }
@@ -145,20 +147,5 @@ fn raise_load(snapshot: &Snapshot, voter: u32, height: u64, loads: &mut [u64], b
 {
     loads[voter as usize] += height;
     let added = u128::from(snapshot.stake(voter)) * u128::from(height);
-    add_at_votes(snapshot.votes(voter), added, burdens);
-}
-
-/// Adds the amount at each of the votes.
-fn add_at_votes(votes: &[u16], amount: u128, burdens: &mut [u128])
-    requires in_range { All (λ vote. vote < length burdens.old) votes.now }
-    requires distinct { IsDistinct nat_eq votes.now }
-    requires fits { (target : ℕ) → target < length burdens.old
-        → says burdens.old target + amount < 2 ^ 128 }
-    ensures { (target : ℕ) → target < length burdens.old
-        → says burdens.new target ≡ if has votes.now target then says burdens.old target + amount
-        else says burdens.old target }
-{
-    for vote in votes {
-        burdens[usize::from(*vote)] += amount;
-    }
+    raise_wide_at(snapshot.votes(voter), added, burdens);
 }

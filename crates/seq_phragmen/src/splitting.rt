@@ -2,7 +2,8 @@
 ghost use Rattle.std.specs.Prelude.{◌≡◌, ℕ, ◌-◌, ◌<◌, ◌≤◌, ◌∷◌, [], ◌++◌, if◌then◌else◌, length, nat_lt, OnOk};
 ghost use Rattle.election_snapshot.specs.Snapshot.{stake_of};
 ghost use Rattle.seq_phragmen.specs.Mined.{part};
-ghost use Rattle.seq_phragmen.specs.Kept.{says, earlier_parts, gift, gifts_of, CanSplit};
+ghost use Rattle.seat_race.specs.Tables.{says};
+ghost use Rattle.seq_phragmen.specs.Kept.{earlier_parts, gift, gifts_of, CanSplit};
 
 use crate::rise::Rise;
 use election_snapshot::Snapshot;

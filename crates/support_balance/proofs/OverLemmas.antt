@@ -14,7 +14,8 @@ use Rattle.weight_book.proofs.SumLemmas.{eqb_turned}
 use Rattle.support_balance.specs.Rounds.{IsBefore, GiveSame}
 use Rattle.support_balance.specs.Rows.{at, AreAlike}
 use Rattle.support_balance.specs.Laid.{targets_of}
-use Rattle.support_balance.specs.Slots.{AreSlots, marked, has_pair, AreLaid, place_of}
+use Rattle.support_balance.specs.Slots.{AreSlots, marked, has_pair, AreLaid}
+use Rattle.npos_base.specs.Edge.{place_of}
 use Rattle.support_balance.specs.Backing.{IsKept}
 use Rattle.support_balance.proofs.AlikeLemmas.{rising_before}
 use Rattle.support_balance.proofs.LayLemmas.{same_pair_true, pair_is}

@@ -2,8 +2,10 @@
 use Rattle.std.specs.Prelude.{◌≡◌, ℕ, ◌*◌, ◌^◌, ◌<◌, ◌≤◌, ◌+◌, ◌⊎◌, Bool, true, false, List, length, filter, All, slice_index_or}
 use Rattle.std.specs.List.{AllPairs, list_any}
 use Rattle.npos_base.specs.declared.figures.Edge.{Edge}
+use Rattle.npos_base.specs.declared.limits.TheConstants.{MOST_NOMINATIONS}
+use Rattle.npos_base.specs.Edge.{same_pair}
 use Rattle.election_snapshot.specs.Snapshot.{Snapshot, has, nominates}
-use Rattle.weight_book.specs.Weights.{edges_from, same_pair, support}
+use Rattle.weight_book.specs.Weights.{edges_from, support}
 use Rattle.support_balance.specs.Rounds.{IsBefore, GiveSame}
 use Rattle.support_balance.specs.Rows.{AreAlike}
 use Rattle.support_balance.specs.Laid.{targets_of}
@@ -11,7 +13,7 @@ use Rattle.support_balance.specs.Laid.{targets_of}
 -- the slots of the first voters
 pub record AreSlots (snapshot : Snapshot) (voters : ℕ) (slots : List Edge) : Type 0 where
   pub rising : AllPairs IsBefore slots
-  pub few : length slots ≤ voters * 16
+  pub few : length slots ≤ voters * MOST_NOMINATIONS
   pub voters_in_range : All (λ slot. slot.voter < voters) slots
   pub targets_in_range : All (λ slot. slot.target < length snapshot.targets) slots
   pub pairs : (voter target : ℕ) → voter < voters
@@ -62,7 +64,3 @@ pub record IsPassed (slot : Edge) (edges : List Edge) (at after amount : ℕ) : 
   pub stays : after ≡ at
   pub none : amount ≡ 0
   pub other : (d : Edge) → at < length edges → same_pair (slice_index_or edges at d) slot ≡ false
-
--- a number that rises with the voter, then with the target
-abbrev pub place_of : Edge → ℕ
-place_of edge = edge.voter * 65536 + edge.target

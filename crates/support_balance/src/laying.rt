@@ -4,7 +4,8 @@ ghost use Rattle.std.specs.Prelude.{◌≡◌, ◌≢◌, ◌<◌, ◌≤◌, �
 ghost use Rattle.std.specs.List.{AllPairs};
 ghost use Rattle.std.specs.List.Sorted.{IsNonDecreasing, IsNonDecreasingBy};
 ghost use Rattle.support_balance.specs.Rounds.{IsBefore, GiveSame};
-ghost use Rattle.support_balance.specs.Slots.{AreSlots, marked, has_pair, AreLaid, slot_of, IsTaken, IsPassed, IsJoined, place_of};
+ghost use Rattle.support_balance.specs.Slots.{AreSlots, marked, has_pair, AreLaid, slot_of, IsTaken, IsPassed, IsJoined};
+ghost use Rattle.npos_base.specs.Edge.{place_of as place};
 ghost use Rattle.election_snapshot.specs.Snapshot.{has};
 ghost use Rattle.weight_book.specs.Weights.{support};
 
@@ -154,7 +155,7 @@ fn stands_before(edge: &Edge, voter: u32, target: u16) -> bool
 
 /// The edges in order.
 pub(crate) fn in_order(alloc: Global, edges: &[Edge]) -> Result<Vec<Edge>, NoMemory>
-    ensures rising { IfOk result (λ sorted. IsNonDecreasingBy place_of sorted.items) }
+    ensures rising { IfOk result (λ sorted. IsNonDecreasingBy place sorted.items) }
     ensures same { IfOk result (λ sorted. IsPermutation edges.now sorted.items) }
 {
     let mut sorted = Vec::from_slice(alloc, edges)?;
@@ -164,7 +165,7 @@ pub(crate) fn in_order(alloc: Global, edges: &[Edge]) -> Result<Vec<Edge>, NoMem
 
 /// A number that rises with the voter, then with the target.
 fn place_of(edge: &Edge) -> u64
-    ensures { result ≡ place_of edge.now }
+    ensures { result ≡ place edge.now }
 {
     u64::from(edge.voter) * 65_536 + u64::from(edge.target)
 }

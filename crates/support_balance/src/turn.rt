@@ -10,7 +10,6 @@ use npos_base::Edge;
 /// cap.
 #[derive(Clone, Copy)]
 struct Pool {
-    cap: u128,
     sum: u128,
     count: u128,
     highest: u128,
@@ -85,7 +84,6 @@ fn level_of(stake: u64, row: &[Edge], supports: &[u128]) -> Level
 /// The pool of the members whose bases are at most `cap`.
 fn pool_within(cap: u128, row: &[Edge], supports: &[u128]) -> Pool
     requires { IsRow supports.now row.now }
-    ensures cap { result.cap ≡ cap }
     ensures sum { result.sum ≡ sum (low cap (bases supports.now row.now)) }
     ensures count { result.count ≡ length (low cap (bases supports.now row.now)) }
     ensures highest { All (λ base. base ≤ result.highest) (low cap (bases supports.now row.now)) }
@@ -94,7 +92,6 @@ fn pool_within(cap: u128, row: &[Edge], supports: &[u128]) -> Pool
     ensures few { result.count ≤ length row.now }
 {
     let mut pool = Pool {
-        cap,
         sum: 0,
         count: 0,
         highest: 0,

@@ -1,7 +1,8 @@
 -- Weights: a committee, and how much of its stake each voter gives to which member.
-use Rattle.std.specs.Prelude.{◌≡◌, ℕ, ◌<◌, ◌≤◌, Bool, ◌&&◌, IsTrue, nat_eq, List, [], length, filter, sum_by, All}
+use Rattle.std.specs.Prelude.{◌≡◌, ℕ, ◌<◌, ◌≤◌, IsTrue, nat_eq, List, [], length, filter, sum_by, All}
 use Rattle.std.specs.List.{IsDistinct}
 use Rattle.npos_base.specs.declared.figures.Edge.{Edge}
+pub use Rattle.npos_base.specs.Edge.{same_pair}
 use Rattle.election_snapshot.specs.Snapshot.{Snapshot, has, nominates, stake_of}
 
 -- the members are positions of targets
@@ -28,10 +29,6 @@ support edges target = amount_sum (edges_to edges target)
 -- what a voter gives
 abbrev pub spent : List Edge → ℕ → ℕ
 spent edges voter = amount_sum (edges_from edges voter)
-
--- the edges lead from one voter to one target
-abbrev pub same_pair : Edge → Edge → Bool
-same_pair a b = nat_eq a.voter b.voter && nat_eq a.target b.target
 
 -- the members are different targets, and each voter gives to members that it nominates, once to each
 pub record Follows (snapshot : Snapshot) (weights : Weights) : Type 0 where

@@ -90,6 +90,7 @@ impl Weights {
         ensures member_spare { self.new.member_spare ≡ self.old.member_spare }
         ensures room { KeepsRoom self.old self.new }
     {
+        // A vector has fewer than 2^64 edges, which only a call tells: so a support stays below 2^128.
         let _count = self.edges.len();
         if let Some(support) = self.supports.get_mut(usize::from(edge.target)) {
             *support += u128::from(edge.amount);

@@ -1,6 +1,6 @@
 use Rattle.std.proofs.Common.{◌≡◌}
 use Rattle.election_snapshot.specs.Snapshot.{threshold}
-use Rattle.election_check.proofs.StepLemmas.{ArePaid}
+use Rattle.seat_race.proofs.PaidLemmas.{ArePaid}
 use Rattle.election_check.proofs.prescores.fill_slacks.Given as goal
 
 -- what the pays so far leave

@@ -2,7 +2,7 @@ use Rattle.std.proofs.Common.{rules, ◌≡◌, ◌<◌, length, get_or, ap, ◌
 use Rattle.npos_base.specs.declared.figures.Edge.{Edge}
 use Rattle.weight_book.specs.Weights.{support}
 use Rattle.weight_book.specs.Passing.{pay}
-use Rattle.phragmms_miner.proofs.PassLemmas.{within_support, pay_left, paid_next}
+use Rattle.seat_race.proofs.PaidLemmas.{within_support, pay_left, paid_next}
 use Rattle.phragmms_miner.proofs.pass.fill_slacks.Goals as goal
 
 abbrev none : Edge
@@ -30,7 +30,7 @@ overflow_sub-left c =
     let is : get_or c.args.supports.now c.from-place.result 0 ≡ support edges (get_or edges i none).target =
     c.requires.spare.sums c.from-place.result ∙ ap (support edges) c.from-place.ensures in
     let paid : c.pay.result ≡ pay c.args.price edges (get_or edges i none) = rw is at c.pay.ensures in
-    rw paid (pay_left c.args.price c.args.snapshot.now edges c.args.supports.now c.requires.spare i none h c.loop-edge.left c.loop-edge.invariant)
+    rw paid (pay_left c.args.price c.args.snapshot.now edges c.requires.spare.voters c.requires.spare.within i none h c.loop-edge.left c.loop-edge.invariant)
 
 pub loop-edge-preserved : goal.loop-edge-preserved
 loop-edge-preserved c =
@@ -40,4 +40,4 @@ loop-edge-preserved c =
     let is : get_or c.args.supports.now c.from-place.result 0 ≡ support edges (get_or edges i none).target =
     c.requires.spare.sums c.from-place.result ∙ ap (support edges) c.from-place.ensures in
     let paid : c.pay.result ≡ pay c.args.price edges (get_or edges i none) = rw is at c.pay.ensures in
-    rw paid (paid_next c.args.price c.args.snapshot.now edges c.args.supports.now c.requires.spare i none h c.loop-edge.left c.loop-edge.invariant)
+    rw paid (paid_next c.args.price c.args.snapshot.now edges c.requires.spare.voters c.requires.spare.within i none h c.loop-edge.left c.loop-edge.invariant)

@@ -1,4 +1,4 @@
-use Rattle.phragmms_miner.proofs.PassLemmas.{ArePaid}
+use Rattle.seat_race.proofs.PaidLemmas.{ArePaid}
 use Rattle.phragmms_miner.proofs.pass.fill_slacks.Given as goal
 
 -- what the pays so far leave

@@ -1,11 +1,9 @@
-use Rattle.std.proofs.Common.{rules, arith, ◌≡◌, ℕ, ◌≤◌, List, length, IsPermutation, subst, ap₂, ◌∙◌}
-use Rattle.std.proofs.lemmas.List.Sorted.{IsNonDecreasingBy-from_sort_by_key}
+use Rattle.std.proofs.Common.{arith, ◌≡◌, ℕ, ◌≤◌, List, length, IsPermutation, subst, ap₂, ◌∙◌}
 use Rattle.npos_base.specs.declared.figures.Edge.{Edge}
 use Rattle.weight_book.specs.Weights.{Weights}
 use Rattle.quota_fill.specs.Filled.{picked}
 use Rattle.quota_fill.specs.Kept.{IsFilling}
 use Rattle.quota_fill.proofs.PickLemmas.{are_run}
-use Rattle.quota_fill.proofs.EdgeLemmas.{place}
 use Rattle.quota_fill.proofs.SeatLemmas.{has_spare, seats_more}
 use Rattle.quota_fill.proofs.SortLemmas.{sorted_draws}
 use Rattle.quota_fill.proofs.filling.fill.Goals as goal
@@ -28,10 +26,8 @@ returns-clause-filled c =
     let snapshot = c.args.snapshot.now in
     let done : c.loop.counter ≡ snapshot.seats = omega (arith, c.loop-test.false, c.loop.auto.counter-end, c.seats-end.ensures.seats) in
     let filling = subst (λ n. IsFilling snapshot (picked snapshot n) c.loop.race c.loop.weights c.loop.draws.items) done c.loop.invariant in
-    let up = IsNonDecreasingBy-from_sort_by_key (place snapshot (picked snapshot snapshot.seats)) _ c.sort_unstable_by_key.ensures.sorted (λ a r q k. search rules) in
     let picks = picked snapshot snapshot.seats in
-    let moved = subst (λ (es : List Edge). IsPermutation es c.sort_unstable_by_key.new.self.items) filling.draws_are c.sort_unstable_by_key.ensures.permutation in
+    let moved = subst (λ (es : List Edge). IsPermutation es c.put_by_voter.new.weights.plain.edges) (c.deref_mut.ensures.value ∙ filling.draws_are) c.in_ok-put_by_voter.ensures.same in
     let few : length snapshot.targets ≤ 65536 = omega (arith, c.voter_count.ensures.well_formed.voters.targets_few) in
-    let edges = c.in_ok-put_edges.ensures.edges ∙ c.as_slice.ensures.value
-    ∙ sorted_draws snapshot few picks (are_run snapshot snapshot.seats) c.sort_unstable_by_key.new.self.items moved up in
-    ap₂ weights_of (c.in_ok-put_edges.ensures.members ∙ filling.members) edges
+    let edges = sorted_draws snapshot few picks (are_run snapshot snapshot.seats) c.put_by_voter.new.weights.plain.edges moved c.in_ok-put_by_voter.ensures.order in
+    ap₂ weights_of (c.in_ok-put_by_voter.ensures.members ∙ filling.members) edges

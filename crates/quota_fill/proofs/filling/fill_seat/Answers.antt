@@ -5,7 +5,9 @@ use Rattle.weight_book.specs.Passing.{nominators}
 use Rattle.std.specs.Vec.{with_items, with_item}
 use Rattle.quota_fill.specs.declared.race.Race.{Race}
 use Rattle.quota_fill.specs.Filled.{draw, next_pick}
-use Rattle.quota_fill.specs.Kept.{says, IsFilling, best_by, draws_of}
+use Rattle.seat_race.specs.Picks.{more, first_best}
+use Rattle.seat_race.specs.Tables.{says, unmarked}
+use Rattle.quota_fill.specs.Kept.{IsFilling, draws_of}
 use Rattle.quota_fill.proofs.SeatLemmas.{best_is_next, filling_more}
 use Rattle.quota_fill.proofs.filling.fill_seat.Goals as goal
 
@@ -14,7 +16,7 @@ returns-in_default c =
     let snapshot = c.args.snapshot.now in
     let race = c.args.race.now in
     let picks = reverse c.args.weights.now.plain.committee in
-    let best : c.best_outside.result ≡ best_by c.args.race.now.backings.items c.args.race.now.is_picked.items (length c.args.race.now.backings.items) = search rules in
+    let best : c.best_outside.result ≡ first_best more (says c.args.race.now.backings.items) (unmarked c.args.race.now.is_picked.items (length c.args.race.now.is_picked.items)) = search rules in
     let none : next_pick snapshot picks ≡ None = sym (best_is_next snapshot picks race c.requires.state.after) ∙ sym best ∙ c.in_default.is in
     subst (λ (o : Option ℕ). IsFilling snapshot (cons_option o picks) c.args.race.now c.args.weights.now c.args.draws.now.items) (sym none) c.requires.state
 
@@ -23,7 +25,7 @@ returns c =
     let snapshot = c.args.snapshot.now in
     let race = c.args.race.now in
     let picks = reverse c.args.weights.now.plain.committee in
-    let best : c.best_outside.result ≡ best_by c.args.race.now.backings.items c.args.race.now.is_picked.items (length c.args.race.now.backings.items) = search rules in
+    let best : c.best_outside.result ≡ first_best more (says c.args.race.now.backings.items) (unmarked c.args.race.now.is_picked.items (length c.args.race.now.is_picked.items)) = search rules in
     let some : next_pick snapshot picks ≡ Some c.in-Some.target = sym (best_is_next snapshot picks race c.requires.state.after) ∙ sym best ∙ c.in-Some.is in
     let in_range : c.in-Some.target < length c.args.snapshot.now.targets = search rules in
     let left : (voter : ℕ) → says c.draw_from_all.new.left voter ≡ says race.left.items voter - draw snapshot (says race.left.items) c.in-Some.target voter

@@ -1,11 +1,9 @@
-use Rattle.std.proofs.Common.{rules, arith, ◌≡◌, ℕ, ◌<◌, ◌≤◌, List, length, All, IsPermutation, sym, subst, ap, ap₂, ◌∙◌}
-use Rattle.std.proofs.lemmas.List.Sorted.{IsNonDecreasingBy-from_sort_by_key}
+use Rattle.std.proofs.Common.{arith, ◌≡◌, ℕ, ◌<◌, ◌≤◌, List, length, All, IsPermutation, sym, subst, ap, ap₂, ◌∙◌}
 use Rattle.npos_base.specs.declared.figures.Edge.{Edge}
 use Rattle.weight_book.specs.Weights.{Weights, IsFeasible}
 use Rattle.seq_phragmen.specs.Mined.{picked}
 use Rattle.seq_phragmen.specs.Kept.{IsAfter, IsRunning, rises_after}
 use Rattle.seq_phragmen.proofs.PickLemmas.{are_run}
-use Rattle.seq_phragmen.proofs.EdgeLemmas.{place}
 use Rattle.seq_phragmen.proofs.FeasibleLemmas.{mined_feasible, mined_above}
 use Rattle.seq_phragmen.proofs.SeatLemmas.{as_many, picks_are, has_spare, seats_more}
 use Rattle.seq_phragmen.proofs.SortLemmas.{sorted_gifts}
@@ -52,13 +50,11 @@ returns-clause-mined c =
     let snapshot = c.args.snapshot.now in
     let done : c.loop.counter ≡ snapshot.seats = omega (arith, c.loop-test.false, c.loop.auto.counter-end, c.seats-end.ensures.seats) in
     let running = subst (λ n. IsRunning snapshot (picked snapshot n) c.loop.race c.loop.weights c.loop.rises.items) done c.loop.invariant in
-    let up = IsNonDecreasingBy-from_sort_by_key (place snapshot (picked snapshot snapshot.seats)) _ c.sort_unstable_by_key.ensures.sorted (λ a r q k. search rules) in
     let picks = picked snapshot snapshot.seats in
-    let moved = subst (λ (es : List Edge). IsPermutation es c.sort_unstable_by_key.new.self.items) c.in_ok-edges.ensures c.sort_unstable_by_key.ensures.permutation in
+    let moved = subst (λ (es : List Edge). IsPermutation es c.put_by_voter.new.weights.plain.edges) (c.deref_mut.ensures.value ∙ c.in_ok-edges.ensures) c.in_ok-put_by_voter.ensures.same in
     let few : length snapshot.targets ≤ 65536 = omega (arith, c.seats-end.ensures.well_formed.voters.targets_few) in
-    let edges = c.in_ok-put_edges.ensures.edges ∙ c.as_slice-2.ensures.value
-    ∙ sorted_gifts snapshot few picks (are_run snapshot snapshot.seats) c.sort_unstable_by_key.new.self.items moved up in
-    ap₂ weights_of (c.in_ok-put_edges.ensures.members ∙ running.members) edges
+    let edges = sorted_gifts snapshot few picks (are_run snapshot snapshot.seats) c.put_by_voter.new.weights.plain.edges moved c.in_ok-put_by_voter.ensures.order in
+    ap₂ weights_of (c.in_ok-put_by_voter.ensures.members ∙ running.members) edges
 
 pub returns-clause-feasible : goal.returns-clause-feasible
 returns-clause-feasible c = subst (λ (weights : Weights). IsFeasible c.args.snapshot.now weights) (sym (returns-clause-mined c))

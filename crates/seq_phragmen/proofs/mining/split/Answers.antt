@@ -1,7 +1,8 @@
 use Rattle.std.proofs.Common.{rules, ◌≡◌, ℕ, [], ◌++◌, length, ap, sym, ◌∙◌}
 use Rattle.std.proofs.lemmas.List.{with_items_is}
 use Rattle.seq_phragmen.specs.Mined.{picked, load_after}
-use Rattle.seq_phragmen.specs.Kept.{says, last_after, gifts_of}
+use Rattle.seat_race.specs.Tables.{says}
+use Rattle.seq_phragmen.specs.Kept.{last_after, gifts_of}
 use Rattle.seq_phragmen.proofs.PickLemmas.{are_run}
 use Rattle.seq_phragmen.proofs.GiftLemmas.{can_split, parts_enough, gifts_are}
 use Rattle.seq_phragmen.proofs.mining.split.Goals as goal

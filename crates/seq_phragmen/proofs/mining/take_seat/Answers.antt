@@ -6,8 +6,11 @@ use Rattle.election_snapshot.specs.Snapshot.{Snapshot, nominates, total_stake}
 use Rattle.weight_book.specs.Passing.{nominators}
 use Rattle.seq_phragmen.specs.declared.race.Race.{Race}
 use Rattle.seq_phragmen.specs.Mined.{seat_load, score, load_after, next_pick}
-use Rattle.seq_phragmen.specs.Kept.{says, IsRunning, rise_of}
-use Rattle.seq_phragmen.proofs.PickLemmas.{AreRun, are_run, next_pick_is}
+use Rattle.seat_race.specs.Tables.{says}
+use Rattle.seq_phragmen.specs.Kept.{IsRunning, rise_of}
+use Rattle.seat_race.specs.Picks.{less}
+use Rattle.seat_race.proofs.PickLemmas.{less_orders, next_best_is}
+use Rattle.seq_phragmen.proofs.PickLemmas.{AreRun, are_run, scores}
 use Rattle.seq_phragmen.proofs.LoadLemmas.{load_low, score_most}
 use Rattle.seq_phragmen.proofs.SeatLemmas.{carried_fits, score_found, next_found, floors_found, floors_told, refloored, running_more}
 use Rattle.seq_phragmen.proofs.mining.take_seat.Goals as goal
@@ -63,7 +66,7 @@ raise_loads-requires-clause-none_falls c =
     c.deref.ensures.value c.deref-2.ensures.value c.deref-3.ensures.value whole)
     ∙ sym c.in-Some.ensures.lightest in
     let run = subst (AreRun snapshot) (sym c.requires.picks) (are_run snapshot (length c.args.weights.now.plain.committee)) in
-    let pick = next_pick_is snapshot picks c.in-Some.field-0.target some in
+    let pick = next_best_is (length snapshot.targets) less less_orders (scores snapshot) picks c.in-Some.field-0.target some in
     λ voter. omega (
       arith,
       ap (λ ns. says ns voter) c.deref_mut-2.ensures.value,
@@ -126,7 +129,7 @@ returns c =
     let floors = floors_told snapshot picks race c.requires.state.after c.deref.result.now c.deref-2.result.now c.deref-3.result.now c.lightest_outside-next.new.floors (c.from-seat.result * 1048576)
     c.deref.ensures.value c.deref-2.ensures.value c.deref-3.ensures.value whole c.lightest_outside-next.ensures.floors in
     let run = subst (AreRun snapshot) (sym c.requires.picks) (are_run snapshot (length c.args.weights.now.plain.committee)) in
-    let pick = next_pick_is snapshot picks c.in-Some.field-0.target some in
+    let pick = next_best_is (length snapshot.targets) less less_orders (scores snapshot) picks c.in-Some.field-0.target some in
     let dropped : c.from-2.result ≡ c.in-Some.field-0.target = search rules in
     let loads : (voter : ℕ) → says c.raise_loads.new.loads voter ≡ cond (nominates snapshot voter c.in-Some.field-0.target) c.in-Some.field-0.score (says race.loads.items voter)
     = rw c.deref_mut-2.ensures.value at c.in_ok-raise_loads.ensures.loads in

@@ -1,6 +1,7 @@
 use Rattle.std.proofs.Common.{rules, ◌≡◌, ℕ, ◌+◌, ◌≤◌, ◌||◌, true, false, is_none, nat_lt, Option, Some, List, get_or, inl, inr, sym, subst, ◌∙◌}
 use Rattle.seq_phragmen.specs.Mined.{greatest_score}
-use Rattle.seq_phragmen.specs.Kept.{says, score_by, AreFloors}
+use Rattle.seat_race.specs.Tables.{says}
+use Rattle.seq_phragmen.specs.Kept.{score_by, AreFloors}
 use Rattle.seq_phragmen.proofs.TableLemmas.{IsLightestSoFar, lighter_next, lightest_stays, floor_set, no_lower}
 use Rattle.seq_phragmen.proofs.picking.lightest_outside.Goals.{then-is_ahead+then-not-is_picked-target+then-is_ahead-2, then-is_ahead+then-not-is_picked-target+else-is_ahead-2, else-is_ahead, else-is_ahead-via-then-is_ahead+else-not-is_picked-target, else-is_ahead-via-else-is_ahead}
 use Rattle.seq_phragmen.proofs.picking.lightest_outside.Goals as goal

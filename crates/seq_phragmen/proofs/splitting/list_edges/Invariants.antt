@@ -1,5 +1,6 @@
 use Rattle.std.proofs.Common.{◌≡◌, ◌++◌, take}
-use Rattle.seq_phragmen.specs.Kept.{says, gifts_of}
+use Rattle.seat_race.specs.Tables.{says}
+use Rattle.seq_phragmen.specs.Kept.{gifts_of}
 use Rattle.seq_phragmen.proofs.splitting.list_edges.Given as goal
 
 -- the edges of the rises so far stand

@@ -1,6 +1,6 @@
 use Rattle.std.proofs.Common.{rules}
 use Rattle.std.proofs.lemmas.List.Sorted.{IsNonDecreasingBy-from_sort_by_key}
-use Rattle.support_balance.specs.Slots.{place_of}
+use Rattle.npos_base.specs.Edge.{place_of}
 use Rattle.support_balance.proofs.laying.in_order.Goals as goal
 
 pub returns-clause-rising : goal.returns-clause-rising

@@ -1,11 +1,11 @@
-use Rattle.std.proofs.Common.{◌*◌, ◌^◌, ◌≤◌}
+use Rattle.std.proofs.Common.{ℕ, ◌*◌, ◌^◌, ◌≤◌}
 use Rattle.support_balance.specs.Levels.{bases}
 use Rattle.support_balance.proofs.PoolLemmas.{IsPool}
 use Rattle.support_balance.proofs.turn.level_of.Given as goal
 
--- the pool of a cap, and the height that it would be raised to, not above what it leaves out
+-- the pool of some cap, and the height that it would be raised to, not above what it leaves out
 abbrev pub invariant-loop-height : goal.invariant-loop-height
-invariant-loop-height l = IsPool l.stake (bases l.supports l.row) l.pool.cap l.pool.sum l.pool.count l.pool.highest l.height × (l.pool.sum ≤ l.pool.count * 2 ^ 100) × (l.pool.count ≤ 2 ^ 20)
+invariant-loop-height l = (cap : ℕ) × IsPool l.stake (bases l.supports l.row) cap l.pool.sum l.pool.count l.pool.highest l.height × (l.pool.sum ≤ l.pool.count * 2 ^ 100) × (l.pool.count ≤ 2 ^ 20)
 
 abbrev pub decreases-loop-height : goal.decreases-loop-height
 decreases-loop-height l = l.pool.highest

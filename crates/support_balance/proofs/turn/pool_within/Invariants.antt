@@ -5,7 +5,7 @@ use Rattle.support_balance.proofs.turn.pool_within.Given as goal
 -- the pool of the edges so far
 abbrev pub invariant-loop-edge : goal.invariant-loop-edge
 invariant-loop-edge l =
-    (l.pool.cap ≡ l.cap) × (l.pool.sum ≡ sum (low l.cap (bases l.supports (take l.edge-index l.row))))
+    (l.pool.sum ≡ sum (low l.cap (bases l.supports (take l.edge-index l.row))))
     × (l.pool.count ≡ length (low l.cap (bases l.supports (take l.edge-index l.row))))
     × All (λ base. base ≤ l.pool.highest) (low l.cap (bases l.supports (take l.edge-index l.row)))
     × (l.pool.highest ≤ l.cap) × (l.pool.sum ≤ l.pool.count * 2 ^ 100) × (l.pool.count ≤ l.edge-index)

@@ -1,5 +1,5 @@
 use Rattle.std.proofs.Common.{arith, sym, ◌∙◌}
-use Rattle.seq_phragmen.specs.Kept.{says}
+use Rattle.seat_race.specs.Tables.{says}
 use Rattle.seq_phragmen.proofs.RaiseLemmas.{no_burden}
 use Rattle.seq_phragmen.proofs.race.Race.new.Goals as goal
 

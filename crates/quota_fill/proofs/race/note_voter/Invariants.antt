@@ -1,7 +1,0 @@
-use Rattle.std.proofs.Common.{[], ◌∷◌, ◌++◌, take}
-use Rattle.quota_fill.proofs.TableLemmas.{AreChanged}
-use Rattle.quota_fill.proofs.race.note_voter.Given as goal
-
--- the voter is noted at the votes so far
-abbrev pub invariant-loop-vote : goal.invariant-loop-vote
-invariant-loop-vote l = AreChanged (λ ns. ns ++ l.voter ∷ []) [] (take l.vote-index l.votes) l.fn.lists l.lists

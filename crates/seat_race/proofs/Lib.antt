@@ -1,0 +1,7 @@
+pub mod GivingLemmas
+pub mod InLemmas
+pub mod NominatorLemmas
+pub mod OrderLemmas
+pub mod PaidLemmas
+pub mod PickLemmas
+pub mod TableLemmas

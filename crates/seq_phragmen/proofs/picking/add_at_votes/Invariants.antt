@@ -1,7 +1,0 @@
-use Rattle.std.proofs.Common.{◌+◌, take}
-use Rattle.seq_phragmen.proofs.TableLemmas.{AreChanged}
-use Rattle.seq_phragmen.proofs.picking.add_at_votes.Given as goal
-
--- the amount is added at the votes so far
-abbrev pub invariant-loop-vote : goal.invariant-loop-vote
-invariant-loop-vote l = AreChanged (λ n. n + l.amount) 0 (take l.vote-index l.votes) l.fn.burdens l.burdens
