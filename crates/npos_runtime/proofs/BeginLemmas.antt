@@ -27,12 +27,12 @@ use Rattle.voter_lists.specs.Bags.{IsRisingFrom}
 use Rattle.std.proofs.lemmas.Bool.Decides.{nat_tests}
 use Rattle.npos_runtime.specs.declared.chain.Chain.{Chain}
 use Rattle.chain_params.specs.Rules.{thresholds_in, places_of}
-use Rattle.npos_runtime.specs.Calls.{release_now}
+use Rattle.npos_runtime.specs.BookCalls.{release_now}
 use Rattle.block_wire.specs.declared.genesis.Params.{Params}
 use Rattle.npos_runtime.specs.Live.{IsLive, IsReady}
 use Rattle.chain_params.proofs.FaultLemmas.{first_none, places_within}
 use Rattle.npos_runtime.proofs.EndowLemmas.{sum_more}
-use Rattle.npos_runtime.proofs.LiveLemmas.{chunks_changed}
+use Rattle.npos_runtime.proofs.PartLemmas.{chunks_changed}
 
 neither : (a b : Bool) (x y : GenesisFault) (r : Option GenesisFault)
     → (if a then Some x else if b then Some y else r) ≡ None → (b ≡ false) × (r ≡ None)

@@ -20,7 +20,8 @@ use Rattle.npos_runtime.specs.Genesis.{genesis_chain}
 use Rattle.round_decision.specs.Decision.{others, decided_weights}
 use Rattle.npos_runtime.specs.Deciding.{decision_of, decision_phase}
 use Rattle.npos_runtime.specs.Outcome.{Election, Outcome, quiet}
-use Rattle.npos_runtime.specs.Calls.{refusal_of}
+use Rattle.npos_runtime.specs.CallRule.{CallRule}
+use Rattle.npos_runtime.specs.Calls.{rule_for}
 use Rattle.npos_runtime.specs.Step.{era_phase, call_after, call_outcome, calls_outcome, step, seated_by}
 use Rattle.npos_runtime.specs.Live.{IsLive, IsSoundRound}
 use Rattle.chain_params.specs.Faults.{AreSound}
@@ -33,15 +34,16 @@ use Rattle.npos_runtime.proofs.LiveLemmas.{live_era, live_round, live_step, live
 
 -- ## Calls seat nobody
 
-seats_after : (due : Option Refusal) (index : ℕ) (call : Call) (chain : Chain) → (call_after due index call chain).seated ≡ []
-seats_after None index call chain = refl
-seats_after (Some refusal) index call chain = refl
+seats_after : (due : Option Refusal) (index : ℕ) (rule : CallRule) (chain : Chain) → (call_after due index rule chain).seated ≡ []
+seats_after None index rule chain = refl
+seats_after (Some refusal) index rule chain = refl
 
 seats_calls : (index : ℕ) (calls : List Call) (chain : Chain) → (calls_outcome index calls chain).seated ≡ []
 seats_calls index [] chain = refl
 seats_calls index (call ∷ calls) chain =
-    ap (λ (es : List Election). es ++ (calls_outcome (index + 1) calls (call_outcome index call chain).state).seated) (seats_after (refusal_of chain call.who call.kind) index call chain)
-    ∙ seats_calls (index + 1) calls (call_outcome index call chain).state
+    let next : Chain = (call_outcome index call chain).state in
+    ap (λ (es : List Election). es ++ (calls_outcome (index + 1) calls next).seated) (seats_after (rule_for chain call).refusal index (rule_for chain call) chain)
+    ∙ seats_calls (index + 1) calls next
 
 -- what the step seats is what its decision seats
 abbrev pub undecided : Chain → Chain

@@ -11,6 +11,13 @@ pub mod VoidLemmas
 pub mod EraLemmas
 pub mod OfficeLemmas
 pub mod ExposureLemmas
+pub mod PartLemmas
+pub mod RuleLemmas
+pub mod BookCallLemmas
+pub mod ListCallLemmas
+pub mod SubmitCallLemmas
+pub mod OfficeCallLemmas
+pub mod CallTable
 pub mod LiveLemmas
 pub mod EndowLemmas
 pub mod BeginLemmas

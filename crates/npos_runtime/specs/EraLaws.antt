@@ -5,7 +5,6 @@ use Rattle.std.specs.List.{IsDistinct}
 use Rattle.npos_base.specs.declared.account.AccountId.{AccountId}
 use Rattle.npos_base.specs.Account.{same_account}
 use Rattle.block_wire.specs.declared.call.Call.{Call}
-use Rattle.block_wire.specs.declared.call.CallKind.{CallKind}
 use Rattle.block_wire.specs.declared.call.CallKind.TheVariants as kinds
 use Rattle.block_wire.specs.declared.block.Block.{Block}
 use Rattle.block_wire.specs.declared.genesis.Genesis.{Genesis}
@@ -14,10 +13,9 @@ use Rattle.stake_ledger.specs.Chunks.{chunk_sum}
 use Rattle.stake_ledger.specs.Ledger.{Ledger, row_at}
 use Rattle.election_snapshot.specs.Snapshot.{Snapshot}
 use Rattle.era_book.specs.declared.exposure.Backer.{Backer}
-use Rattle.era_book.specs.Exposures.{amount_for}
 use Rattle.era_book.specs.Calls.{slash_in}
 use Rattle.era_book.specs.Eras.{first_era}
-use Rattle.era_book.specs.Events.{Event, Started, Pointed, Paid, Reported, AreAccepted, after_all}
+use Rattle.era_book.specs.Events.{Event, Started, Paid, Reported, AreAccepted, after_all, given_by, makes_due}
 use Rattle.npos_runtime.specs.declared.chain.Chain.{Chain}
 use Rattle.block_receipts.specs.declared.line.Line.{Line}
 use Rattle.block_receipts.specs.declared.line.Line.TheVariants as lines
@@ -27,7 +25,8 @@ use Rattle.npos_runtime.specs.Exposed.{exposed}
 use Rattle.chain_params.specs.Rules.{begun_era, era_reward_of}
 use Rattle.npos_runtime.specs.Outcome.{Election}
 use Rattle.npos_runtime.specs.Genesis.{genesis_fault, genesis_chain, params_of}
-use Rattle.npos_runtime.specs.Calls.{refusal_of, done_of, told_of}
+use Rattle.npos_runtime.specs.CallRule.{CallRule}
+use Rattle.npos_runtime.specs.Calls.{rule_for, refusal_of, done_of, told_of}
 use Rattle.npos_runtime.specs.Offices.{payout_now, slash_told}
 use Rattle.npos_runtime.specs.Step.{call_outcome, calls_outcome, step, after_blocks, seated_by}
 use Rattle.npos_runtime.specs.Offers.{before_calls}
@@ -40,22 +39,18 @@ abbrev pub started_by : Option Committee → Option ℕ → List Event
 started_by waiting None = []
 started_by waiting (Some era) = Started (exposed waiting) ∷ []
 
-abbrev pub event_of_kind : CallKind → List Event
-event_of_kind (kinds.Points items) = Pointed items ∷ []
-event_of_kind (kinds.Payout era validator) = Paid era validator ∷ []
-event_of_kind (kinds.Offence era validator fraction) = Reported era validator fraction ∷ []
-event_of_kind other = []
-
 -- a refused call is no event
-abbrev pub event_of : Option Refusal → CallKind → List Event
-event_of None kind = event_of_kind kind
-event_of (Some refusal) kind = []
+abbrev pub event_of : Option Refusal → CallRule → List Event
+event_of None rule = rule.events
+event_of (Some refusal) rule = []
+
+abbrev pub events_at : Call → Chain → List Event
+events_at call chain = event_of (rule_for chain call).refusal (rule_for chain call)
 
 abbrev pub events_of : ℕ → List Call → Chain → List Event
 events_of index [] chain = []
 events_of index (call ∷ calls) chain =
-    event_of (refusal_of chain call.who call.kind) call.kind
-    ++ events_of (index + 1) calls (call_outcome index call chain).state
+    events_at call chain ++ events_of (index + 1) calls (call_outcome index call chain).state
 
 abbrev pub events_in : Chain → Block → List Event
 events_in chain block =
@@ -97,13 +92,14 @@ amount_paid other = 0
 abbrev pub told_paid : List Line → ℕ
 told_paid told = sum_by amount_paid told
 
--- what the lines of a call tell to be paid of the reward of an era
-abbrev pub paid_for : ℕ → CallKind → List Line → ℕ
-paid_for era (kinds.Payout other validator) told = if other == era then told_paid told else 0
+-- what the lines of a call tell to be paid of the reward of an era, where this happened to the eras
+abbrev pub paid_for : ℕ → List Event → List Line → ℕ
+paid_for era (Paid other validator ∷ more) told = if other == era then told_paid told else 0
 paid_for era other told = 0
 
 abbrev pub paid_by : ℕ → ℕ → Call → Chain → ℕ
-paid_by era index call chain = paid_for era call.kind (call_outcome index call chain).lines
+paid_by era index call chain =
+    paid_for era (events_at call chain) (call_outcome index call chain).lines
 
 -- what blocks tell to be paid of the reward of an era, over all its validators
 abbrev pub paid_in : ℕ → Genesis → List Block → ℕ
@@ -175,31 +171,23 @@ amount_taken who other = 0
 abbrev pub told_taken : AccountId → List Line → ℕ
 told_taken who told = sum_by (amount_taken who) told
 
--- what the lines of a call tell to be taken from an account for an era
-abbrev pub taken_for : ℕ → AccountId → CallKind → List Line → ℕ
-taken_for era who (kinds.Offence other validator fraction) told =
+-- what the lines of a call tell to be taken from an account for an era, where this happened to the eras
+abbrev pub taken_for : ℕ → AccountId → List Event → List Line → ℕ
+taken_for era who (Reported other validator fraction ∷ more) told =
     if other == era then told_taken who told else 0
 taken_for era who other told = 0
 
 abbrev pub taken_by : ℕ → AccountId → ℕ → Call → Chain → ℕ
-taken_by era who index call chain = taken_for era who call.kind (call_outcome index call chain).lines
+taken_by era who index call chain =
+    taken_for era who (events_at call chain) (call_outcome index call chain).lines
 
 -- what blocks tell to be taken from an account for an era, over all its validators and all reports
 abbrev pub taken_in : ℕ → AccountId → Genesis → List Block → ℕ
 taken_in era who genesis blocks = over_blocks (taken_by era who) (genesis_chain genesis) blocks
 
 -- what a call makes due from an account for an era; a refused call makes nothing due
-abbrev pub due_of_kind : ℕ → AccountId → CallKind → Chain → ℕ
-due_of_kind era who (kinds.Offence other validator fraction) chain =
-    if other == era then amount_for who (slash_in chain.eras other validator fraction) else 0
-due_of_kind era who other chain = 0
-
-abbrev pub due_of : ℕ → AccountId → Option Refusal → CallKind → Chain → ℕ
-due_of era who None kind chain = due_of_kind era who kind chain
-due_of era who (Some refusal) kind chain = 0
-
 abbrev pub due_by : ℕ → AccountId → ℕ → Call → Chain → ℕ
-due_by era who index call chain = due_of era who (refusal_of chain call.who call.kind) call.kind chain
+due_by era who index call chain = given_by (makes_due era who) (events_at call chain) chain.eras
 
 -- what blocks make due from an account for an era, over all its validators and all reports
 abbrev pub due_in : ℕ → AccountId → Genesis → List Block → ℕ

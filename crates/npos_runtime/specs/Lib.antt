@@ -3,6 +3,9 @@ pub mod Outcome
 pub mod Ballots
 pub mod Rounds
 pub mod Lists
+pub mod CallRule
+pub mod BookCalls
+pub mod ListCalls
 pub mod Signed
 pub mod Offices
 pub mod Exposed

@@ -8,7 +8,7 @@ use Rattle.chain_params.specs.Rules.{era_of}
 use Rattle.chain_params.specs.Faults.{AreSound}
 use Rattle.npos_runtime.specs.Ballots.{commission_in}
 use Rattle.npos_runtime.specs.Committee.{Committee}
-use Rattle.npos_runtime.specs.Calls.{release_now}
+use Rattle.npos_runtime.specs.BookCalls.{release_now}
 use Rattle.npos_base.specs.Account.{same_account}
 use Rattle.voter_lists.specs.Ranked.{AreRanked}
 use Rattle.voter_lists.specs.Roles.{RoleList, role_of, nominated_by, validators_of, has_repeat}

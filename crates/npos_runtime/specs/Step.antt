@@ -15,7 +15,8 @@ use Rattle.npos_runtime.specs.Committee.{Committee}
 use Rattle.npos_runtime.specs.Exposed.{exposed}
 use Rattle.npos_runtime.specs.Rounds.{round_phase}
 use Rattle.npos_runtime.specs.Deciding.{decision_phase}
-use Rattle.npos_runtime.specs.Calls.{refusal_of, done_of, told_of}
+use Rattle.npos_runtime.specs.CallRule.{CallRule}
+use Rattle.npos_runtime.specs.Calls.{rule_for}
 
 abbrev pub opened : ℕ → Chain → Outcome
 opened number chain = telling (lines.Block number ∷ []) chain
@@ -38,15 +39,15 @@ era_phase chain =
       eras = eras_after chain.eras chain.waiting (begun_era chain.params chain.due);
     })
 
--- one call, at its place in the block
-abbrev pub call_after : Option Refusal → ℕ → Call → Chain → Outcome
-call_after None index call chain =
-    telling (lines.CallOk index ∷ told_of chain call.who call.kind) (done_of chain call.who call.kind)
-call_after (Some refusal) index call chain =
+-- one call by its rule, at its place in the block
+abbrev pub call_after : Option Refusal → ℕ → CallRule → Chain → Outcome
+call_after None index rule chain = telling (lines.CallOk index ∷ rule.told) rule.done
+call_after (Some refusal) index rule chain =
     telling (lines.CallRefused index (code_of refusal) ∷ []) chain
 
 abbrev pub call_outcome : ℕ → Call → Chain → Outcome
-call_outcome index call chain = call_after (refusal_of chain call.who call.kind) index call chain
+call_outcome index call chain =
+    call_after (rule_for chain call).refusal index (rule_for chain call) chain
 
 abbrev pub calls_outcome : ℕ → List Call → Chain → Outcome
 calls_outcome index [] chain = quiet chain
