@@ -41,16 +41,16 @@ use Rattle.round_decision.specs.Deposits.{all_burned}
 use Rattle.npos_runtime.specs.Outcome.{Outcome, quiet}
 use Rattle.npos_runtime.specs.CallRule.{CallRule}
 use Rattle.npos_runtime.specs.Calls.{rule_for}
-use Rattle.npos_runtime.specs.Step.{era_phase, call_after, call_outcome, calls_outcome, closed, step, after_blocks}
+use Rattle.npos_runtime.specs.Step.{before_calls, era_phase, call_after, call_outcome, calls_outcome, closed, step, after_blocks}
 use Rattle.chain_params.specs.Faults.{params_fault}
 use Rattle.npos_runtime.specs.Genesis.{genesis_chain}
 use Rattle.npos_runtime.specs.Live.{IsLive}
-use Rattle.npos_runtime.specs.Offers.{is_offered, offered_to, offer_of, offers_in, offers_by, before_calls, LosesTo, FillsAfter}
-use Rattle.npos_runtime.specs.Laws.{CrowdingLaw as RoundsLaw}
+use Rattle.npos_runtime.specs.Offers.{is_offered, offered_to, offer_of, offers_in, offers_by, LosesTo, FillsAfter}
+use Rattle.npos_runtime.specs.Laws.{NoneCrowdedOutLaw}
 use Rattle.round_decision.proofs.DecisionLemmas.{winner_holds, fails_first, holds_first}
 use Rattle.npos_runtime.proofs.RuleLemmas.{IsFixed, LeavesQueue, Submits}
 use Rattle.npos_runtime.proofs.CallTable.{lawful_call}
-use Rattle.npos_runtime.proofs.LiveLemmas.{live_before, due_before, live_call, live_step, live_blocks, due_step, due_calls, fixed_calls, params_decision}
+use Rattle.npos_runtime.proofs.LiveLemmas.{live_before, due_before, live_call, live_step, live_blocks, due_step, due_calls, params_blocks}
 use Rattle.npos_runtime.proofs.BeginLemmas.{live_begun}
 use Rattle.npos_runtime.proofs.LawLemmas.{undecided, decides}
 use Rattle.chain_params.proofs.PhaseLemmas.{next_place, phases_sound}
@@ -80,18 +80,18 @@ module _ (params : Params) (sound : params_fault params ≡ None) (number : ℕ)
   era due = era_of (Some params) due
 
   -- the queue is what these offers made of an empty one
-  abbrev Holds : Ranking → List Submission → Type 0
+  abbrev pub Holds : Ranking → List Submission → Type 0
   Holds queue offers = queue ≡ after_offers (empty_queue params.queue) offers
 
   -- An open round is the current one, from one place of its era to before another, and holds what
   -- was offered to it; else nothing waits.
-  abbrev IsTimed : ℕ → ℕ → ℕ → Option Round → Ranking → List Submission → Type 0
+  abbrev pub IsTimed : ℕ → ℕ → ℕ → Option Round → Ranking → List Submission → Type 0
   IsTimed low high due (Some (rounds.Open round snapshot commissions)) queue offers =
       (round ≡ era due + 1) × (low ≤ place due) × (place due < high) × (round ≡ number → Holds queue offers)
   IsTimed low high due (Some (rounds.Void round)) queue offers = queue ≡ empty_queue params.queue
   IsTimed low high due None queue offers = queue ≡ empty_queue params.queue
 
-  record IsAt (low high : ℕ) (chain : Chain) (offers : List Submission) : Type 0 where
+  pub record IsAt (low high : ℕ) (chain : Chain) (offers : List Submission) : Type 0 where
     pub params_are : chain.params ≡ Some params
     pub places : chain.queue.places ≡ params.queue
     pub timed : IsTimed low high chain.due chain.round chain.queue offers
@@ -99,10 +99,10 @@ module _ (params : Params) (sound : params_fault params ≡ None) (number : ℕ)
     pub later : era chain.due + 1 < number → offers ≡ []
     pub same : number ≡ era chain.due + 1 → place chain.due < low → offers ≡ []
 
-  abbrev first_place : ℕ
+  abbrev pub first_place : ℕ
   first_place = params.offset
 
-  abbrev end_place : ℕ
+  abbrev pub end_place : ℕ
   end_place = params.offset + params.signed
 
   -- where the round begins, nothing waits
@@ -388,19 +388,19 @@ module _ (params : Params) (sound : params_fault params ≡ None) (number : ℕ)
       by (inl (on, in_era)) = h.same (omega (arith, e, in_era)) (omega (arith, below, on))
       by (inr (over, past)) = h.later (omega (arith, e, past))
 
-  abbrev IsBetween : Chain → List Submission → Type 0
+  abbrev pub IsBetween : Chain → List Submission → Type 0
   IsBetween chain offers = IsAt (first_place + 1) (end_place + 1) chain offers
 
-  stepped : (chain : Chain) (block : Block) (offers : List Submission) → IsBetween chain offers → IsLive chain
+  pub stepped : (chain : Chain) (block : Block) (offers : List Submission) → IsBetween chain offers → IsLive chain
       → IsBetween (step chain block).state (offers ++ offers_in number 0 block.calls (before_calls chain))
   stepped chain block offers h live =
       let start : Chain = before_calls chain in
       let all : List Submission = offers ++ offers_in number 0 block.calls start in
       closes (calls_outcome 0 block.calls start).state all
       (called 0 block.calls start offers (decided_at (undecided chain) offers (begins chain offers h)) (live_before chain live))
-      (omega (arith, due_calls 0 block.calls start, due_before chain, live.due_at_least))
+      (omega (arith, due_calls 0 block.calls start, due_before chain, live.due.at_least))
 
-  behind : (chain : Chain) (blocks : List Block) (offers : List Submission) → IsBetween chain offers → IsLive chain → chain.due + length blocks ≤ 2 ^ 32
+  pub behind : (chain : Chain) (blocks : List Block) (offers : List Submission) → IsBetween chain offers → IsLive chain → chain.due + length blocks ≤ 2 ^ 32
       → IsBetween (after_blocks chain blocks) (offers ++ offers_by number chain blocks)
   behind chain [] offers h live fit = subst (IsBetween chain) (sym (append-nil offers)) h
   behind chain (block ∷ more) offers h live fit =
@@ -411,7 +411,7 @@ module _ (params : Params) (sound : params_fault params ≡ None) (number : ℕ)
       (omega (arith, fit, due_step chain block)))
 
   -- a round that is open holds what was offered to it
-  round_holds : (chain : Chain) (offers : List Submission) (snapshot : Snapshot) (commissions : List ℕ) → IsBetween chain offers
+  pub round_holds : (chain : Chain) (offers : List Submission) (snapshot : Snapshot) (commissions : List ℕ) → IsBetween chain offers
       → chain.round ≡ Some (rounds.Open number snapshot commissions) → Holds chain.queue offers
   round_holds chain offers snapshot commissions h is =
       (subst (λ (r : Option Round). IsTimed (first_place + 1) (end_place + 1) chain.due r chain.queue offers) is h.timed).3 refl
@@ -442,11 +442,14 @@ found_others snapshot (item ∷ items) found is = at (is_yes (judged snapshot it
 -- the lines of the decision stand among those of its block
 in_step : (chain : Chain) (block : Block) (line : Line) → Contains (decision_phase (undecided chain)).lines line → Contains (step chain block).lines line
 in_step chain block line within =
-    let before : List Line = (lines.Block block.number ∷ [] ++ (era_phase chain).lines) ++ (round_phase (era_phase chain).state).lines in
+    let era : List Line = (era_phase chain).lines in
+    let round : List Line = (round_phase (era_phase chain).state).lines in
     let decision : List Line = (decision_phase (undecided chain)).lines in
     let calls : List Line = (calls_outcome 0 block.calls (before_calls chain)).lines in
-    Contains-append_left ((before ++ decision) ++ calls) [] line
-    (Contains-append_left (before ++ decision) calls line (Contains-append_right before decision line within))
+    Contains-append_right (lines.Block block.number ∷ []) ((era ++ (round ++ (decision ++ []))) ++ (calls ++ [])) line
+    (Contains-append_left (era ++ (round ++ (decision ++ []))) (calls ++ []) line
+    (Contains-append_right era (round ++ (decision ++ [])) line
+    (Contains-append_right round (decision ++ []) line (Contains-append_left decision [] line within))))
 
 all_mapped : {A B : Type 0} (f : A → B) (xs : List A) → All (λ x. Contains (map f xs) (f x)) xs
 all_mapped f [] = All-nil (λ x. Contains [] (f x))
@@ -478,7 +481,7 @@ module _ (packed : PackedYesIsAccepting) (chain : Chain) (block : Block) (round 
   seen : (line : Line) → Contains (lost_lines ++ rest_lines) line → Contains told line
   seen line within =
       in_step chain block line
-      (subst (λ (o : Outcome). Contains o.lines line) (sym (decides chain round snapshot commissions live is stands))
+      (subst (λ (o : Outcome). Contains o.lines line) (sym (decides chain (Some (rounds.Open round snapshot commissions)) live is stands))
       (Contains-append_left (lost_lines ++ rest_lines) (member_lines snapshot (committee_of snapshot commissions items).weights) line within))
 
   seat_seen : Contains told (seat_line round (others snapshot items))
@@ -510,7 +513,7 @@ module _ (packed : PackedYesIsAccepting) (chain : Chain) (block : Block) (round 
         earned = ap score_of won_by.given_are ∙ won_by.claimed;
       }
 
-  answered : (item : Submission) (places : ℕ) (offers : List Submission) → chain.queue.places ≡ places → chain.queue ≡ after_offers (empty_queue places) offers
+  pub answered : (item : Submission) (places : ℕ) (offers : List Submission) → chain.queue.places ≡ places → chain.queue ≡ after_offers (empty_queue places) offers
       → Contains offers item → judged snapshot item ≡ verdicts.Yes
       → ((winner : Submission) × LosesTo round snapshot item items told winner) ⊎ FillsAfter round snapshot chain.queue told
   answered item places offers many holds among holds_up =
@@ -525,29 +528,3 @@ module _ (packed : PackedYesIsAccepting) (chain : Chain) (block : Block) (round 
             → ((winner : Submission) × LosesTo round snapshot item items told winner) ⊎ FillsAfter round snapshot chain.queue told
         at None e (full, all) none = inr (fills none (full ∙ sym many))
         at (Some winner) e worse (rest, won) = inl (winner, loses item winner rest won worse)
-
--- ## From the genesis on
-
-params_blocks : (chain : Chain) (blocks : List Block) → (after_blocks chain blocks).params ≡ chain.params
-params_blocks chain [] = refl
-params_blocks chain (block ∷ more) =
-    params_blocks (step chain block).state more
-    ∙ ((fixed_calls 0 block.calls (before_calls chain)).params ∙ params_decision (undecided chain))
-
-pub none_crowded_out : PackedYesIsAccepting → RoundsLaw
-none_crowded_out packed (geneses.Plain endowments) blocks block sound fit round snapshot commissions item is stands among holds_up =
-    let none = params_blocks (genesis_chain (geneses.Plain endowments)) blocks in
-    absurd (true≢false (sym is ∙ ap (λ (ps : Option Params). is_decision ps (after_blocks (genesis_chain (geneses.Plain endowments)) blocks).due) none))
-none_crowded_out packed (geneses.Full endowments params) blocks block sound fit round snapshot commissions item is stands among holds_up =
-    let first : Chain = genesis_chain (geneses.Full endowments params) in
-    let live_first : IsLive first = live_begun (geneses.Full endowments params) sound in
-    let between = behind params live_first.params round first blocks [] (record {
-      params_are = refl;
-      places = refl;
-      timed = refl;
-      later = λ _. refl;
-      same = λ _ _. refl;
-    }) live_first fit in
-    answered packed (after_blocks first blocks) block round snapshot commissions (live_blocks first blocks live_first fit) is stands
-    item params.queue (offers_by round first blocks) between.places
-    (round_holds params live_first.params round (after_blocks first blocks) (offers_by round first blocks) snapshot commissions between stands) among holds_up

@@ -1,8 +1,8 @@
 -- What eras come to over blocks: payouts within the reward, and slashes within the stake.
-use Rattle.std.proofs.Common.{◌≡◌, ◌≢◌, ℕ, zero, suc, ◌+◌, ◌-◌, ◌<◌, ◌≤◌, min, Bool, true, false, cond, not, nat_eq, nat_lt, List, [], ◌∷◌, ◌++◌, slice_get, unwrap_or, Option, Some, None, refl, ap, sym, subst, ◌∙◌, arith, if◌then◌else◌}
+use Rattle.std.proofs.Common.{◌≡◌, ◌≢◌, ℕ, zero, suc, ◌+◌, ◌-◌, ◌<◌, ◌≤◌, min, Bool, true, false, cond, not, ◌==◌, nat_eq, nat_lt, List, [], ◌∷◌, ◌++◌, map, sum_by, slice_get, unwrap_or, Option, Some, None, refl, ap, sym, subst, ◌∙◌, arith, if◌then◌else◌}
 use Rattle.std.specs.List.{IsDistinct}
 use Rattle.std.proofs.lemmas.Bool.Decides.{nat_tests}
-use Rattle.std.proofs.lemmas.List.Sums.{sum_by-cons}
+use Rattle.std.proofs.lemmas.List.Sums.{sum_by-cons, sum_by-append}
 use Rattle.std.proofs.lemmas.List.Elements.{All-nil}
 use Rattle.npos_base.specs.declared.account.AccountId.{AccountId}
 use Rattle.npos_base.specs.Account.{same_account}
@@ -37,20 +37,19 @@ use Rattle.npos_runtime.specs.Outcome.{Election}
 use Rattle.npos_runtime.specs.Offices.{payout_now, all_minted, slashed_once, slashes}
 use Rattle.npos_runtime.specs.CallRule.{CallRule}
 use Rattle.npos_runtime.specs.Calls.{rule_of, rule_for}
-use Rattle.npos_runtime.specs.Step.{call_after, call_outcome, step, after_blocks, seated_by}
-use Rattle.npos_runtime.specs.Genesis.{params_of, genesis_fault, genesis_chain}
+use Rattle.npos_runtime.specs.Step.{before_calls, call_after, call_outcome, step, after_blocks, seated_by}
+use Rattle.npos_runtime.specs.Genesis.{params_of, genesis_chain}
 use Rattle.npos_runtime.specs.Live.{IsLive}
-use Rattle.npos_runtime.specs.Offers.{before_calls}
-use Rattle.npos_runtime.specs.Laws.{FitsBehind}
-use Rattle.npos_runtime.specs.EraLaws.{event_of, events_at, events_in, events_by, HistoryLaw, over_calls, over_blocks, paid_for, paid_by, paid_in, RewardLaw, chain_at, PayoutLaw, bonded, IsTaken, AreTaken, SlashLaw, taken_for, taken_by, due_by, due_in, TakenLaw, OnceLaw, elected_for, stake_behind, DueLaw}
+use Rattle.npos_runtime.specs.History.{CanTake, IsHistory}
+use Rattle.npos_runtime.specs.EraLaws.{event_of, events_at, events_in, events_by, HistoryLaw, over_calls, over_blocks, paid_for, paid_by, paid_in, PaidWithinRewardLaw, chain_at, PaidAsToldLaw, bonded, IsTaken, AreTaken, SlashLaw, taken_for, taken_by, due_by, due_in, TakenLaw, OnceLaw, elected_for, stake_behind, DueWithinStakeLaw}
 use Rattle.npos_runtime.proofs.RuleLemmas.{FollowsEvents}
 use Rattle.npos_runtime.proofs.OfficeCallLemmas.{slashed_live, told_payout, payout_free}
 use Rattle.npos_runtime.proofs.CallTable.{lawful_call}
-use Rattle.npos_runtime.proofs.LiveLemmas.{live_before, live_calls, live_blocks}
+use Rattle.npos_runtime.proofs.LiveLemmas.{live_before, live_calls, live_blocks, params_step, params_blocks}
 use Rattle.npos_runtime.proofs.BeginLemmas.{live_begun}
 use Rattle.npos_runtime.proofs.OfficeLemmas.{payout_sums}
 use Rattle.chain_params.proofs.PhaseLemmas.{era_first}
-use Rattle.npos_runtime.proofs.HistoryLemmas.{accepted_plain, eras_block, sum_blocks, params_step}
+use Rattle.npos_runtime.proofs.HistoryLemmas.{accepted_plain, eras_block, sum_blocks}
 use Rattle.npos_runtime.proofs.SeatedLemmas.{same_round}
 use Rattle.npos_runtime.proofs.StoryLemmas.{IsStory, story_blocks, story_accepted, plain_seated, plain_begun}
 
@@ -84,7 +83,7 @@ module _ (less more : ℕ → Call → Chain → ℕ) (each : (index : ℕ) (cal
   fewer_blocks chain (block ∷ rest) = omega (arith, fewer_calls 0 block.calls (before_calls chain), fewer_blocks (step chain block).state rest)
 
 pub taken_law : TakenLaw
-taken_law genesis blocks era who sound fit =
+taken_law genesis blocks era who history =
     fewer_blocks (taken_by era who) (due_by era who) (taken_call era who) (genesis_chain genesis) blocks
 
 -- ## One slash
@@ -145,22 +144,22 @@ taken_each (due ∷ more) chain live =
       slash_amount (row_at chain.book due.who) due.amount,
       slashed due.who due.amount chain.book,
       (slashes more next).lines,
-      taken_once due chain.book live.balanced,
+      taken_once due chain.book live.books.balanced,
       refl,
       taken_each more next (slashed_live due chain live),
     )
 
 -- the chain in the midst of a block is live
-live_at : (genesis : Genesis) (blocks : List Block) (calls : List Call) → genesis_fault genesis ≡ None → FitsBehind genesis blocks → IsLive (chain_at genesis blocks calls)
-live_at genesis blocks calls sound fit =
-    let chain : Chain = after_blocks (genesis_chain genesis) blocks in
-    live_calls 0 calls (before_calls chain) (live_before chain (live_blocks (genesis_chain genesis) blocks (live_begun genesis sound) fit))
+live_at : (chain : Chain) (blocks : List Block) (calls : List Call) → CanTake chain blocks → IsLive (chain_at chain blocks calls)
+live_at chain blocks calls can =
+    let last : Chain = after_blocks chain blocks in
+    live_calls 0 calls (before_calls last) (live_before last (live_blocks chain blocks can.between.live can.fit))
 
 pub slash_law : SlashLaw
 unfolding rule_of
-slash_law genesis blocks calls who era validator fraction sound fit free =
-    let chain : Chain = chain_at genesis blocks calls in
-    taken_each (slash_in chain.eras era validator fraction) chain (live_at genesis blocks calls sound fit)
+slash_law chain blocks calls can who era validator fraction free =
+    let now : Chain = chain_at chain blocks calls in
+    taken_each (slash_in now.eras era validator fraction) now (live_at chain blocks calls can)
 
 -- ## From the genesis on
 
@@ -175,13 +174,13 @@ nobody_twice = tt
 module _ (packed : PackedYesIsAccepting) (plain : PlainYesIsPassing) (fill : EveryFillPasses) where
   -- the story of a genesis with params
   full_story : (endowments : List Endowment) (params : Params) (blocks : List Block)
-      → genesis_fault (geneses.Full endowments params) ≡ None → FitsBehind (geneses.Full endowments params) blocks
+      → IsHistory (geneses.Full endowments params) blocks
       → IsStory params (after_blocks (genesis_chain (geneses.Full endowments params)) blocks) (seated_by (genesis_chain (geneses.Full endowments params)) blocks)
       (events_by (genesis_chain (geneses.Full endowments params)) blocks)
-  full_story endowments params blocks sound fit =
+  full_story endowments params blocks history =
       let first : Chain = genesis_chain (geneses.Full endowments params) in
-      let live : IsLive first = live_begun (geneses.Full endowments params) sound in
-      story_blocks params packed plain fill live.params first blocks [] [] live fit (record {
+      let live : IsLive first = live_begun (geneses.Full endowments params) history.faultless in
+      story_blocks params packed plain fill live.params first blocks [] [] live history.fit (record {
         between = record {
           params_are = refl;
           timely = tt;
@@ -210,42 +209,42 @@ module _ (packed : PackedYesIsAccepting) (plain : PlainYesIsPassing) (fill : Eve
       ∙ ap (after_all (events_by (step chain block).state more)) (eras_block chain block)
       ∙ eras_blocks (step chain block).state more
 
-  accepted_from : (genesis : Genesis) (blocks : List Block) → genesis_fault genesis ≡ None → FitsBehind genesis blocks → AreAccepted (events_by (genesis_chain genesis) blocks) first_era
-  accepted_from (geneses.Plain endowments) blocks sound fit = plain_accepted (genesis_chain (geneses.Plain endowments)) blocks refl
-  accepted_from (geneses.Full endowments params) blocks sound fit = (full_story endowments params blocks sound fit).accepted
+  accepted_from : (genesis : Genesis) (blocks : List Block) → IsHistory genesis blocks → AreAccepted (events_by (genesis_chain genesis) blocks) first_era
+  accepted_from (geneses.Plain endowments) blocks history = plain_accepted (genesis_chain (geneses.Plain endowments)) blocks refl
+  accepted_from (geneses.Full endowments params) blocks history = (full_story endowments params blocks history).accepted
 
   pub history_law : HistoryLaw
-  history_law genesis blocks sound fit = (accepted_from genesis blocks sound fit, eras_blocks (genesis_chain genesis) blocks)
+  history_law genesis blocks history = (accepted_from genesis blocks history, eras_blocks (genesis_chain genesis) blocks)
 
   pub once_law : OnceLaw
   unfolding IsDistinct
-  once_law (geneses.Plain endowments) blocks sound fit =
+  once_law (geneses.Plain endowments) blocks history =
       subst (λ (elections : List Election). IsDistinct same_round elections) (sym (plain_seated (genesis_chain (geneses.Plain endowments)) blocks refl)) tt
-  once_law (geneses.Full endowments params) blocks sound fit = (full_story endowments params blocks sound fit).between.once
+  once_law (geneses.Full endowments params) blocks history = (full_story endowments params blocks history).between.once
 
-  pub rewards_law : RewardLaw
-  rewards_law genesis blocks era sound fit =
+  pub rewards_law : PaidWithinRewardLaw
+  rewards_law genesis blocks era history =
       let params : Option Params = params_of genesis in
       let sum : paid_in era genesis blocks ≡ given_by (pays era (era_reward_of params)) (events_by (genesis_chain genesis) blocks) first_era =
       sum_blocks params (paid_by era) (pays era (era_reward_of params)) (paid_call era params) (λ exposures eras. refl)
       (genesis_chain genesis) blocks refl in
-      omega (arith, sum, reward_law era (era_reward_of params) (events_by (genesis_chain genesis) blocks) (accepted_from genesis blocks sound fit))
+      omega (arith, sum, reward_law era (era_reward_of params) (events_by (genesis_chain genesis) blocks) (accepted_from genesis blocks history))
 
-  covered_from : (genesis : Genesis) (blocks : List Block) (era : ℕ) (who : AccountId) → genesis_fault genesis ≡ None → FitsBehind genesis blocks
+  covered_from : (genesis : Genesis) (blocks : List Block) (era : ℕ) (who : AccountId) → IsHistory genesis blocks
       → exposed_for who (exposures_of era (events_by (genesis_chain genesis) blocks)) ≤ stake_behind who (elected_for era (seated_by (genesis_chain genesis) blocks))
-  covered_from (geneses.Plain endowments) blocks era who sound fit =
+  covered_from (geneses.Plain endowments) blocks era who history =
       let none : exposed_for who (exposures_of era (events_by (genesis_chain (geneses.Plain endowments)) blocks)) ≡ 0 =
       ap (λ (es : List (List Exposure)). exposed_for who (unwrap_or (slice_get ([] ∷ es) era) [])) (plain_begun (genesis_chain (geneses.Plain endowments)) blocks refl) ∙ no_exposure who era in
       omega (arith, none)
-  covered_from (geneses.Full endowments params) blocks era who sound fit = (full_story endowments params blocks sound fit).covered who era
+  covered_from (geneses.Full endowments params) blocks era who history = (full_story endowments params blocks history).covered who era
 
-  pub dues_law : DueLaw
-  dues_law genesis blocks era who sound fit =
+  pub dues_law : DueWithinStakeLaw
+  dues_law genesis blocks era who history =
       let events : List Event = events_by (genesis_chain genesis) blocks in
       let sum : due_in era who genesis blocks ≡ given_by (makes_due era who) events first_era =
       sum_blocks (params_of genesis) (due_by era who) (makes_due era who) (λ index call chain is. refl) (λ exposures eras. refl)
       (genesis_chain genesis) blocks refl in
-      omega (arith, sum, due_law era who events (accepted_from genesis blocks sound fit), covered_from genesis blocks era who sound fit)
+      omega (arith, sum, due_law era who events (accepted_from genesis blocks history), covered_from genesis blocks era who history)
 
   -- ## One payout
 
@@ -253,32 +252,25 @@ module _ (packed : PackedYesIsAccepting) (plain : PlainYesIsPassing) (fill : Eve
   abbrev cut : List Call → Block
   cut calls = record { number = 0; calls = calls }
 
-  accepted_block_from : (genesis : Genesis) (blocks : List Block) (calls : List Call) → genesis_fault genesis ≡ None → FitsBehind genesis blocks
+  accepted_block_from : (genesis : Genesis) (blocks : List Block) (calls : List Call) → IsHistory genesis blocks
       → AreAccepted (events_by (genesis_chain genesis) blocks ++ events_in (after_blocks (genesis_chain genesis) blocks) (cut calls)) first_era
-  accepted_block_from (geneses.Plain endowments) blocks calls sound fit =
+  accepted_block_from (geneses.Plain endowments) blocks calls history =
       let first : Chain = genesis_chain (geneses.Plain endowments) in
-      accepted_append (events_by first blocks) (events_in (after_blocks first blocks) (cut calls)) first_era (accepted_from (geneses.Plain endowments) blocks sound fit)
-      (subst (AreAccepted (events_in (after_blocks first blocks) (cut calls))) (sym (eras_blocks first blocks)) (accepted_plain (after_blocks first blocks) (cut calls) (plain_params first blocks refl))) where
-        plain_params : (chain : Chain) (more : List Block) → chain.params ≡ None → (after_blocks chain more).params ≡ None
-        plain_params chain [] none = none
-        plain_params chain (block ∷ more) none = plain_params (step chain block).state more (params_step chain block ∙ none)
-  accepted_block_from (geneses.Full endowments params) blocks calls sound fit =
+      accepted_append (events_by first blocks) (events_in (after_blocks first blocks) (cut calls)) first_era (accepted_from (geneses.Plain endowments) blocks history)
+      (subst (AreAccepted (events_in (after_blocks first blocks) (cut calls))) (sym (eras_blocks first blocks)) (accepted_plain (after_blocks first blocks) (cut calls) (params_blocks first blocks)))
+  accepted_block_from (geneses.Full endowments params) blocks calls history =
       let first : Chain = genesis_chain (geneses.Full endowments params) in
-      let live : IsLive first = live_begun (geneses.Full endowments params) sound in
-      story_accepted params packed plain fill live.params (after_blocks first blocks) (cut calls) (seated_by first blocks) (events_by first blocks) (live_blocks first blocks live fit)
-      (full_story endowments params blocks sound fit)
-
-  params_blocks : (chain : Chain) (blocks : List Block) → (after_blocks chain blocks).params ≡ chain.params
-  params_blocks chain [] = refl
-  params_blocks chain (block ∷ more) = params_blocks (step chain block).state more ∙ params_step chain block
+      let live : IsLive first = live_begun (geneses.Full endowments params) history.faultless in
+      story_accepted params packed plain fill live.params (after_blocks first blocks) (cut calls) (seated_by first blocks) (events_by first blocks) (live_blocks first blocks live history.fit)
+      (full_story endowments params blocks history)
 
   minted_all : (lines_of : List Backer) (book : Ledger) → (all_minted lines_of book).minted ≡ book.minted + amount_sum lines_of
   minted_all [] book = omega arith
   minted_all (line ∷ more) book = omega (arith, minted_all more (minted_free line.who line.amount book), sum_by-cons (λ (l : Backer). l.amount) line more)
 
-  pub payout_law : PayoutLaw
+  pub payout_law : PaidAsToldLaw
   unfolding rule_of
-  payout_law genesis blocks calls who era validator sound fit free = record {
+  payout_law genesis blocks calls history who era validator free = record {
     told = told_payout chain era validator;
     minted = minted_all (payout_now chain era validator).lines chain.book
         ∙ ap (λ n. chain.book.minted + n) (sym (payout_sums chain.eras era validator (era_reward_of chain.params)));
@@ -291,10 +283,10 @@ module _ (packed : PackedYesIsAccepting) (plain : PlainYesIsPassing) (fill : Eve
     before = after_blocks (genesis_chain genesis) blocks
 
     chain : Chain
-    chain = chain_at genesis blocks calls
+    chain = chain_at (genesis_chain genesis) blocks calls
 
     reward : ℕ
-    reward = era_reward_of (chain_at genesis blocks calls).params
+    reward = era_reward_of (chain_at (genesis_chain genesis) blocks calls).params
 
     events : List Event
     events = events_by (genesis_chain genesis) blocks ++ events_in (after_blocks (genesis_chain genesis) blocks) (cut calls)
@@ -307,7 +299,7 @@ module _ (packed : PackedYesIsAccepting) (plain : PlainYesIsPassing) (fill : Eve
 
     accepted : AreAccepted (events ++ Paid era validator ∷ []) first_era
     accepted =
-        accepted_append events (Paid era validator ∷ []) first_era (accepted_block_from genesis blocks calls sound fit)
+        accepted_append events (Paid era validator ∷ []) first_era (accepted_block_from genesis blocks calls history)
         (subst (AreAccepted (Paid era validator ∷ [])) (sym eras_are) (payout_free chain era validator free, tt))
 
     itself : (n : ℕ) → cond (nat_eq era era) n 0 ≡ n

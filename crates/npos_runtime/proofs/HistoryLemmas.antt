@@ -15,12 +15,11 @@ use Rattle.npos_runtime.specs.Exposed.{exposed}
 use Rattle.chain_params.specs.Rules.{begun_era}
 use Rattle.npos_runtime.specs.CallRule.{CallRule}
 use Rattle.npos_runtime.specs.Calls.{rule_for}
-use Rattle.npos_runtime.specs.Step.{eras_after, call_after, call_outcome, calls_outcome, step}
-use Rattle.npos_runtime.specs.Offers.{before_calls}
+use Rattle.npos_runtime.specs.Step.{before_calls, eras_after, call_after, call_outcome, calls_outcome, step}
 use Rattle.npos_runtime.specs.EraLaws.{started_by, event_of, events_at, events_of, events_in, events_by, over_calls, over_blocks}
 use Rattle.npos_runtime.proofs.RuleLemmas.{FollowsEvents}
 use Rattle.npos_runtime.proofs.CallTable.{lawful_call}
-use Rattle.npos_runtime.proofs.LiveLemmas.{eras_before, fixed_call, fixed_calls, params_before}
+use Rattle.npos_runtime.proofs.LiveLemmas.{eras_before, fixed_call, params_before, params_step}
 
 -- ## The events of calls
 
@@ -110,9 +109,6 @@ begun_block chain block =
       none_more : (es : List (List Exposure)) → es ++ [] ≡ es
       none_more [] = refl
       none_more (e ∷ es) = ap (λ (rest : List (List Exposure)). e ∷ rest) (none_more es)
-
-pub params_step : (chain : Chain) (block : Block) → (step chain block).state.params ≡ chain.params
-params_step chain block = (fixed_calls 0 block.calls (before_calls chain)).params ∙ params_before chain
 
 -- ## Sums over calls as sums over events
 

@@ -11,14 +11,14 @@ use Rattle.npos_runtime.specs.declared.chain.Chain.{Chain}
 use Rattle.npos_runtime.specs.Ballots.{active_of}
 use Rattle.npos_runtime.specs.Lists.{has_role, is_nominator_role, is_validator_role, placed}
 use Rattle.npos_runtime.specs.ListCalls.{role_refusal, nominate_rule, validate_rule, chill_rule, rebag_rule, put_in_front_rule}
-use Rattle.npos_runtime.specs.Live.{IsLive}
+use Rattle.npos_runtime.specs.Live.{IsLive, AreRoles}
 use Rattle.npos_runtime.proofs.ListLemmas.{kept_rebagged, kept_front, kept_placed}
-use Rattle.npos_runtime.proofs.RoleLemmas.{AreKept, apart_from, standing_with, standing_other, kept_nominated, kept_validating}
-use Rattle.npos_runtime.proofs.PartLemmas.{none_inside, second_none, listed_of, kept_of, with_lists, without_live}
+use Rattle.npos_runtime.proofs.RoleLemmas.{apart_from, standing_with, standing_other, kept_nominated, kept_validating}
+use Rattle.npos_runtime.proofs.PartLemmas.{none_inside, second_none, listed_of, with_lists, without_live}
 use Rattle.npos_runtime.proofs.RuleLemmas.{KeepsLive}
 
 -- an account takes a role, and keeps its place only if it had one
-placed_live : (chain : Chain) (who : AccountId) (standing : Standing) (stays : Bool) (score : ℕ) → IsLive chain → AreKept (with_standing chain.roles who standing)
+placed_live : (chain : Chain) (who : AccountId) (standing : Standing) (stays : Bool) (score : ℕ) → IsLive chain → AreRoles (with_standing chain.roles who standing)
     → (stays ≡ true → has_role chain.roles who ≡ true)
     → IsLive (record chain { roles = with_standing chain.roles who standing; bags = placed stays chain.bags who score })
 placed_live chain who standing stays score live kept had =
@@ -53,23 +53,27 @@ pub nominate_live : (chain : Chain) (who : AccountId) (targets : List AccountId)
 nominate_live chain who targets live free =
     let allowed = none_inside ByList (list_nominate_refusal chain.roles who targets) (second_none (option_map ByLedger (role_refusal chain who)) (option_map ByList (list_nominate_refusal chain.roles who targets)) free) in
     placed_live chain who (Nominator targets) (is_nominator_role (role_of chain.roles who)) (active_of chain who) live
-    (kept_nominated chain.roles who targets (kept_of chain live) allowed) (nominator_has (standing_of chain.roles who))
+    (kept_nominated chain.roles who targets live.roles allowed) (nominator_has (standing_of chain.roles who))
+
 
 pub validate_live : (chain : Chain) (who : AccountId) (commission : ℕ) → KeepsLive chain (validate_rule chain who commission)
 validate_live chain who commission live free =
     let allowed = none_inside ByList (list_validate_refusal chain.roles who commission) (second_none (option_map ByLedger (role_refusal chain who)) (option_map ByList (list_validate_refusal chain.roles who commission)) free) in
     placed_live chain who (Validator commission) (is_validator_role (role_of chain.roles who)) (active_of chain who) live
-    (kept_validating chain.roles who commission (kept_of chain live) allowed) (validator_has (standing_of chain.roles who))
+    (kept_validating chain.roles who commission live.roles allowed) (validator_has (standing_of chain.roles who))
+
 
 pub chill_live : (chain : Chain) (who : AccountId) → KeepsLive chain (chill_rule chain who)
 chill_live chain who live free = without_live chain who live
+
 
 pub rebag_live : (chain : Chain) (whom : AccountId) → KeepsLive chain (rebag_rule chain whom)
 rebag_live chain whom live free =
     with_lists chain chain.roles (moved chain.bags whom (active_of chain whom)) live
     (kept_rebagged (has_role chain.roles) chain.bags whom (listed_of chain live) (active_of chain whom)
     (rebag_listed chain.bags whom (active_of chain whom) (none_inside ByList (list_rebag_refusal chain.bags whom (active_of chain whom)) free)))
-    (kept_of chain live)
+    live.roles
+
 
 pub put_in_front_live : (chain : Chain) (who lighter : AccountId) → KeepsLive chain (put_in_front_rule chain who lighter)
 put_in_front_live chain who lighter live free =
@@ -77,4 +81,5 @@ put_in_front_live chain who lighter live free =
     (kept_front (has_role chain.roles) chain.bags who (listed_of chain live) lighter
     (front_listed chain.bags who (active_of chain who) lighter (active_of chain lighter)
     (none_inside ByList (list_put_in_front_refusal chain.bags who (active_of chain who) lighter (active_of chain lighter)) free)))
-    (kept_of chain live)
+    live.roles
+

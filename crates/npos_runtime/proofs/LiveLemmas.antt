@@ -1,5 +1,5 @@
 -- Calls, the phases of a block and blocks keep what holds of a chain.
-use Rattle.std.proofs.Common.{◌≡◌, ℕ, zero, suc, ◌/◌, ◌+◌, ◌≤◌, Bool, true, false, All, List, [], ◌∷◌, Option, Some, None, refl, sym, ◌∙◌, ap, arith, length, ◌-◌, ◌<◌, ◌^◌, if◌then◌else◌}
+use Rattle.std.proofs.Common.{◌≡◌, ℕ, zero, suc, ◌/◌, ◌+◌, ◌≤◌, All, List, [], ◌∷◌, Option, Some, None, refl, sym, ◌∙◌, ap, arith, length, ◌-◌, ◌<◌, ◌^◌}
 use Rattle.std.proofs.lemmas.Nat.{le-div}
 use Rattle.std.proofs.Math.Nat.{div-zero, div-mul-le_self}
 use Rattle.block_wire.specs.declared.call.Call.{Call}
@@ -7,28 +7,20 @@ use Rattle.block_wire.specs.declared.block.Block.{Block}
 use Rattle.block_wire.specs.declared.genesis.Params.{Params}
 use Rattle.stake_ledger.specs.declared.chunks.Chunk.{Chunk}
 use Rattle.stake_ledger.specs.Ledger.{row_at}
-use Rattle.election_snapshot.specs.Snapshot.{Snapshot}
 use Rattle.era_book.specs.Eras.{Eras}
 use Rattle.block_receipts.specs.declared.refusal.Refusal.{Refusal}
-use Rattle.chain_params.specs.Rules.{begun_round, era_of, begun_era, reward_of, is_decision}
+use Rattle.chain_params.specs.Rules.{era_of}
 use Rattle.npos_runtime.specs.declared.chain.Chain.{Chain}
-use Rattle.npos_runtime.specs.declared.round.Round.{Round}
-use Rattle.npos_runtime.specs.declared.round.Round.TheVariants as rounds
-use Rattle.npos_runtime.specs.Rounds.{round_phase, round_after}
-use Rattle.npos_runtime.specs.Deciding.{decided, decision_of, decision_phase}
-use Rattle.npos_runtime.specs.Outcome.{quiet}
 use Rattle.npos_runtime.specs.CallRule.{CallRule}
 use Rattle.npos_runtime.specs.BookCalls.{release_now}
 use Rattle.npos_runtime.specs.Calls.{rule_for}
-use Rattle.npos_runtime.specs.Offers.{before_calls}
-use Rattle.npos_runtime.specs.Step.{eras_after, waiting_after, era_phase, call_after, call_outcome, calls_outcome, closed, step, after_blocks}
-use Rattle.npos_runtime.specs.Live.{IsLive, IsSoundRound, IsNotedRound, IsNotedCommittee, AreNoted}
-use Rattle.npos_runtime.proofs.BookLemmas.{books_settled}
+use Rattle.npos_runtime.specs.Rounds.{round_phase}
+use Rattle.npos_runtime.specs.Step.{era_phase, phases, before_calls, call_after, call_outcome, calls_outcome, closed, step, after_blocks}
+use Rattle.npos_runtime.specs.Live.{IsLive}
 use Rattle.npos_runtime.proofs.EraLemmas.{era_begun}
-use Rattle.npos_runtime.proofs.ElectorateLemmas.{sound_round, noted_round}
-use Rattle.npos_runtime.proofs.PartLemmas.{books_of, with_phase}
 use Rattle.npos_runtime.proofs.RuleLemmas.{KeepsLive, IsFixed, fixed_itself, fixed_then}
 use Rattle.npos_runtime.proofs.CallTable.{lawful_call}
+use Rattle.npos_runtime.proofs.PhaseTable.{StaysDue, phases_keep, live_in_turn, due_in_turn, eras_decision}
 
 live_after : (due : Option Refusal) (index : ℕ) (rule : CallRule) (chain : Chain) → IsLive chain → rule.refusal ≡ due → KeepsLive chain rule
     → IsLive (call_after due index rule chain).state
@@ -74,125 +66,38 @@ released_later a b chunks later by = λ k d few. omega (arith, by k d few, later
 pub live_closed : (chain : Chain) → IsLive chain → chain.due < 2 ^ 32 → IsLive (closed chain).state
 live_closed chain live more = record {
   params = live.params;
-  due_at_least = omega arith;
-  due_at_most = omega (arith, more);
-  balanced = live.balanced;
-  releases = λ who. released_later (release_now chain) (release_now (closed chain).state) (row_at chain.book who).chunks
-      (omega (arith, later_release chain.params chain.due)) (live.releases who);
-  listing = live.listing;
+  due = record { at_least = omega arith; at_most = omega (arith, more) };
+  books = record {
+    balanced = live.books.balanced;
+    releases = λ who. released_later (release_now chain) (release_now (closed chain).state) (row_at chain.book who).chunks
+        (omega (arith, later_release chain.params chain.due)) (live.books.releases who);
+    deposits = live.books.deposits;
+  };
   roles = live.roles;
-  nominations = live.nominations;
-  commissions = live.commissions;
+  bags = live.bags;
   round = live.round;
-  noted = live.noted;
-  waiting = live.waiting;
   queue = live.queue;
-  deposits = live.deposits;
+  waiting = live.waiting;
 }
 
-pub live_era : (chain : Chain) → IsLive chain → IsLive (era_phase chain).state
-live_era chain live =
-    with_phase chain chain.round (waiting_after chain.waiting (begun_era chain.params chain.due)) (eras_after chain.eras chain.waiting (begun_era chain.params chain.due))
-    live live.round live.noted (at (begun_era chain.params chain.due)) where
-      at : (begun : Option ℕ) → IsNotedCommittee (waiting_after chain.waiting begun)
-      at None = live.waiting
-      at (Some era) = tt
-
-pub live_round : (chain : Chain) → IsLive chain → IsLive (round_phase chain).state
-live_round chain live =
-    with_phase chain (round_after chain (begun_round chain.params chain.due)) chain.waiting chain.eras live
-    (sound (begun_round chain.params chain.due)) (noted (begun_round chain.params chain.due)) live.waiting where
-      sound : (begun : Option ℕ) → IsSoundRound (round_after chain begun)
-      sound None = live.round
-      sound (Some number) = sound_round chain number live
-
-      noted : (begun : Option ℕ) → IsNotedRound (round_after chain begun)
-      noted None = live.noted
-      noted (Some number) = noted_round chain number live
-
--- a round is decided
-decided_live : (number : ℕ) (snapshot : Snapshot) (commissions : List ℕ) (chain : Chain) → IsLive chain → AreNoted snapshot.targets commissions
-    → IsLive (decided number snapshot commissions chain).state
-decided_live number snapshot commissions chain live noted =
-    let books = books_settled (release_now chain) (reward_of chain.params) snapshot chain.queue.items chain.book (books_of chain live) in
-    record {
-      params = live.params;
-      due_at_least = live.due_at_least;
-      due_at_most = live.due_at_most;
-      balanced = books.balanced;
-      releases = books.releases;
-      listing = live.listing;
-      roles = live.roles;
-      nominations = live.nominations;
-      commissions = live.commissions;
-      round = tt;
-      noted = tt;
-      waiting = noted;
-      queue = record { some = live.queue.some; most = live.queue.most; fits = omega arith; by_rank = tt };
-      deposits = books.deposits;
-    }
-
-pub decision_of_live : (round : Option Round) (chain : Chain) → IsLive chain → IsNotedRound round → IsLive (decision_of round chain).state
-decision_of_live None chain live noted = live
-decision_of_live (Some (rounds.Void number)) chain live noted = live
-decision_of_live (Some (rounds.Open number snapshot commissions)) chain live noted = decided_live number snapshot commissions chain live noted
-
-pub live_decision : (chain : Chain) → IsLive chain → IsLive (decision_phase chain).state
-live_decision chain live = at (is_decision chain.params chain.due) where
-  at : (b : Bool) → IsLive (if b then decision_of chain.round chain else quiet chain).state
-  at true = decision_of_live chain.round chain live live.noted
-  at false = live
-
--- the decision changes neither which block is due nor the next number, nor the eras
-same_of : (round : Option Round) (chain : Chain) → ((decision_of round chain).state.due ≡ chain.due) × ((decision_of round chain).state.next ≡ chain.next)
-same_of None chain = (refl, refl)
-same_of (Some (rounds.Void number)) chain = (refl, refl)
-same_of (Some (rounds.Open number snapshot commissions)) chain = (refl, refl)
-
-eras_of : (round : Option Round) (chain : Chain) → (decision_of round chain).state.eras ≡ chain.eras
-eras_of None chain = refl
-eras_of (Some (rounds.Void number)) chain = refl
-eras_of (Some (rounds.Open number snapshot commissions)) chain = refl
-
-pub eras_decision : (chain : Chain) → (decision_phase chain).state.eras ≡ chain.eras
-eras_decision chain = at (is_decision chain.params chain.due) where
-  at : (b : Bool) → (if b then decision_of chain.round chain else quiet chain).state.eras ≡ chain.eras
-  at true = eras_of chain.round chain
-  at false = refl
-
-pub same_decision : (chain : Chain) → ((decision_phase chain).state.due ≡ chain.due) × ((decision_phase chain).state.next ≡ chain.next)
-same_decision chain = at (is_decision chain.params chain.due) where
-  at : (b : Bool) → ((if b then decision_of chain.round chain else quiet chain).state.due ≡ chain.due)
-      × ((if b then decision_of chain.round chain else quiet chain).state.next ≡ chain.next)
-  at true = same_of chain.round chain
-  at false = (refl, refl)
-
 pub live_before : (chain : Chain) → IsLive chain → IsLive (before_calls chain)
-live_before chain live = live_decision (round_phase (era_phase chain).state).state (live_round (era_phase chain).state (live_era chain live))
+live_before chain live = live_in_turn phases phases_keep chain live
+
+pub stays_before : (chain : Chain) → StaysDue chain (before_calls chain)
+stays_before chain = due_in_turn phases phases_keep chain
 
 pub due_before : (chain : Chain) → (before_calls chain).due ≡ chain.due
-due_before chain = (same_decision (round_phase (era_phase chain).state).state).0
-
-params_decided : (round : Option Round) (chain : Chain) → (decision_of round chain).state.params ≡ chain.params
-params_decided None chain = refl
-params_decided (Some (rounds.Void number)) chain = refl
-params_decided (Some (rounds.Open number snapshot commissions)) chain = refl
-
-pub params_decision : (chain : Chain) → (decision_phase chain).state.params ≡ chain.params
-params_decision chain = at (is_decision chain.params chain.due) where
-  at : (b : Bool) → (if b then decision_of chain.round chain else quiet chain).state.params ≡ chain.params
-  at true = params_decided chain.round chain
-  at false = refl
+due_before chain = (stays_before chain).due
 
 pub params_before : (chain : Chain) → (before_calls chain).params ≡ chain.params
-params_before chain = params_decision (round_phase (era_phase chain).state).state
+params_before chain = (stays_before chain).params
+
+pub next_before : (chain : Chain) → (before_calls chain).next ≡ chain.next
+next_before chain = (stays_before chain).next
 
 -- the calls of a block find the eras as they are once one may have begun
 pub eras_before : (chain : Chain) → (before_calls chain).eras ≡ (era_phase chain).state.eras
 eras_before chain = eras_decision (round_phase (era_phase chain).state).state
-
-pub next_before : (chain : Chain) → (before_calls chain).next ≡ chain.next
-next_before chain = (same_decision (round_phase (era_phase chain).state).state).1
 
 -- the step of a block keeps the chain live
 pub live_step : (chain : Chain) (block : Block) → IsLive chain → chain.due < 2 ^ 32 → IsLive (step chain block).state
@@ -212,7 +117,7 @@ era_step chain block live is =
     let params = fixed.params ∙ params_before chain in
     fixed.era
     ∙ (ap (λ (eras : Eras). eras.current) (eras_before chain)
-    ∙ (era_begun chain.eras chain.waiting chain.params chain.due live.params live.due_at_least is
+    ∙ (era_begun chain.eras chain.waiting chain.params chain.due live.params live.due.at_least is
     ∙ (λ i. era_of (sym params i) (sym back i))))
 
 -- a call takes at most one number
@@ -233,3 +138,10 @@ pub live_blocks : (chain : Chain) (blocks : List Block) → IsLive chain → cha
 live_blocks chain [] live fit = live
 live_blocks chain (block ∷ more) live fit =
     live_blocks (step chain block).state more (live_step chain block live (omega (arith, fit))) (omega (arith, fit, due_step chain block))
+
+pub params_step : (chain : Chain) (block : Block) → (step chain block).state.params ≡ chain.params
+params_step chain block = (fixed_calls 0 block.calls (before_calls chain)).params ∙ params_before chain
+
+pub params_blocks : (chain : Chain) (blocks : List Block) → (after_blocks chain blocks).params ≡ chain.params
+params_blocks chain [] = refl
+params_blocks chain (block ∷ more) = params_blocks (step chain block).state more ∙ params_step chain block

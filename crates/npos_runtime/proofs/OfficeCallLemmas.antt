@@ -1,5 +1,5 @@
 -- Points, payouts and offences: their rules are lawful.
-use Rattle.std.proofs.Common.{◌≡◌, inl, ℕ, ◌+◌, ◌≤◌, Bool, true, false, cond, not, nat_lt, nat_eq, ◌==◌, List, [], ◌∷◌, map, sum_by, Option, Some, None, option_map, refl, sym, ◌∙◌, ap, subst, arith, if◌then◌else◌}
+use Rattle.std.proofs.Common.{◌≡◌, inl, ℕ, zero, ◌+◌, ◌≤◌, Bool, true, false, cond, not, nat_lt, nat_eq, ◌==◌, List, [], ◌∷◌, ◌++◌, map, sum_by, Option, Some, None, option_map, refl, sym, ◌∙◌, ap, subst, arith, if◌then◌else◌}
 use Rattle.std.proofs.lemmas.Bool.{ltb-false}
 use Rattle.std.proofs.lemmas.List.Sums.{sum_by-append, sum_by-cons}
 use Rattle.npos_base.specs.declared.account.AccountId.{AccountId}
@@ -25,7 +25,7 @@ use Rattle.npos_runtime.specs.Fates.{settles, fate}
 use Rattle.npos_runtime.specs.EraLaws.{amount_paid, told_paid, amount_taken, told_taken}
 use Rattle.npos_runtime.proofs.BookLemmas.{books_slashed, all_books_minted}
 use Rattle.npos_runtime.proofs.OfficeLemmas.{payout_sums}
-use Rattle.npos_runtime.proofs.PartLemmas.{none_inside, first_none, second_none, retired_live, books_of, with_books, with_eras}
+use Rattle.npos_runtime.proofs.PartLemmas.{none_inside, first_none, second_none, retired_live, with_books, with_eras}
 use Rattle.npos_runtime.proofs.RuleLemmas.{KeepsLive, IsLawful}
 
 -- ## The chain stays live
@@ -33,7 +33,7 @@ use Rattle.npos_runtime.proofs.RuleLemmas.{KeepsLive, IsLawful}
 pub slashed_live : (due : Backer) (chain : Chain) → IsLive chain → IsLive (slashed_once due chain)
 slashed_live due chain live =
     retired_live (record chain { book = slashed due.who due.amount chain.book }) due.who
-    (with_books chain (slashed due.who due.amount chain.book) live (books_slashed (release_now chain) chain.book due.who due.amount chain.queue.items (books_of chain live)))
+    (with_books chain (slashed due.who due.amount chain.book) live (books_slashed (release_now chain) chain.book due.who due.amount chain.queue.items live.books))
 
 pub slashes_live : (dues : List Backer) (chain : Chain) → IsLive chain → IsLive (slashes dues chain).state
 slashes_live [] chain live = live
@@ -80,7 +80,7 @@ points_live chain who items live free = with_eras chain (pointed items chain.era
 pub payout_live : (chain : Chain) (era : ℕ) (validator : AccountId) → KeepsLive chain (payout_rule chain era validator)
 payout_live chain era validator live free =
     let lines : List Backer = (payout_now chain era validator).lines in
-    let books = all_books_minted (release_now chain) lines chain.queue.items chain.book (payout_fits chain era validator free) (books_of chain live) in
+    let books = all_books_minted (release_now chain) lines chain.queue.items chain.book (payout_fits chain era validator free) live.books in
     with_eras (record chain { book = all_minted lines chain.book }) (claimed era validator chain.eras) (with_books chain (all_minted lines chain.book) live books)
 
 pub offence_live : (chain : Chain) (who : AccountId) (era : ℕ) (validator : AccountId) (fraction : ℕ) → KeepsLive chain (offence_rule chain who era validator fraction)
@@ -210,11 +210,8 @@ offence_lawful chain who era validator fraction = record {
   next = omega arith;
   queue = inl (record { queue = refl; next = refl; settled = λ number. slashes_settle number dues chain; offered = refl });
   eras = record {
-    accepted = λ free. (
-      none_inside ByEra (slash_refusal chain.eras era validator fraction)
-          (by_root (is_root chain who) (option_map ByEra (slash_refusal chain.eras era validator fraction)) free),
-      tt,
-    );
+    accepted = λ free. (none_inside ByEra (slash_refusal chain.eras era validator fraction)
+        (by_root (is_root chain who) (option_map ByEra (slash_refusal chain.eras era validator fraction)) free), tt);
     eras = refl;
     begins = refl;
     paid = λ other index. refl;

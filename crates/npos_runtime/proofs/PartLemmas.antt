@@ -1,5 +1,5 @@
 -- The parts of a chain: some change, and the others stay.
-use Rattle.std.proofs.Common.{◌≡◌, ◌≢◌, ◌⊎◌, inl, inr, ◌≤◌, Bool, true, false, All, List, Option, Some, None, option_map, refl, sym, ap, subst, is_some, if◌then◌else◌}
+use Rattle.std.proofs.Common.{◌≡◌, ◌≢◌, ◌⊎◌, inl, inr, ℕ, ◌+◌, Bool, true, false, List, Option, Some, None, option_map, refl, sym, ap, subst, is_some, if◌then◌else◌}
 use Rattle.std.specs.Option.{unwrap_or, option_or}
 use Rattle.std.proofs.lemmas.Bool.Decides.{eqb_tells}
 use Rattle.npos_base.specs.declared.account.AccountId.{AccountId}
@@ -7,21 +7,20 @@ use Rattle.npos_base.specs.Account.{same_account}
 use Rattle.stake_ledger.specs.declared.chunks.Chunk.{Chunk}
 use Rattle.stake_ledger.specs.declared.row.Row.{Row}
 use Rattle.stake_ledger.specs.Rows.{empty_row}
-use Rattle.stake_ledger.specs.Ledger.{Ledger, row_at, changed, IsBalanced}
+use Rattle.stake_ledger.specs.Ledger.{Ledger, row_at, changed}
 use Rattle.stake_ledger.proofs.LedgerLemmas.{row_of-changed, others_stay}
 use Rattle.voter_lists.specs.Roles.{RoleList, without_role}
 use Rattle.voter_lists.specs.Bags.{Listing, removed}
+use Rattle.submission_queue.specs.Ranking.{IsOrdered}
 use Rattle.era_book.specs.Eras.{Eras}
-use Rattle.round_decision.specs.Deposits.{AreHeld}
 use Rattle.npos_runtime.specs.declared.chain.Chain.{Chain}
-use Rattle.npos_runtime.specs.declared.round.Round.{Round}
-use Rattle.npos_runtime.specs.Committee.{Committee}
 use Rattle.npos_runtime.specs.Lists.{has_role, followed, with_stake, is_over, retired}
 use Rattle.npos_runtime.specs.BookCalls.{release_now}
-use Rattle.npos_runtime.specs.Live.{IsLive, IsSoundRound, IsNotedRound, IsNotedCommittee}
-use Rattle.npos_runtime.proofs.BookLemmas.{AreBooks}
+use Rattle.chain_params.specs.Faults.{AreSound}
+use Rattle.chain_params.specs.Rules.{era_of, bonding_eras_of}
+use Rattle.npos_runtime.specs.Live.{IsLive, AreBooks, AreRoles, IsListing, IsSoundRound, IsNotedCommittee, CanBeDue}
 use Rattle.npos_runtime.proofs.ListLemmas.{IsListed, listed_from, listing_from, kept_followed, kept_removed}
-use Rattle.npos_runtime.proofs.RoleLemmas.{AreKept, apart_from, standing_without, standing_without_other, kept_without}
+use Rattle.npos_runtime.proofs.RoleLemmas.{apart_from, standing_without, standing_without_other, kept_without}
 
 -- two accounts are one, or they are not
 pub same_or_not : (a b : AccountId) → (a ≡ b) ⊎ (a ≢ b)
@@ -56,112 +55,59 @@ pub second_none : {A : Type 0} (a b : Option A) → option_or a b ≡ None → b
 second_none None b e = e
 second_none (Some r) b e = cc
 
--- a chain with other books, roles and bags that keep what it needs
-pub with_parts : (chain : Chain) (book : Ledger) (roles : RoleList) (bags : Listing) → IsLive chain → AreBooks (release_now chain) chain.queue.items book
-    → IsListed (has_role roles) bags → AreKept roles → IsLive (record chain { book = book; roles = roles; bags = bags })
-with_parts chain book roles bags live books listed kept = record {
-  params = live.params;
-  due_at_least = live.due_at_least;
-  due_at_most = live.due_at_most;
-  balanced = books.balanced;
-  releases = books.releases;
-  listing = listing_from roles bags listed;
-  roles = kept.ranked;
-  nominations = kept.nominations;
-  commissions = kept.commissions;
-  round = live.round;
-  noted = live.noted;
-  waiting = live.waiting;
-  queue = live.queue;
-  deposits = books.deposits;
+-- The one place where a live chain is put together anew: each part that changed keeps what it must.
+pub live_with : {chain new : Chain} → new.params ≡ chain.params → new.due ≡ chain.due → IsLive chain → AreBooks (release_now chain) new.queue.items new.book
+    → AreRoles new.roles → IsListing new.roles new.bags → IsSoundRound new.round → IsOrdered new.queue → IsNotedCommittee new.waiting → IsLive new
+live_with {chain = chain} {new = new} params due live books roles bags round queue waiting = record {
+  params = subst AreSound (sym params) live.params;
+  due = subst CanBeDue (sym due) live.due;
+  books = subst (λ release. AreBooks release new.queue.items new.book) (λ i. era_of (sym params i) (sym due i) + bonding_eras_of (sym params i)) books;
+  roles = roles;
+  bags = bags;
+  round = round;
+  queue = queue;
+  waiting = waiting;
 }
 
-pub books_of : (chain : Chain) → IsLive chain → AreBooks (release_now chain) chain.queue.items chain.book
-books_of chain live = record { balanced = live.balanced; releases = live.releases; deposits = live.deposits }
-
 pub listed_of : (chain : Chain) → IsLive chain → IsListed (has_role chain.roles) chain.bags
-listed_of chain live = listed_from chain.roles chain.bags live.listing
+listed_of chain live = listed_from chain.roles chain.bags live.bags
 
-pub kept_of : (chain : Chain) → IsLive chain → AreKept chain.roles
-kept_of chain live = record { ranked = live.roles; nominations = live.nominations; commissions = live.commissions }
-
--- the chain with other books that keep what it needs
-pub with_book : (chain : Chain) (book : Ledger) → IsLive chain → IsBalanced book
-    → ((who : AccountId) → All (λ chunk. chunk.release ≤ release_now chain) (row_at book who).chunks) → AreHeld book chain.queue.items
-    → IsLive (record chain { book = book })
-with_book chain book live balanced releases held =
-    with_parts chain book chain.roles chain.bags live (record { balanced = balanced; releases = releases; deposits = held }) (listed_of chain live) (kept_of chain live)
+-- other books
+pub with_books : (chain : Chain) (book : Ledger) → IsLive chain → AreBooks (release_now chain) chain.queue.items book → IsLive (record chain { book = book })
+with_books chain book live books = live_with refl refl live books live.roles live.bags live.round live.queue live.waiting
 
 -- and the place of the account follows
-pub with_followed : (chain : Chain) (who : AccountId) (book : Ledger) → IsLive chain → IsBalanced book
-    → ((who : AccountId) → All (λ chunk. chunk.release ≤ release_now chain) (row_at book who).chunks) → AreHeld book chain.queue.items
+pub with_followed : (chain : Chain) (who : AccountId) (book : Ledger) → IsLive chain → AreBooks (release_now chain) chain.queue.items book
     → IsLive (with_stake chain who book)
-with_followed chain who book live balanced releases held =
-    with_parts chain book chain.roles (followed chain.bags who (row_at book who).active) live (record { balanced = balanced; releases = releases; deposits = held })
-    (kept_followed (has_role chain.roles) chain.bags who (listed_of chain live) (row_at book who).active) (kept_of chain live)
+with_followed chain who book live books =
+    live_with refl refl live books live.roles
+    (listing_from chain.roles (followed chain.bags who (row_at book who).active)
+    (kept_followed (has_role chain.roles) chain.bags who (listed_of chain live) (row_at book who).active))
+    live.round live.queue live.waiting
 
 -- other roles and bags
-pub with_lists : (chain : Chain) (roles : RoleList) (bags : Listing) → IsLive chain → IsListed (has_role roles) bags → AreKept roles
+pub with_lists : (chain : Chain) (roles : RoleList) (bags : Listing) → IsLive chain → IsListed (has_role roles) bags → AreRoles roles
     → IsLive (record chain { roles = roles; bags = bags })
-with_lists chain roles bags live listed kept = with_parts chain chain.book roles bags live (books_of chain live) listed kept
+with_lists chain roles bags live listed kept = live_with refl refl live live.books kept (listing_from roles bags listed) live.round live.queue live.waiting
 
-pub has_without : (chain : Chain) (who : AccountId) → IsLive chain → has_role (without_role chain.roles who) who ≡ false
-has_without chain who live = ap is_some (standing_without who chain.roles live.roles.rising)
+-- other eras
+pub with_eras : (chain : Chain) (eras : Eras) → IsLive chain → IsLive (record chain { eras = eras })
+with_eras chain eras live = live_with refl refl live live.books live.roles live.bags live.round live.queue live.waiting
 
-pub others_without : (chain : Chain) (who : AccountId) (q : AccountId) → same_account who q ≡ false → has_role (without_role chain.roles who) q ≡ has_role chain.roles q
+has_without : (chain : Chain) (who : AccountId) → IsLive chain → has_role (without_role chain.roles who) who ≡ false
+has_without chain who live = ap is_some (standing_without who chain.roles live.roles.ranked.rising)
+
+others_without : (chain : Chain) (who : AccountId) (q : AccountId) → same_account who q ≡ false → has_role (without_role chain.roles who) q ≡ has_role chain.roles q
 others_without chain who q apart = ap is_some (standing_without_other who q chain.roles (apart_from who q apart))
 
 pub without_live : (chain : Chain) (who : AccountId) → IsLive chain → IsLive (record chain { roles = without_role chain.roles who; bags = removed chain.bags who })
 without_live chain who live =
     with_lists chain (without_role chain.roles who) (removed chain.bags who) live
     (kept_removed (has_role chain.roles) (has_role (without_role chain.roles who)) chain.bags who (listed_of chain live) (others_without chain who) (has_without chain who live))
-    (kept_without chain.roles who (kept_of chain live))
+    (kept_without chain.roles who live.roles)
 
 pub retired_live : (chain : Chain) (who : AccountId) → IsLive chain → IsLive (retired who chain)
 retired_live chain who live = at (is_over chain who) where
   at : (b : Bool) → IsLive (record chain { roles = if b then without_role chain.roles who else chain.roles; bags = if b then removed chain.bags who else chain.bags })
   at true = without_live chain who live
   at false = live
-
--- other books, with nothing else changed
-pub with_books : (chain : Chain) (book : Ledger) → IsLive chain → AreBooks (release_now chain) chain.queue.items book → IsLive (record chain { book = book })
-with_books chain book live books = with_parts chain book chain.roles chain.bags live books (listed_of chain live) (kept_of chain live)
-
--- other eras
-pub with_eras : (chain : Chain) (eras : Eras) → IsLive chain → IsLive (record chain { eras = eras })
-with_eras chain eras live = record {
-  params = live.params;
-  due_at_least = live.due_at_least;
-  due_at_most = live.due_at_most;
-  balanced = live.balanced;
-  releases = live.releases;
-  listing = live.listing;
-  roles = live.roles;
-  nominations = live.nominations;
-  commissions = live.commissions;
-  round = live.round;
-  noted = live.noted;
-  waiting = live.waiting;
-  queue = live.queue;
-  deposits = live.deposits;
-}
-
--- another round, another committee that waits, and other eras
-pub with_phase : (chain : Chain) (round : Option Round) (waiting : Option Committee) (eras : Eras) → IsLive chain → IsSoundRound round → IsNotedRound round
-    → IsNotedCommittee waiting → IsLive (record chain { round = round; waiting = waiting; eras = eras })
-with_phase chain round waiting eras live sound noted waits = record {
-  params = live.params;
-  due_at_least = live.due_at_least;
-  due_at_most = live.due_at_most;
-  balanced = live.balanced;
-  releases = live.releases;
-  listing = live.listing;
-  roles = live.roles;
-  nominations = live.nominations;
-  commissions = live.commissions;
-  round = sound;
-  noted = noted;
-  waiting = waits;
-  queue = live.queue;
-  deposits = live.deposits;
-}

@@ -26,15 +26,15 @@ use Rattle.round_decision.specs.Decision.{others, decided_weights}
 use Rattle.npos_runtime.specs.Deciding.{committee_of, decision_of, decision_phase}
 use Rattle.npos_runtime.specs.Exposed.{exposed}
 use Rattle.npos_runtime.specs.Outcome.{Election, Outcome, quiet}
-use Rattle.npos_runtime.specs.Step.{waiting_after, eras_after, era_phase, calls_outcome, closed, step}
+use Rattle.npos_runtime.specs.Step.{before_calls, waiting_after, eras_after, era_phase, calls_outcome, closed, step}
 use Rattle.chain_params.specs.Faults.{params_fault}
 use Rattle.npos_runtime.specs.Live.{IsLive, IsSoundRound, IsNotedCommittee}
-use Rattle.npos_runtime.specs.Offers.{before_calls}
 use Rattle.npos_runtime.specs.EraLaws.{elected_for, stake_in, stake_behind}
 use Rattle.chain_params.proofs.PhaseLemmas.{next_place, phases_sound}
 use Rattle.npos_runtime.proofs.EraLemmas.{era_begun}
 use Rattle.npos_runtime.proofs.ElectedLemmas.{IsGiven, follows_rising, exposures_sound, exposures_within, nobody_sound}
-use Rattle.npos_runtime.proofs.LiveLemmas.{live_era, live_round, fixed_calls, due_calls, due_before}
+use Rattle.npos_runtime.proofs.PhaseTable.{live_era, live_round}
+use Rattle.npos_runtime.proofs.LiveLemmas.{fixed_calls, due_calls, due_before}
 use Rattle.npos_runtime.proofs.LawLemmas.{undecided, seats_step}
 use Rattle.round_decision.proofs.VerdictLemmas.{decided_passes}
 
@@ -214,7 +214,7 @@ module _ (params : Params) where
             found_it = ap (λ n. elected_for (n + 1) (seated ++ election ∷ [])) current ∙ found_last (era chain.due) seated election past numbered
 
             well_formed : IsWellFormed snapshot
-            well_formed = subst IsSoundRound is sound
+            well_formed = (subst IsSoundRound is sound).0
 
             given : IsGiven committee
             given =
@@ -301,9 +301,9 @@ module _ (params : Params) where
         let before : Chain = undecided chain in
         let live_before : IsLive before = live_round (era_phase chain).state (live_era chain live) in
         let begun : before.eras.current ≡ era before.due =
-        era_begun chain.eras chain.waiting chain.params chain.due live.params live.due_at_least current ∙ ap (λ (ps : Option Params). era_of ps chain.due) h.params_are in
+        era_begun chain.eras chain.waiting chain.params chain.due live.params live.due.at_least current ∙ ap (λ (ps : Option Params). era_of ps chain.due) h.params_are in
         let decided = decides_it before seated (begins (era_phase chain).state seated (starts chain seated h)) live_before.round begun in
         subst (λ (elections : List Election). IsBetween (step chain block).state (seated ++ elections)) (sym (seats_step chain block))
         (closes (calls_outcome 0 block.calls start).state (seated ++ (decision_phase before).seated) sound
-        (omega (arith, due_calls 0 block.calls start, due_before chain, live.due_at_least))
+        (omega (arith, due_calls 0 block.calls start, due_before chain, live.due.at_least))
         (called block.calls start (seated ++ (decision_phase before).seated) decided))

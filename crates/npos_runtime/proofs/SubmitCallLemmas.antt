@@ -16,7 +16,7 @@ use Rattle.npos_runtime.specs.Signed.{form_refusal, offer_refusal, submission_of
 use Rattle.npos_runtime.specs.Live.{IsLive}
 use Rattle.npos_runtime.proofs.OfferLemmas.{taken}
 use Rattle.npos_runtime.proofs.BookLemmas.{books_held, books_moved, all_books_returned}
-use Rattle.npos_runtime.proofs.PartLemmas.{second_none, books_of}
+use Rattle.npos_runtime.proofs.PartLemmas.{second_none, live_with}
 use Rattle.npos_runtime.proofs.RuleLemmas.{IsLawful, no_events}
 
 pub offer_free : (chain : Chain) (item : Submission) → offer_refusal chain item ≡ None
@@ -34,26 +34,11 @@ submitted_live : (chain : Chain) (item : Submission) → IsLive chain → offer_
 submitted_live chain item live none =
     let free = offer_free chain item none in
     let is = taken chain.queue item live.queue free.1 in
-    let held = books_held (release_now chain) chain.book item chain.queue.items free.0 (books_of chain live) in
+    let held = books_held (release_now chain) chain.book item chain.queue.items free.0 live.books in
     let books = all_books_returned (release_now chain) (ejected chain.queue item) (offered chain.queue item).items (deposit_held item.who item.deposit chain.book)
     (books_moved (release_now chain) (deposit_held item.who item.deposit chain.book) (item ∷ chain.queue.items)
     (ejected chain.queue item ++ (offered chain.queue item).items) is.moved held) in
-    record {
-      params = live.params;
-      due_at_least = live.due_at_least;
-      due_at_most = live.due_at_most;
-      balanced = books.balanced;
-      releases = books.releases;
-      listing = live.listing;
-      roles = live.roles;
-      nominations = live.nominations;
-      commissions = live.commissions;
-      round = live.round;
-      noted = live.noted;
-      waiting = live.waiting;
-      queue = is.ordered;
-      deposits = books.deposits;
-    }
+    live_with refl refl live books live.roles live.bags live.round is.ordered live.waiting
 
 pub submit_lawful : (chain : Chain) (who : AccountId) (round : ℕ) (claim : Score) (bytes : List ℕ) → IsLawful chain who (submit_rule chain who round claim bytes)
 submit_lawful chain who round claim bytes = record {

@@ -24,13 +24,12 @@ use Rattle.npos_runtime.specs.Committee.{Committee}
 use Rattle.npos_runtime.specs.Exposed.{exposed}
 use Rattle.chain_params.specs.Rules.{begun_era, era_reward_of}
 use Rattle.npos_runtime.specs.Outcome.{Election}
-use Rattle.npos_runtime.specs.Genesis.{genesis_fault, genesis_chain, params_of}
+use Rattle.npos_runtime.specs.Genesis.{genesis_chain, params_of}
 use Rattle.npos_runtime.specs.CallRule.{CallRule}
 use Rattle.npos_runtime.specs.Calls.{rule_for, refusal_of, done_of, told_of}
 use Rattle.npos_runtime.specs.Offices.{payout_now, slash_told}
-use Rattle.npos_runtime.specs.Step.{call_outcome, calls_outcome, step, after_blocks, seated_by}
-use Rattle.npos_runtime.specs.Offers.{before_calls}
-use Rattle.npos_runtime.specs.Laws.{FitsBehind}
+use Rattle.npos_runtime.specs.Step.{before_calls, call_outcome, calls_outcome, step, after_blocks, seated_by}
+use Rattle.npos_runtime.specs.History.{CanTake, IsHistory}
 
 -- ## What happens to the eras
 
@@ -64,7 +63,7 @@ events_by chain (block ∷ more) = events_in chain block ++ events_by (step chai
 -- The eras of the chain are what the blocks' events make of era 0, and each event is accepted.
 abbrev pub HistoryLaw : Type 0
 HistoryLaw = (genesis : Genesis) (blocks : List Block)
-    → genesis_fault genesis ≡ None → FitsBehind genesis blocks
+    → IsHistory genesis blocks
     → AreAccepted (events_by (genesis_chain genesis) blocks) first_era
     × (after_all (events_by (genesis_chain genesis) blocks) first_era
     ≡ (after_blocks (genesis_chain genesis) blocks).eras)
@@ -106,15 +105,14 @@ abbrev pub paid_in : ℕ → Genesis → List Block → ℕ
 paid_in era genesis blocks = over_blocks (paid_by era) (genesis_chain genesis) blocks
 
 -- All that is paid of an era is at most its reward.
-abbrev pub RewardLaw : Type 0
-RewardLaw = (genesis : Genesis) (blocks : List Block) (era : ℕ)
-    → genesis_fault genesis ≡ None → FitsBehind genesis blocks
+abbrev pub PaidWithinRewardLaw : Type 0
+PaidWithinRewardLaw = (genesis : Genesis) (blocks : List Block) (era : ℕ)
+    → IsHistory genesis blocks
     → paid_in era genesis blocks ≤ era_reward_of (params_of genesis)
 
 -- the chain behind these blocks, once the next one has begun and these of its calls are done
-abbrev pub chain_at : Genesis → List Block → List Call → Chain
-chain_at genesis blocks calls =
-    (calls_outcome 0 calls (before_calls (after_blocks (genesis_chain genesis) blocks))).state
+abbrev pub chain_at : Chain → List Block → List Call → Chain
+chain_at chain blocks calls = (calls_outcome 0 calls (before_calls (after_blocks chain blocks))).state
 
 -- the lines of a payout tell its total, which is minted, and is at most the reward of the era
 pub record IsPaidOut (chain : Chain) (who : AccountId) (era : ℕ) (validator : AccountId) : Type 0 where
@@ -124,12 +122,14 @@ pub record IsPaidOut (chain : Chain) (who : AccountId) (era : ℕ) (validator : 
       ≡ chain.book.minted + (payout_now chain era validator).total
   pub within : (payout_now chain era validator).total ≤ era_reward_of chain.params
 
-abbrev pub PayoutLaw : Type 0
-PayoutLaw = (genesis : Genesis) (blocks : List Block) (calls : List Call) (who : AccountId)
-    (era : ℕ) (validator : AccountId)
-    → genesis_fault genesis ≡ None → FitsBehind genesis blocks
-    → refusal_of (chain_at genesis blocks calls) who (kinds.Payout era validator) ≡ None
-    → IsPaidOut (chain_at genesis blocks calls) who era validator
+-- each payout that is accepted is minted as it is told
+abbrev pub PaysAsTold : Chain → Type 0
+PaysAsTold chain = (who : AccountId) (era : ℕ) (validator : AccountId)
+    → refusal_of chain who (kinds.Payout era validator) ≡ None → IsPaidOut chain who era validator
+
+abbrev pub PaidAsToldLaw : Type 0
+PaidAsToldLaw = (genesis : Genesis) (blocks : List Block) (calls : List Call)
+    → IsHistory genesis blocks → PaysAsTold (chain_at (genesis_chain genesis) blocks calls)
 
 -- ## Offences
 
@@ -153,15 +153,18 @@ AreTaken (due ∷ more) old told new =
     (taken : ℕ) × (between : Ledger) × (rest : List Line) × IsTaken due taken old between
     × (told ≡ slash_told due.who taken ++ rest) × AreTaken more between rest new
 
+-- each report that is accepted takes what is due, one account after the other, but no more than the
+-- account has bonded
+abbrev pub TakesWhatIsDue : Chain → Type 0
+TakesWhatIsDue chain = (who : AccountId) (era : ℕ) (validator : AccountId) (fraction : ℕ)
+    → refusal_of chain who (kinds.Offence era validator fraction) ≡ None
+    → AreTaken (slash_in chain.eras era validator fraction) chain.book
+    (told_of chain who (kinds.Offence era validator fraction))
+    (done_of chain who (kinds.Offence era validator fraction)).book
+
 abbrev pub SlashLaw : Type 0
-SlashLaw = (genesis : Genesis) (blocks : List Block) (calls : List Call) (who : AccountId)
-    (era : ℕ) (validator : AccountId) (fraction : ℕ)
-    → genesis_fault genesis ≡ None → FitsBehind genesis blocks
-    → refusal_of (chain_at genesis blocks calls) who (kinds.Offence era validator fraction) ≡ None
-    → AreTaken (slash_in (chain_at genesis blocks calls).eras era validator fraction)
-    (chain_at genesis blocks calls).book
-    (told_of (chain_at genesis blocks calls) who (kinds.Offence era validator fraction))
-    (done_of (chain_at genesis blocks calls) who (kinds.Offence era validator fraction)).book
+SlashLaw = (chain : Chain) (blocks : List Block) (calls : List Call) → CanTake chain blocks
+    → TakesWhatIsDue (chain_at chain blocks calls)
 
 abbrev pub amount_taken : AccountId → Line → ℕ
 amount_taken who (lines.Slashed other amount) = if same_account other who then amount else 0
@@ -196,7 +199,7 @@ due_in era who genesis blocks = over_blocks (due_by era who) (genesis_chain gene
 -- No more is taken than is due.
 abbrev pub TakenLaw : Type 0
 TakenLaw = (genesis : Genesis) (blocks : List Block) (era : ℕ) (who : AccountId)
-    → genesis_fault genesis ≡ None → FitsBehind genesis blocks
+    → IsHistory genesis blocks
     → taken_in era who genesis blocks ≤ due_in era who genesis blocks
 
 -- ## The election of an era
@@ -204,7 +207,7 @@ TakenLaw = (genesis : Genesis) (blocks : List Block) (era : ℕ) (who : AccountI
 -- each round is decided once, and elects for the era of its number
 abbrev pub OnceLaw : Type 0
 OnceLaw = (genesis : Genesis) (blocks : List Block)
-    → genesis_fault genesis ≡ None → FitsBehind genesis blocks
+    → IsHistory genesis blocks
     → IsDistinct (λ first second. first.round == second.round) (seated_by (genesis_chain genesis) blocks)
 
 -- the election that seated the committee of an era, if one did
@@ -221,8 +224,25 @@ stake_behind who None = 0
 stake_behind who (Some election) = stake_in election.snapshot who
 
 -- All that is due from an account for an era is at most its stake in the election of that era.
-abbrev pub DueLaw : Type 0
-DueLaw = (genesis : Genesis) (blocks : List Block) (era : ℕ) (who : AccountId)
-    → genesis_fault genesis ≡ None → FitsBehind genesis blocks
+abbrev pub DueWithinStakeLaw : Type 0
+DueWithinStakeLaw = (genesis : Genesis) (blocks : List Block) (era : ℕ) (who : AccountId)
+    → IsHistory genesis blocks
     → due_in era who genesis blocks
     ≤ stake_behind who (elected_for era (seated_by (genesis_chain genesis) blocks))
+
+-- ## All of it
+
+-- What these blocks pay of an era is at most its reward, and what they make due from an account for
+-- an era is at most its stake in the one election of that era; no more is taken than is due.
+pub record AreWithin (genesis : Genesis) (blocks : List Block) : Type 0 where
+  pub rewards : (era : ℕ) → paid_in era genesis blocks ≤ era_reward_of (params_of genesis)
+  pub taken : (era : ℕ) (who : AccountId) → taken_in era who genesis blocks ≤ due_in era who genesis blocks
+  pub dues : (era : ℕ) (who : AccountId) → due_in era who genesis blocks
+      ≤ stake_behind who (elected_for era (seated_by (genesis_chain genesis) blocks))
+  pub once : IsDistinct (λ first second. first.round == second.round)
+      (seated_by (genesis_chain genesis) blocks)
+
+pub record ErasHold (genesis : Genesis) (blocks : List Block) : Type 0 where
+  pub within : AreWithin genesis blocks
+  pub payouts : (calls : List Call) → PaysAsTold (chain_at (genesis_chain genesis) blocks calls)
+  pub slashes : (calls : List Call) → TakesWhatIsDue (chain_at (genesis_chain genesis) blocks calls)

@@ -15,8 +15,11 @@ pub mod Step
 pub mod Genesis
 pub mod Live
 pub mod Life
+pub mod History
 pub mod Polling
 pub mod Fates
+pub mod Deposits
+pub mod Seatings
 pub mod Offers
 pub mod Laws
 pub mod EraLaws

@@ -17,12 +17,10 @@ use Rattle.block_receipts.specs.declared.refusal.Refusal.{Refusal}
 use Rattle.block_receipts.specs.declared.refusal.Refusal.TheVariants.{NotBetter}
 use Rattle.npos_runtime.specs.declared.round.Round.TheVariants as rounds
 use Rattle.chain_params.specs.Rules.{is_decision}
-use Rattle.npos_runtime.specs.Rounds.{round_phase}
 use Rattle.npos_runtime.specs.CallRule.{CallRule}
 use Rattle.npos_runtime.specs.Calls.{rule_for}
 use Rattle.round_decision.specs.Decision.{judged, forfeit_line}
-use Rattle.npos_runtime.specs.Deciding.{decision_phase}
-use Rattle.npos_runtime.specs.Step.{era_phase, call_outcome, step, after_blocks}
+use Rattle.npos_runtime.specs.Step.{call_outcome, before_calls, step, after_blocks}
 
 -- ## Offers
 
@@ -48,10 +46,6 @@ offers_in number index [] chain = []
 offers_in number index (call ∷ calls) chain =
     offer_of number (rule_for chain call)
     ++ offers_in number (index + 1) calls (call_outcome index call chain).state
-
--- the chain as it is when the calls of its block begin
-abbrev pub before_calls : Chain → Chain
-before_calls chain = (decision_phase (round_phase (era_phase chain).state).state).state
 
 -- what blocks offer to the round of this number
 abbrev pub offers_by : ℕ → Chain → List Block → List Submission

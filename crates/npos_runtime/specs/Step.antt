@@ -58,10 +58,22 @@ calls_outcome index (call ∷ calls) chain = after (call_outcome index call chai
 abbrev pub closed : Chain → Outcome
 closed chain = quiet (record chain { due = chain.due + 1 })
 
+-- one part after the other
+abbrev pub in_turn : List (Chain → Outcome) → Chain → Outcome
+in_turn [] chain = quiet chain
+in_turn (part ∷ more) chain = after (part chain) (in_turn more)
+
+-- what a block does before its calls, in order
+abbrev pub phases : List (Chain → Outcome)
+phases = era_phase ∷ round_phase ∷ decision_phase ∷ []
+
+-- the chain as it is when the calls of its block begin
+abbrev pub before_calls : Chain → Chain
+before_calls chain = (in_turn phases chain).state
+
 abbrev pub step : Chain → Block → Outcome
 step chain block =
-    after (after (after (after (after (opened block.number chain) era_phase) round_phase) decision_phase)
-    (calls_outcome 0 block.calls)) closed
+    in_turn (opened block.number ∷ in_turn phases ∷ calls_outcome 0 block.calls ∷ closed ∷ []) chain
 
 -- the chain after each block in turn
 abbrev pub after_blocks : Chain → List Block → Chain
