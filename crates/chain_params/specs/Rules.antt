@@ -80,6 +80,11 @@ is_signed (Some params) number =
     nat_le params.offset (place_of params number)
     && nat_lt (place_of params number) (params.offset + params.signed)
 
+-- how many blocks lie between the block of a snapshot and the one of its decision, the first included
+abbrev pub signed_of : Option Params → ℕ
+signed_of None = 0
+signed_of (Some params) = params.signed
+
 -- the block behind them is the one of the decision
 abbrev pub is_decision : Option Params → ℕ → Bool
 is_decision None number = false

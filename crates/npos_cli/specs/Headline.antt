@@ -4,7 +4,8 @@ use Rattle.npos_base.specs.Outside.{Told}
 use Rattle.npos_runtime.specs.declared.chain.Chain.{Chain}
 use Rattle.npos_runtime.specs.Outcome.{Election}
 use Rattle.npos_runtime.specs.Laws.{IsSound}
-use Rattle.npos_cli.specs.Replay.{Outcome, IsReplay}
+use Rattle.npos_runtime.specs.Seatings.{SeatsHold}
+use Rattle.npos_cli.specs.Replay.{Outcome, IsReplay, Spot, Starts, Reaches}
 use Rattle.npos_cli.specs.Chain.{npos_machine}
 use Rattle.npos_cli.specs.Books.{BooksBalance}
 use Rattle.npos_cli.specs.Owed.{Delivers}
@@ -14,6 +15,13 @@ use Rattle.npos_cli.specs.Owed.{Delivers}
 abbrev pub SeatsAreSound : List ℕ → Type 0
 SeatsAreSound bytes =
     (out : Outcome Chain Election) → IsReplay npos_machine bytes out → All IsSound out.seated
+
+-- Wherever a replay of these bytes has come, each round whose snapshot was taken was decided as many
+-- blocks later as submissions are taken: one committee was seated from that very snapshot, or its
+-- line told that there were too few targets or too little stake, and nobody was seated.
+abbrev pub RoundsAreSeated : List ℕ → Type 0
+RoundsAreSeated bytes = (start place : Spot Chain) (text : List ℕ) → Starts npos_machine bytes start
+    → (reaches : Reaches npos_machine start place text) → SeatsHold start.state reaches.blocks
 
 -- The replay of these bytes was written whole, every committee that it seats is sound, and all
 -- holdings equal genesis plus minted less burned, from the genesis on and after every block.

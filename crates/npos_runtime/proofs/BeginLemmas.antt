@@ -27,12 +27,13 @@ use Rattle.voter_lists.specs.Bags.{IsRisingFrom}
 use Rattle.std.proofs.lemmas.Bool.Decides.{nat_tests}
 use Rattle.npos_runtime.specs.declared.chain.Chain.{Chain}
 use Rattle.chain_params.specs.Rules.{thresholds_in, places_of}
-use Rattle.npos_runtime.specs.Calls.{release_now}
+use Rattle.npos_runtime.specs.BookCalls.{release_now}
 use Rattle.block_wire.specs.declared.genesis.Params.{Params}
-use Rattle.npos_runtime.specs.Live.{IsLive, IsReady}
+use Rattle.npos_runtime.specs.Live.{IsLive, IsBetweenBlocks, IsReady}
+use Rattle.npos_runtime.specs.History.{StartLaw}
 use Rattle.chain_params.proofs.FaultLemmas.{first_none, places_within}
 use Rattle.npos_runtime.proofs.EndowLemmas.{sum_more}
-use Rattle.npos_runtime.proofs.LiveLemmas.{chunks_changed}
+use Rattle.npos_runtime.proofs.PartLemmas.{chunks_changed}
 
 neither : (a b : Bool) (x y : GenesisFault) (r : Option GenesisFault)
     → (if a then Some x else if b then Some y else r) ≡ None → (b ≡ false) × (r ≡ None)
@@ -107,20 +108,22 @@ made_live params endowments sound none =
     let is = fresh [] endowments empty_ledger fresh_empty refl none in
     record {
       params = sound;
-      due_at_least = omega arith;
-      due_at_most = omega arith;
-      balanced = is.balanced;
-      releases = λ who. subst (All (λ (chunk : Chunk). chunk.release ≤ release_now (begun_chain params endowments)))
-          (sym (is.locked who)) (λ k d few. absurd (omega arith));
-      listing = record { listed = λ who. refl; once = λ who. omega arith; numbered = λ k d few. absurd (omega arith) };
-      roles = record { rising = nobody_rises; ranked = refl; few = omega arith };
-      nominations = λ who. record { few = omega arith; distinct = refl };
-      commissions = λ who. none_kept;
+      due = record { at_least = omega arith; at_most = omega arith };
+      books = record {
+        balanced = is.balanced;
+        releases = λ who. subst (All (λ (chunk : Chunk). chunk.release ≤ release_now (begun_chain params endowments)))
+            (sym (is.locked who)) (λ k d few. absurd (omega arith));
+        deposits = record { held = is.unheld; known = λ k d few. absurd (omega arith) };
+      };
+      roles = record {
+        ranked = record { rising = nobody_rises; ranked = refl; few = omega arith };
+        nominations = λ who. record { few = omega arith; distinct = refl };
+        commissions = λ who. none_kept;
+      };
+      bags = record { listed = λ who. refl; once = λ who. omega arith; numbered = λ k d few. absurd (omega arith) };
       round = tt;
-      noted = tt;
-      waiting = tt;
       queue = places_ordered params sound;
-      deposits = record { held = is.unheld; known = λ k d few. absurd (omega arith) };
+      waiting = tt;
     }
 
 pub live_begun : (genesis : Genesis) → genesis_fault genesis ≡ None → IsLive (genesis_chain genesis)
@@ -129,9 +132,16 @@ live_begun (Full endowments params) none =
     let both = first_none (endowment_fault [] endowments) (params_fault params) none in
     made_live (Some params) endowments both.1 both.0
 
--- no number was given yet, and era 0 is the current one
+-- era 0 is the current one, and nothing waits
+pub between_begun : (genesis : Genesis) → genesis_fault genesis ≡ None → IsBetweenBlocks (genesis_chain genesis)
+between_begun genesis none = record { live = live_begun genesis none; era = sym (era_first (params_of genesis)); places = refl; timely = refl }
+
+-- no number was given yet
 pub ready_begun : (genesis : Genesis) → genesis_fault genesis ≡ None → IsReady (genesis_chain genesis)
-ready_begun genesis none = record { live = live_begun genesis none; numbered = omega arith; era = sym (era_first (params_of genesis)) }
+ready_begun genesis none = record { between = between_begun genesis none; numbered = omega arith }
+
+pub start_law : StartLaw
+start_law genesis blocks history = record { between = between_begun genesis history.faultless; fit = history.fit }
 
 rising_none : (place before : ℕ) (thresholds : List ℕ) → threshold_fault place before thresholds ≡ None → IsRisingFrom before thresholds
 rising_none place before [] e = tt

@@ -24,13 +24,8 @@ use Rattle.era_book.specs.Exposures.{amount_sum}
 use Rattle.npos_runtime.specs.Offices.{all_minted}
 use Rattle.round_decision.specs.Decision.{fails, losers, others, reward_in, rewarded, paid_out, books_decided}
 use Rattle.round_decision.specs.Deposits.{AreHeld, returned, burned, all_returned, all_burned}
+use Rattle.npos_runtime.specs.Live.{AreBooks}
 use Rattle.round_decision.proofs.DepositLemmas.{held_within, held_returned, held_burned, held_minted, held_more}
-
--- what a chain keeps of its books, where these submissions are not settled
-pub record AreBooks (release : ℕ) (items : List Submission) (book : Ledger) : Type 0 where
-  pub balanced : IsBalanced book
-  pub releases : (who : AccountId) → All (λ chunk. chunk.release ≤ release) (row_at book who).chunks
-  pub deposits : AreHeld book items
 
 -- a row whose chunks stay
 chunks_stay : (release : ℕ) (old taken new : Row) (b : Bool) → new ≡ (if b then taken else old) → taken.chunks ≡ old.chunks

@@ -12,8 +12,6 @@ use Rattle.npos_base.specs.declared.figures.Score.{Score}
 use Rattle.block_wire.specs.declared.genesis.Params.{Params}
 use Rattle.block_wire.specs.declared.genesis.Genesis.TheVariants as geneses
 use Rattle.block_wire.specs.declared.call.Call.{Call}
-use Rattle.block_wire.specs.declared.call.CallKind.{CallKind}
-use Rattle.block_wire.specs.declared.call.CallKind.TheVariants as kinds
 use Rattle.block_wire.specs.declared.block.Block.{Block}
 use Rattle.submission_queue.specs.declared.submission.Submission.{Submission}
 use Rattle.submission_queue.specs.Rank.{outranks}
@@ -36,20 +34,23 @@ use Rattle.npos_runtime.specs.declared.round.Round.TheVariants as rounds
 use Rattle.chain_params.specs.Rules.{era_of, place_of, is_signed, is_decision, reward_of, solution_max_of, begun_round}
 use Rattle.npos_runtime.specs.Ballots.{snapshot_of, commissions_of}
 use Rattle.npos_runtime.specs.Rounds.{round_after, round_phase, is_few, is_poor}
-use Rattle.npos_runtime.specs.Signed.{is_open, current_round, submission_of, form_refusal, offer_refusal, submit_refusal, submitted}
+use Rattle.npos_runtime.specs.Signed.{is_open, current_round, submission_of, form_refusal, offer_refusal, submit_refusal, submitted, submit_rule}
 use Rattle.round_decision.specs.Decision.{judged, is_yes, fails, losers, others, forfeit_line, paid_lines, seat_line, member_lines}
 use Rattle.npos_runtime.specs.Deciding.{committee_of, decision_of, decision_phase}
 use Rattle.round_decision.specs.Deposits.{all_burned}
 use Rattle.npos_runtime.specs.Outcome.{Outcome, quiet}
-use Rattle.npos_runtime.specs.Calls.{refusal_of, done_of}
-use Rattle.npos_runtime.specs.Step.{era_phase, call_after, call_outcome, calls_outcome, closed, step, after_blocks}
+use Rattle.npos_runtime.specs.CallRule.{CallRule}
+use Rattle.npos_runtime.specs.Calls.{rule_for}
+use Rattle.npos_runtime.specs.Step.{before_calls, era_phase, call_after, call_outcome, calls_outcome, closed, step, after_blocks}
 use Rattle.chain_params.specs.Faults.{params_fault}
 use Rattle.npos_runtime.specs.Genesis.{genesis_chain}
 use Rattle.npos_runtime.specs.Live.{IsLive}
-use Rattle.npos_runtime.specs.Offers.{is_offered, offer_of, offers_in, offers_by, before_calls, LosesTo, FillsAfter}
-use Rattle.npos_runtime.specs.Laws.{CrowdingLaw as RoundsLaw}
+use Rattle.npos_runtime.specs.Offers.{is_offered, offered_to, offer_of, offers_in, offers_by, LosesTo, FillsAfter}
+use Rattle.npos_runtime.specs.Laws.{NoneCrowdedOutLaw}
 use Rattle.round_decision.proofs.DecisionLemmas.{winner_holds, fails_first, holds_first}
-use Rattle.npos_runtime.proofs.LiveLemmas.{live_before, due_before, live_call, live_step, live_blocks, due_step, due_calls, fixed_calls, params_decision}
+use Rattle.npos_runtime.proofs.RuleLemmas.{IsFixed, LeavesQueue, Submits}
+use Rattle.npos_runtime.proofs.CallTable.{lawful_call}
+use Rattle.npos_runtime.proofs.LiveLemmas.{live_before, due_before, live_call, live_step, live_blocks, due_step, due_calls, params_blocks}
 use Rattle.npos_runtime.proofs.BeginLemmas.{live_begun}
 use Rattle.npos_runtime.proofs.LawLemmas.{undecided, decides}
 use Rattle.chain_params.proofs.PhaseLemmas.{next_place, phases_sound}
@@ -79,18 +80,18 @@ module _ (params : Params) (sound : params_fault params ≡ None) (number : ℕ)
   era due = era_of (Some params) due
 
   -- the queue is what these offers made of an empty one
-  abbrev Holds : Ranking → List Submission → Type 0
+  abbrev pub Holds : Ranking → List Submission → Type 0
   Holds queue offers = queue ≡ after_offers (empty_queue params.queue) offers
 
   -- An open round is the current one, from one place of its era to before another, and holds what
   -- was offered to it; else nothing waits.
-  abbrev IsTimed : ℕ → ℕ → ℕ → Option Round → Ranking → List Submission → Type 0
+  abbrev pub IsTimed : ℕ → ℕ → ℕ → Option Round → Ranking → List Submission → Type 0
   IsTimed low high due (Some (rounds.Open round snapshot commissions)) queue offers =
       (round ≡ era due + 1) × (low ≤ place due) × (place due < high) × (round ≡ number → Holds queue offers)
   IsTimed low high due (Some (rounds.Void round)) queue offers = queue ≡ empty_queue params.queue
   IsTimed low high due None queue offers = queue ≡ empty_queue params.queue
 
-  record IsAt (low high : ℕ) (chain : Chain) (offers : List Submission) : Type 0 where
+  pub record IsAt (low high : ℕ) (chain : Chain) (offers : List Submission) : Type 0 where
     pub params_are : chain.params ≡ Some params
     pub places : chain.queue.places ≡ params.queue
     pub timed : IsTimed low high chain.due chain.round chain.queue offers
@@ -98,10 +99,10 @@ module _ (params : Params) (sound : params_fault params ≡ None) (number : ℕ)
     pub later : era chain.due + 1 < number → offers ≡ []
     pub same : number ≡ era chain.due + 1 → place chain.due < low → offers ≡ []
 
-  abbrev first_place : ℕ
+  abbrev pub first_place : ℕ
   first_place = params.offset
 
-  abbrev end_place : ℕ
+  abbrev pub end_place : ℕ
   end_place = params.offset + params.signed
 
   -- where the round begins, nothing waits
@@ -274,16 +275,17 @@ module _ (params : Params) (sound : params_fault params ≡ None) (number : ℕ)
   not_offered true item = refl
   not_offered false item = refl
 
-  called_submit : (index : ℕ) (call : Call) (chain : Chain) (round : ℕ) (claim : Score) (bytes : List ℕ) (offers : List Submission) → IsNow chain offers → IsLive chain
-      → call.kind ≡ kinds.Submit round claim bytes
-      → IsNow (call_after (submit_refusal chain call.who round claim bytes) index call chain).state
-      (offers ++ offer_if (round == number) (is_offered (submit_refusal chain call.who round claim bytes)) (submission_of chain call.who claim bytes))
-  unfolding done_of
-  called_submit index call chain round claim bytes offers h live is = at (submit_refusal chain call.who round claim bytes) refl where
+  called_submit : (index : ℕ) (who : AccountId) (chain : Chain) (round : ℕ) (claim : Score) (bytes : List ℕ) (offers : List Submission) → IsNow chain offers → IsLive chain
+      → IsNow (call_after (submit_refusal chain who round claim bytes) index (submit_rule chain who round claim bytes) chain).state
+      (offers ++ offer_if (round == number) (is_offered (submit_refusal chain who round claim bytes)) (submission_of chain who claim bytes))
+  called_submit index who chain round claim bytes offers h live = at (submit_refusal chain who round claim bytes) refl where
     item : Submission
-    item = submission_of chain call.who claim bytes
+    item = submission_of chain who claim bytes
 
-    out : (refusal : Refusal) → is_offered (Some refusal) ≡ false → IsNow (call_after (Some refusal) index call chain).state (offers ++ offer_if (round == number) (is_offered (Some refusal)) item)
+    rule : CallRule
+    rule = submit_rule chain who round claim bytes
+
+    out : (refusal : Refusal) → is_offered (Some refusal) ≡ false → IsNow (call_after (Some refusal) index rule chain).state (offers ++ offer_if (round == number) (is_offered (Some refusal)) item)
     out refusal e =
         passed chain chain offers (offer_if (round == number) (is_offered (Some refusal)) item) h
         (ap (λ b. offer_if (round == number) b item) e ∙ not_offered (round == number) item) refl refl refl refl
@@ -295,16 +297,11 @@ module _ (params : Params) (sound : params_fault params ≡ None) (number : ℕ)
     worse false true e = refl
     worse false false e = cc
 
-    at : (due : Option Refusal) → submit_refusal chain call.who round claim bytes ≡ due
-        → IsNow (call_after due index call chain).state (offers ++ offer_if (round == number) (is_offered due) item)
+    at : (due : Option Refusal) → submit_refusal chain who round claim bytes ≡ due
+        → IsNow (call_after due index rule chain).state (offers ++ offer_if (round == number) (is_offered due) item)
     at None e =
         let form = formed chain round bytes (offer_refusal chain item) (ap is_offered e) in
-        taken form where
-          taken : ((is_open chain.round ≡ true) × (round ≡ current_round chain) × (option_or (form_refusal chain round bytes) (offer_refusal chain item) ≡ offer_refusal chain item))
-              → IsNow (done_of chain call.who call.kind) (offers ++ offer_if (round == number) true item)
-          taken form =
-              subst (λ (kind : CallKind). IsNow (done_of chain call.who kind) (offers ++ offer_if (round == number) true item)) (sym is)
-              (joined chain (submitted chain item) offers item round h form.0 form.1 refl refl refl refl)
+        joined chain (submitted chain item) offers item round h form.0 form.1 refl refl refl refl
     at (Some refusals.NotBetter) e =
         let form = formed chain round bytes (offer_refusal chain item) (ap is_offered e) in
         let full = worse (nat_lt (row_at chain.book item.who).free item.deposit) (is_err (offer_answer chain.queue item)) (sym form.2 ∙ e) in
@@ -318,57 +315,36 @@ module _ (params : Params) (sound : params_fault params ≡ None) (number : ℕ)
     at (Some refusals.NotRoot) e = out refusals.NotRoot refl
 
   -- what any other call does
-  other_after : (due : Option Refusal) (index : ℕ) (call : Call) (chain : Chain) (offers : List Submission) → IsNow chain offers
-      → (done_of chain call.who call.kind).params ≡ chain.params → (done_of chain call.who call.kind).round ≡ chain.round
-      → (done_of chain call.who call.kind).queue ≡ chain.queue → (done_of chain call.who call.kind).due ≡ chain.due
-      → IsNow (call_after due index call chain).state (offers ++ [])
-  other_after None index call chain offers h params_are round queue due =
-      passed chain (done_of chain call.who call.kind) offers [] h refl params_are round queue due
-  other_after (Some refusal) index call chain offers h params_are round queue due = passed chain chain offers [] h refl refl refl refl refl
+  other_after : (due : Option Refusal) (index : ℕ) (rule : CallRule) (chain : Chain) (offers : List Submission) → IsNow chain offers
+      → IsFixed chain rule.done → LeavesQueue chain rule → IsNow (call_after due index rule chain).state (offers ++ [])
+  other_after None index rule chain offers h fixed leaves = passed chain rule.done offers [] h refl fixed.params fixed.round leaves.queue fixed.due
+  other_after (Some refusal) index rule chain offers h fixed leaves = passed chain chain offers [] h refl refl refl refl refl
 
-  called_kind : (index : ℕ) (who : AccountId) (kind : CallKind) (chain : Chain) (offers : List Submission) → IsNow chain offers → IsLive chain
-      → IsNow (call_outcome index (record { who = who; kind = kind }) chain).state (offers ++ offer_of number chain who kind)
-  unfolding refusal_of done_of
-  called_kind index who (kinds.Submit round claim bytes) chain offers h live =
-      called_submit index (record { who = who; kind = kinds.Submit round claim bytes }) chain round claim bytes offers h live refl
-  called_kind index who (kinds.Transfer to value) chain offers h live =
-      other_after (refusal_of chain who (kinds.Transfer to value)) index (record { who = who; kind = kinds.Transfer to value }) chain offers h refl refl refl refl
-  called_kind index who (kinds.Bond value) chain offers h live =
-      other_after (refusal_of chain who (kinds.Bond value)) index (record { who = who; kind = kinds.Bond value }) chain offers h refl refl refl refl
-  called_kind index who (kinds.BondExtra value) chain offers h live =
-      other_after (refusal_of chain who (kinds.BondExtra value)) index (record { who = who; kind = kinds.BondExtra value }) chain offers h refl refl refl refl
-  called_kind index who (kinds.Unbond value) chain offers h live =
-      other_after (refusal_of chain who (kinds.Unbond value)) index (record { who = who; kind = kinds.Unbond value }) chain offers h refl refl refl refl
-  called_kind index who (kinds.Rebond value) chain offers h live =
-      other_after (refusal_of chain who (kinds.Rebond value)) index (record { who = who; kind = kinds.Rebond value }) chain offers h refl refl refl refl
-  called_kind index who kinds.Withdraw chain offers h live =
-      other_after (refusal_of chain who kinds.Withdraw) index (record { who = who; kind = kinds.Withdraw }) chain offers h refl refl refl refl
-  called_kind index who (kinds.Nominate targets) chain offers h live =
-      other_after (refusal_of chain who (kinds.Nominate targets)) index (record { who = who; kind = kinds.Nominate targets }) chain offers h refl refl refl refl
-  called_kind index who (kinds.Validate commission) chain offers h live =
-      other_after (refusal_of chain who (kinds.Validate commission)) index (record { who = who; kind = kinds.Validate commission }) chain offers h refl refl refl refl
-  called_kind index who kinds.Chill chain offers h live =
-      other_after (refusal_of chain who kinds.Chill) index (record { who = who; kind = kinds.Chill }) chain offers h refl refl refl refl
-  called_kind index who (kinds.Rebag whom) chain offers h live =
-      other_after (refusal_of chain who (kinds.Rebag whom)) index (record { who = who; kind = kinds.Rebag whom }) chain offers h refl refl refl refl
-  called_kind index who (kinds.PutInFront lighter) chain offers h live =
-      other_after (refusal_of chain who (kinds.PutInFront lighter)) index (record { who = who; kind = kinds.PutInFront lighter }) chain offers h refl refl refl refl
-  called_kind index who (kinds.Points items) chain offers h live =
-      other_after (refusal_of chain who (kinds.Points items)) index (record { who = who; kind = kinds.Points items }) chain offers h refl refl refl refl
-  called_kind index who (kinds.Payout at validator) chain offers h live =
-      other_after (refusal_of chain who (kinds.Payout at validator)) index (record { who = who; kind = kinds.Payout at validator }) chain offers h refl refl refl refl
-  called_kind index who (kinds.Offence at validator fraction) chain offers h live =
-      other_after (refusal_of chain who (kinds.Offence at validator fraction)) index (record { who = who; kind = kinds.Offence at validator fraction }) chain offers h refl refl refl refl
+  called_rule : (index : ℕ) (who : AccountId) (rule : CallRule) (chain : Chain) (offers : List Submission) → IsNow chain offers → IsLive chain
+      → IsFixed chain rule.done → LeavesQueue chain rule ⊎ Submits chain who rule
+      → IsNow (call_after rule.refusal index rule chain).state (offers ++ offer_of number rule)
+  called_rule index who rule chain offers h live fixed (inl leaves) =
+      subst (λ (offer : Option (ℕ × Submission)). IsNow (call_after rule.refusal index rule chain).state (offers ++ offered_to number (is_offered rule.refusal) offer))
+      (sym leaves.offered) (other_after rule.refusal index rule chain offers h fixed leaves)
+  called_rule index who rule chain offers h live fixed (inr submits) =
+      subst (λ (r : CallRule). IsNow (call_after r.refusal index r chain).state (offers ++ offer_of number r)) (sym submits.is)
+      (called_submit index who chain submits.round submits.claim submits.bytes offers h live)
+
+  called_call : (index : ℕ) (call : Call) (chain : Chain) (offers : List Submission) → IsNow chain offers → IsLive chain
+      → IsNow (call_outcome index call chain).state (offers ++ offer_of number (rule_for chain call))
+  called_call index call chain offers h live =
+      let is = lawful_call call chain in
+      called_rule index call.who (rule_for chain call) chain offers h live is.fixed is.queue
 
   called : (index : ℕ) (calls : List Call) (chain : Chain) (offers : List Submission) → IsNow chain offers → IsLive chain
       → IsNow (calls_outcome index calls chain).state (offers ++ offers_in number index calls chain)
   called index [] chain offers h live = subst (IsNow chain) (sym (append-nil offers)) h
   called index (call ∷ calls) chain offers h live =
       let next : Chain = (call_outcome index call chain).state in
-      let one : List Submission = offer_of number chain call.who call.kind in
+      let one : List Submission = offer_of number (rule_for chain call) in
       let rest : List Submission = offers_in number (index + 1) calls next in
       subst (IsNow (calls_outcome (index + 1) calls next).state) (append_assoc offers one rest)
-      (called (index + 1) calls next (offers ++ one) (called_kind index call.who call.kind chain offers h live) (live_call index call chain live))
+      (called (index + 1) calls next (offers ++ one) (called_call index call chain offers h live) (live_call index call chain live))
 
   -- ## Blocks
 
@@ -412,19 +388,19 @@ module _ (params : Params) (sound : params_fault params ≡ None) (number : ℕ)
       by (inl (on, in_era)) = h.same (omega (arith, e, in_era)) (omega (arith, below, on))
       by (inr (over, past)) = h.later (omega (arith, e, past))
 
-  abbrev IsBetween : Chain → List Submission → Type 0
+  abbrev pub IsBetween : Chain → List Submission → Type 0
   IsBetween chain offers = IsAt (first_place + 1) (end_place + 1) chain offers
 
-  stepped : (chain : Chain) (block : Block) (offers : List Submission) → IsBetween chain offers → IsLive chain
+  pub stepped : (chain : Chain) (block : Block) (offers : List Submission) → IsBetween chain offers → IsLive chain
       → IsBetween (step chain block).state (offers ++ offers_in number 0 block.calls (before_calls chain))
   stepped chain block offers h live =
       let start : Chain = before_calls chain in
       let all : List Submission = offers ++ offers_in number 0 block.calls start in
       closes (calls_outcome 0 block.calls start).state all
       (called 0 block.calls start offers (decided_at (undecided chain) offers (begins chain offers h)) (live_before chain live))
-      (omega (arith, due_calls 0 block.calls start, due_before chain, live.due_at_least))
+      (omega (arith, due_calls 0 block.calls start, due_before chain, live.due.at_least))
 
-  behind : (chain : Chain) (blocks : List Block) (offers : List Submission) → IsBetween chain offers → IsLive chain → chain.due + length blocks ≤ 2 ^ 32
+  pub behind : (chain : Chain) (blocks : List Block) (offers : List Submission) → IsBetween chain offers → IsLive chain → chain.due + length blocks ≤ 2 ^ 32
       → IsBetween (after_blocks chain blocks) (offers ++ offers_by number chain blocks)
   behind chain [] offers h live fit = subst (IsBetween chain) (sym (append-nil offers)) h
   behind chain (block ∷ more) offers h live fit =
@@ -435,7 +411,7 @@ module _ (params : Params) (sound : params_fault params ≡ None) (number : ℕ)
       (omega (arith, fit, due_step chain block)))
 
   -- a round that is open holds what was offered to it
-  round_holds : (chain : Chain) (offers : List Submission) (snapshot : Snapshot) (commissions : List ℕ) → IsBetween chain offers
+  pub round_holds : (chain : Chain) (offers : List Submission) (snapshot : Snapshot) (commissions : List ℕ) → IsBetween chain offers
       → chain.round ≡ Some (rounds.Open number snapshot commissions) → Holds chain.queue offers
   round_holds chain offers snapshot commissions h is =
       (subst (λ (r : Option Round). IsTimed (first_place + 1) (end_place + 1) chain.due r chain.queue offers) is h.timed).3 refl
@@ -466,11 +442,14 @@ found_others snapshot (item ∷ items) found is = at (is_yes (judged snapshot it
 -- the lines of the decision stand among those of its block
 in_step : (chain : Chain) (block : Block) (line : Line) → Contains (decision_phase (undecided chain)).lines line → Contains (step chain block).lines line
 in_step chain block line within =
-    let before : List Line = (lines.Block block.number ∷ [] ++ (era_phase chain).lines) ++ (round_phase (era_phase chain).state).lines in
+    let era : List Line = (era_phase chain).lines in
+    let round : List Line = (round_phase (era_phase chain).state).lines in
     let decision : List Line = (decision_phase (undecided chain)).lines in
     let calls : List Line = (calls_outcome 0 block.calls (before_calls chain)).lines in
-    Contains-append_left ((before ++ decision) ++ calls) [] line
-    (Contains-append_left (before ++ decision) calls line (Contains-append_right before decision line within))
+    Contains-append_right (lines.Block block.number ∷ []) ((era ++ (round ++ (decision ++ []))) ++ (calls ++ [])) line
+    (Contains-append_left (era ++ (round ++ (decision ++ []))) (calls ++ []) line
+    (Contains-append_right era (round ++ (decision ++ [])) line
+    (Contains-append_right round (decision ++ []) line (Contains-append_left decision [] line within))))
 
 all_mapped : {A B : Type 0} (f : A → B) (xs : List A) → All (λ x. Contains (map f xs) (f x)) xs
 all_mapped f [] = All-nil (λ x. Contains [] (f x))
@@ -502,7 +481,7 @@ module _ (packed : PackedYesIsAccepting) (chain : Chain) (block : Block) (round 
   seen : (line : Line) → Contains (lost_lines ++ rest_lines) line → Contains told line
   seen line within =
       in_step chain block line
-      (subst (λ (o : Outcome). Contains o.lines line) (sym (decides chain round snapshot commissions live is stands))
+      (subst (λ (o : Outcome). Contains o.lines line) (sym (decides chain (Some (rounds.Open round snapshot commissions)) live is stands))
       (Contains-append_left (lost_lines ++ rest_lines) (member_lines snapshot (committee_of snapshot commissions items).weights) line within))
 
   seat_seen : Contains told (seat_line round (others snapshot items))
@@ -534,7 +513,7 @@ module _ (packed : PackedYesIsAccepting) (chain : Chain) (block : Block) (round 
         earned = ap score_of won_by.given_are ∙ won_by.claimed;
       }
 
-  answered : (item : Submission) (places : ℕ) (offers : List Submission) → chain.queue.places ≡ places → chain.queue ≡ after_offers (empty_queue places) offers
+  pub answered : (item : Submission) (places : ℕ) (offers : List Submission) → chain.queue.places ≡ places → chain.queue ≡ after_offers (empty_queue places) offers
       → Contains offers item → judged snapshot item ≡ verdicts.Yes
       → ((winner : Submission) × LosesTo round snapshot item items told winner) ⊎ FillsAfter round snapshot chain.queue told
   answered item places offers many holds among holds_up =
@@ -549,29 +528,3 @@ module _ (packed : PackedYesIsAccepting) (chain : Chain) (block : Block) (round 
             → ((winner : Submission) × LosesTo round snapshot item items told winner) ⊎ FillsAfter round snapshot chain.queue told
         at None e (full, all) none = inr (fills none (full ∙ sym many))
         at (Some winner) e worse (rest, won) = inl (winner, loses item winner rest won worse)
-
--- ## From the genesis on
-
-params_blocks : (chain : Chain) (blocks : List Block) → (after_blocks chain blocks).params ≡ chain.params
-params_blocks chain [] = refl
-params_blocks chain (block ∷ more) =
-    params_blocks (step chain block).state more
-    ∙ ((fixed_calls 0 block.calls (before_calls chain)).params ∙ params_decision (undecided chain))
-
-pub none_crowded_out : PackedYesIsAccepting → RoundsLaw
-none_crowded_out packed (geneses.Plain endowments) blocks block sound fit round snapshot commissions item is stands among holds_up =
-    let none = params_blocks (genesis_chain (geneses.Plain endowments)) blocks in
-    absurd (true≢false (sym is ∙ ap (λ (ps : Option Params). is_decision ps (after_blocks (genesis_chain (geneses.Plain endowments)) blocks).due) none))
-none_crowded_out packed (geneses.Full endowments params) blocks block sound fit round snapshot commissions item is stands among holds_up =
-    let first : Chain = genesis_chain (geneses.Full endowments params) in
-    let live_first : IsLive first = live_begun (geneses.Full endowments params) sound in
-    let between = behind params live_first.params round first blocks [] (record {
-      params_are = refl;
-      places = refl;
-      timed = refl;
-      later = λ _. refl;
-      same = λ _ _. refl;
-    }) live_first fit in
-    answered packed (after_blocks first blocks) block round snapshot commissions (live_blocks first blocks live_first fit) is stands
-    item params.queue (offers_by round first blocks) between.places
-    (round_holds params live_first.params round (after_blocks first blocks) (offers_by round first blocks) snapshot commissions between stands) among holds_up

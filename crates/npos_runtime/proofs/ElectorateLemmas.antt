@@ -26,7 +26,7 @@ use Rattle.npos_runtime.specs.Ballots.{active_of, votes_of, is_eligible, ballot_
 use Rattle.chain_params.specs.Rules.{seats_of}
 use Rattle.npos_runtime.specs.Rounds.{is_few, is_poor, round_now}
 use Rattle.npos_base.specs.declared.limits.TheConstants.{WHOLE_FRACTION}
-use Rattle.npos_runtime.specs.Live.{IsLive, IsSoundRound, IsNotedRound}
+use Rattle.npos_runtime.specs.Live.{IsLive, IsSoundRound, AreNoted}
 use Rattle.npos_runtime.specs.Polling.{IsPolled, polled}
 use Rattle.npos_runtime.proofs.StepLemmas.{polled_next, polled_first, polled_full, polled_through}
 use Rattle.npos_runtime.proofs.VoterLemmas.{no_fault}
@@ -42,7 +42,7 @@ same_by_order a b = at (same_account a b) refl where
 targets_distinct : (chain : Chain) → IsLive chain → IsDistinct same_account (validators_of chain.roles)
 targets_distinct chain live =
     subst (λ (same : AccountId → AccountId → Bool). IsDistinct same (validators_of chain.roles)) (λ i a b. same_by_order a b i)
-    (IsDistinct-from_sorted account_cmp (validators_of chain.roles) (validators_rise chain.roles live.roles.rising))
+    (IsDistinct-from_sorted account_cmp (validators_of chain.roles) (validators_rise chain.roles live.roles.ranked.rising))
 
 -- ## Voters
 
@@ -129,7 +129,7 @@ ballot_sound chain live =
     let empty : Draft = record { targets = validators_of chain.roles; voters = [] } in
     all_polled chain empty (walk chain.bags.order) live (polled_first chain empty (walk chain.bags.order) live refl refl)
     (record {
-      targets_few = live.roles.few;
+      targets_few = live.roles.ranked.few;
       targets_distinct = targets_distinct chain live;
       voters_few = omega arith;
       accounts_distinct = nobody_twice;
@@ -158,23 +158,6 @@ seats_within (Some params) sound =
       not_false true f = refl
       not_false false f = absurd (true≢false f)
 
--- a round that begins is void, or has a well-formed snapshot
-pub sound_round : (chain : Chain) (number : ℕ) → IsLive chain → IsSoundRound (Some (round_now chain number))
-sound_round chain number live = at (is_few (snapshot_of chain)) (is_poor (snapshot_of chain)) refl refl where
-  at : (few poor : Bool) → is_few (snapshot_of chain) ≡ few → is_poor (snapshot_of chain) ≡ poor
-      → IsSoundRound (Some (if few || poor then rounds.Void number else rounds.Open number (snapshot_of chain) (commissions_of chain.roles)))
-  at true poor f p = tt
-  at false true f p = tt
-  at false false f p =
-      let seats = seats_within chain.params live.params in
-      record {
-        voters = ballot_sound chain live;
-        seats_some = seats.0;
-        seats_few = seats.1;
-        targets_enough = ltb-false (length (snapshot_of chain).targets) (snapshot_of chain).seats f;
-        total_enough = ltb-false (total_of (snapshot_of chain).voters) ((snapshot_of chain).seats * (snapshot_of chain).seats) p;
-      }
-
 -- ## Commissions
 
 commissions_within : (roles : RoleList) (accounts : List AccountId) → ((who : AccountId) → commission_in (role_of roles who) ≤ WHOLE_FRACTION)
@@ -184,12 +167,25 @@ commissions_within roles (account ∷ accounts) each =
     All-cons (λ (commission : ℕ). commission ≤ WHOLE_FRACTION) (commission_in (role_of roles account)) (map (λ who. commission_in (role_of roles who)) accounts)
     (each account) (commissions_within roles accounts each)
 
--- a round that begins is void, or notes a commission for each target
-pub noted_round : (chain : Chain) (number : ℕ) → IsLive chain → IsNotedRound (Some (round_now chain number))
-noted_round chain number live = at (is_few (snapshot_of chain) || is_poor (snapshot_of chain)) where
-  at : (void : Bool) → IsNotedRound (Some (if void then rounds.Void number else rounds.Open number (snapshot_of chain) (commissions_of chain.roles)))
-  at true = tt
-  at false = record {
-    count = same_length (λ who. commission_in (role_of chain.roles who)) (validators_of chain.roles);
-    within = commissions_within chain.roles (validators_of chain.roles) live.commissions;
-  }
+noted : (chain : Chain) → IsLive chain → AreNoted (validators_of chain.roles) (commissions_of chain.roles)
+noted chain live = record {
+  count = same_length (λ who. commission_in (role_of chain.roles who)) (validators_of chain.roles);
+  within = commissions_within chain.roles (validators_of chain.roles) live.roles.commissions;
+}
+
+-- a round that begins is void, or has a well-formed snapshot and notes a commission for each target
+pub sound_round : (chain : Chain) (number : ℕ) → IsLive chain → IsSoundRound (Some (round_now chain number))
+sound_round chain number live = at (is_few (snapshot_of chain)) (is_poor (snapshot_of chain)) refl refl where
+  at : (few poor : Bool) → is_few (snapshot_of chain) ≡ few → is_poor (snapshot_of chain) ≡ poor
+      → IsSoundRound (Some (if few || poor then rounds.Void number else rounds.Open number (snapshot_of chain) (commissions_of chain.roles)))
+  at true poor f p = tt
+  at false true f p = tt
+  at false false f p =
+      let seats = seats_within chain.params live.params in
+      (record {
+        voters = ballot_sound chain live;
+        seats_some = seats.0;
+        seats_few = seats.1;
+        targets_enough = ltb-false (length (snapshot_of chain).targets) (snapshot_of chain).seats f;
+        total_enough = ltb-false (total_of (snapshot_of chain).voters) ((snapshot_of chain).seats * (snapshot_of chain).seats) p;
+      }, noted chain live)

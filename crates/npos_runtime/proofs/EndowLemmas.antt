@@ -17,7 +17,7 @@ use Rattle.chain_params.specs.declared.fault.GenesisFault.{GenesisFault}
 use Rattle.chain_params.specs.declared.fault.GenesisFault.TheVariants.{RepeatedAccount, TooMuch}
 use Rattle.npos_runtime.specs.Genesis.{is_endowed, endowment_sum, endowed_all, endowment_fault, opening_fault, IsFault}
 use Rattle.npos_runtime.proofs.FaultLemmas.{is_first}
-use Rattle.npos_runtime.proofs.LiveLemmas.{same_or_not}
+use Rattle.npos_runtime.proofs.PartLemmas.{same_or_not}
 
 or-true : (a : Bool) → (a || true) ≡ true
 or-true true = refl

@@ -12,8 +12,6 @@ use Rattle.block_wire.specs.declared.genesis.Genesis.{Genesis}
 use Rattle.block_wire.specs.declared.genesis.Endowment.{Endowment}
 use Rattle.block_wire.specs.declared.genesis.Genesis.TheVariants as geneses
 use Rattle.block_wire.specs.declared.call.Call.{Call}
-use Rattle.block_wire.specs.declared.call.CallKind.{CallKind}
-use Rattle.block_wire.specs.declared.call.CallKind.TheVariants as kinds
 use Rattle.block_wire.specs.declared.block.Block.{Block}
 use Rattle.stake_ledger.specs.declared.chunks.Chunk.{Chunk}
 use Rattle.stake_ledger.specs.declared.row.Row.{Row}
@@ -26,197 +24,54 @@ use Rattle.election_check.specs.Laws.{PackedYesIsAccepting, PlainYesIsPassing}
 use Rattle.quota_fill.specs.Laws.{EveryFillPasses}
 use Rattle.era_book.specs.declared.exposure.Backer.{Backer}
 use Rattle.era_book.specs.declared.exposure.Exposure.{Exposure}
-use Rattle.era_book.specs.Exposures.{amount_sum, amount_for, exposed_for}
+use Rattle.era_book.specs.Exposures.{amount_sum, exposed_for}
 use Rattle.era_book.specs.Calls.{slash_in}
 use Rattle.era_book.specs.Eras.{first_era}
 use Rattle.era_book.specs.Events.{Event, Paid, AreAccepted, after_all, given_by, pays, makes_due, exposures_of}
 use Rattle.era_book.proofs.EventLemmas.{accepted_append, after_append, given_append}
-use Rattle.era_book.proofs.LawLemmas.{reward_law, due_law, for_sum}
+use Rattle.era_book.proofs.LawLemmas.{reward_law, due_law}
 use Rattle.npos_runtime.specs.declared.chain.Chain.{Chain}
-use Rattle.block_receipts.specs.declared.line.Line.TheVariants as lines
 use Rattle.block_receipts.specs.declared.refusal.Refusal.{Refusal}
 use Rattle.chain_params.specs.Rules.{era_of, era_reward_of}
-use Rattle.block_receipts.specs.Refusals.{code_of}
 use Rattle.npos_runtime.specs.Outcome.{Election}
-use Rattle.npos_runtime.specs.Offices.{payout_now, all_minted, paid_line, payout_told, slash_told, slashed_once, slashes, offence_told}
-use Rattle.npos_runtime.specs.Calls.{refusal_of, done_of, told_of}
-use Rattle.npos_runtime.specs.Step.{call_after, call_outcome, step, after_blocks, seated_by}
-use Rattle.npos_runtime.specs.Genesis.{params_of, genesis_fault, genesis_chain}
+use Rattle.npos_runtime.specs.Offices.{payout_now, all_minted, slashed_once, slashes}
+use Rattle.npos_runtime.specs.CallRule.{CallRule}
+use Rattle.npos_runtime.specs.Calls.{rule_of, rule_for}
+use Rattle.npos_runtime.specs.Step.{before_calls, call_after, call_outcome, step, after_blocks, seated_by}
+use Rattle.npos_runtime.specs.Genesis.{params_of, genesis_chain}
 use Rattle.npos_runtime.specs.Live.{IsLive}
-use Rattle.npos_runtime.specs.Offers.{before_calls}
-use Rattle.npos_runtime.specs.Laws.{FitsBehind}
-use Rattle.npos_runtime.specs.EraLaws.{event_of_kind, event_of, events_in, events_by, HistoryLaw, over_calls, over_blocks, amount_paid, told_paid, paid_for, paid_by, paid_in, RewardLaw, chain_at, PayoutLaw, bonded, IsTaken, AreTaken, SlashLaw, amount_taken, told_taken, taken_for, taken_by, due_of_kind, due_of, due_by, due_in, TakenLaw, OnceLaw, elected_for, stake_behind, DueLaw}
-use Rattle.npos_runtime.proofs.LiveLemmas.{slashed_live, live_before, live_calls, live_blocks}
+use Rattle.npos_runtime.specs.History.{CanTake, IsHistory}
+use Rattle.npos_runtime.specs.EraLaws.{event_of, events_at, events_in, events_by, HistoryLaw, over_calls, over_blocks, paid_for, paid_by, paid_in, PaidWithinRewardLaw, chain_at, PaidAsToldLaw, bonded, IsTaken, AreTaken, SlashLaw, taken_for, taken_by, due_by, due_in, TakenLaw, OnceLaw, elected_for, stake_behind, DueWithinStakeLaw}
+use Rattle.npos_runtime.proofs.RuleLemmas.{FollowsEvents}
+use Rattle.npos_runtime.proofs.OfficeCallLemmas.{slashed_live, told_payout, payout_free}
+use Rattle.npos_runtime.proofs.CallTable.{lawful_call}
+use Rattle.npos_runtime.proofs.LiveLemmas.{live_before, live_calls, live_blocks, params_step, params_blocks}
 use Rattle.npos_runtime.proofs.BeginLemmas.{live_begun}
 use Rattle.npos_runtime.proofs.OfficeLemmas.{payout_sums}
 use Rattle.chain_params.proofs.PhaseLemmas.{era_first}
-use Rattle.npos_runtime.proofs.HistoryLemmas.{payout_free, accepted_plain, eras_block, sum_blocks, params_step}
+use Rattle.npos_runtime.proofs.HistoryLemmas.{accepted_plain, eras_block, sum_blocks}
 use Rattle.npos_runtime.proofs.SeatedLemmas.{same_round}
 use Rattle.npos_runtime.proofs.StoryLemmas.{IsStory, story_blocks, story_accepted, plain_seated, plain_begun}
 
--- ## What payouts tell
+-- ## What calls tell
 
-told_lines : (lines_of : List Backer) → told_paid (map paid_line lines_of) ≡ amount_sum lines_of
-told_lines [] = refl
-told_lines (line ∷ more) =
-    omega (arith, told_lines more, sum_by-cons amount_paid (paid_line line) (map paid_line more), sum_by-cons (λ (l : Backer). l.amount) line more)
+paid_rule : (era : ℕ) (params : Option Params) (due : Option Refusal) (index : ℕ) (rule : CallRule) (chain : Chain) → chain.params ≡ params → FollowsEvents chain rule
+    → paid_for era (event_of due rule) (call_after due index rule chain).lines ≡ given_by (pays era (era_reward_of params)) (event_of due rule) chain.eras
+paid_rule era params None index rule chain is follows =
+    follows.paid era index ∙ ap (λ (ps : Option Params). given_by (pays era (era_reward_of ps)) rule.events chain.eras) is
+paid_rule era params (Some refusal) index rule chain is follows = refl
 
-told_payout : (chain : Chain) (era : ℕ) (validator : AccountId) → told_paid (payout_told chain era validator) ≡ (payout_now chain era validator).total
-told_payout chain era validator = told_lines (payout_now chain era validator).lines ∙ sym (payout_sums chain.eras era validator (era_reward_of chain.params))
+paid_call : (era : ℕ) (params : Option Params) (index : ℕ) (call : Call) (chain : Chain) → chain.params ≡ params
+    → paid_by era index call chain ≡ given_by (pays era (era_reward_of params)) (events_at call chain) chain.eras
+paid_call era params index call chain is = paid_rule era params (rule_for chain call).refusal index (rule_for chain call) chain is (lawful_call call chain).eras
 
-paid_kind : (era index : ℕ) (chain : Chain) (who : AccountId) (kind : CallKind) (reward : ℕ) → era_reward_of chain.params ≡ reward
-    → paid_for era kind (lines.CallOk index ∷ told_of chain who kind) ≡ given_by (pays era reward) (event_of_kind kind) chain.eras
-unfolding told_of
-paid_kind era index chain who (kinds.Payout other validator) reward is =
-    subst (λ r. paid_for era (kinds.Payout other validator) (lines.CallOk index ∷ payout_told chain other validator) ≡ given_by (pays era r) (Paid other validator ∷ []) chain.eras) is (at (other == era)) where
-      sum : told_paid (lines.CallOk index ∷ payout_told chain other validator) ≡ (payout_now chain other validator).total
-      sum = sum_by-cons amount_paid (lines.CallOk index) (payout_told chain other validator) ∙ omega (arith, told_payout chain other validator)
+taken_rule : (era : ℕ) (who : AccountId) (due : Option Refusal) (index : ℕ) (rule : CallRule) (chain : Chain) → FollowsEvents chain rule
+    → taken_for era who (event_of due rule) (call_after due index rule chain).lines ≤ given_by (makes_due era who) (event_of due rule) chain.eras
+taken_rule era who None index rule chain follows = follows.taken era who index
+taken_rule era who (Some refusal) index rule chain follows = omega arith
 
-      at : (b : Bool) → (if b then told_paid (lines.CallOk index ∷ payout_told chain other validator) else 0) ≡ (if b then (payout_now chain other validator).total else 0) + 0
-      at true = omega (arith, sum)
-      at false = refl
-paid_kind era index chain who (kinds.Transfer to value) reward is = refl
-paid_kind era index chain who (kinds.Bond value) reward is = refl
-paid_kind era index chain who (kinds.BondExtra value) reward is = refl
-paid_kind era index chain who (kinds.Unbond value) reward is = refl
-paid_kind era index chain who (kinds.Rebond value) reward is = refl
-paid_kind era index chain who kinds.Withdraw reward is = refl
-paid_kind era index chain who (kinds.Nominate targets) reward is = refl
-paid_kind era index chain who (kinds.Validate commission) reward is = refl
-paid_kind era index chain who kinds.Chill reward is = refl
-paid_kind era index chain who (kinds.Rebag whom) reward is = refl
-paid_kind era index chain who (kinds.PutInFront lighter) reward is = refl
-paid_kind era index chain who (kinds.Submit round claim bytes) reward is = refl
-paid_kind era index chain who (kinds.Points items) reward is = refl
-paid_kind era index chain who (kinds.Offence other validator fraction) reward is = refl
-
-either_nothing : (b : Bool) → (if b then 0 else 0) ≡ zero
-either_nothing true = refl
-either_nothing false = refl
-
-refused_paid : (era index code : ℕ) (kind : CallKind) → paid_for era kind (lines.CallRefused index code ∷ []) ≡ 0
-refused_paid era index code (kinds.Payout other validator) = either_nothing (other == era)
-refused_paid era index code (kinds.Transfer to value) = refl
-refused_paid era index code (kinds.Bond value) = refl
-refused_paid era index code (kinds.BondExtra value) = refl
-refused_paid era index code (kinds.Unbond value) = refl
-refused_paid era index code (kinds.Rebond value) = refl
-refused_paid era index code kinds.Withdraw = refl
-refused_paid era index code (kinds.Nominate targets) = refl
-refused_paid era index code (kinds.Validate commission) = refl
-refused_paid era index code kinds.Chill = refl
-refused_paid era index code (kinds.Rebag whom) = refl
-refused_paid era index code (kinds.PutInFront lighter) = refl
-refused_paid era index code (kinds.Submit round claim bytes) = refl
-refused_paid era index code (kinds.Points items) = refl
-refused_paid era index code (kinds.Offence other validator fraction) = refl
-
-paid_call : (era : ℕ) (params : Option Params) (due : Option Refusal) (index : ℕ) (call : Call) (chain : Chain) → chain.params ≡ params
-    → paid_for era call.kind (call_after due index call chain).lines ≡ given_by (pays era (era_reward_of params)) (event_of due call.kind) chain.eras
-paid_call era params None index call chain is = paid_kind era index chain call.who call.kind (era_reward_of params) (ap era_reward_of is)
-paid_call era params (Some refusal) index call chain is = refused_paid era index (code_of refusal) call.kind
-
--- ## What offences make due, and what they take
-
-due_kind : (era : ℕ) (who : AccountId) (kind : CallKind) (chain : Chain) → due_of_kind era who kind chain ≡ given_by (makes_due era who) (event_of_kind kind) chain.eras
-due_kind era who (kinds.Offence other validator fraction) chain = omega arith
-due_kind era who (kinds.Transfer to value) chain = refl
-due_kind era who (kinds.Bond value) chain = refl
-due_kind era who (kinds.BondExtra value) chain = refl
-due_kind era who (kinds.Unbond value) chain = refl
-due_kind era who (kinds.Rebond value) chain = refl
-due_kind era who kinds.Withdraw chain = refl
-due_kind era who (kinds.Nominate targets) chain = refl
-due_kind era who (kinds.Validate commission) chain = refl
-due_kind era who kinds.Chill chain = refl
-due_kind era who (kinds.Rebag whom) chain = refl
-due_kind era who (kinds.PutInFront lighter) chain = refl
-due_kind era who (kinds.Submit round claim bytes) chain = refl
-due_kind era who (kinds.Points items) chain = refl
-due_kind era who (kinds.Payout other validator) chain = refl
-
-due_call : (era : ℕ) (who : AccountId) (due : Option Refusal) (kind : CallKind) (chain : Chain) → due_of era who due kind chain ≡ given_by (makes_due era who) (event_of due kind) chain.eras
-due_call era who None kind chain = due_kind era who kind chain
-due_call era who (Some refusal) kind chain = refl
-
--- the lines of one slash
-told_slash : (who of : AccountId) (taken amount : ℕ) → taken ≤ amount → told_taken who (slash_told of taken) ≤ cond (same_account of who) amount 0
-told_slash who of taken amount less = at (taken == 0) where
-  one : (b : Bool) → cond b taken 0 + 0 ≤ cond b amount 0
-  one true = omega (arith, less)
-  one false = omega arith
-
-  at : (b : Bool) → told_taken who (if b then [] else lines.Slashed of taken ∷ []) ≤ cond (same_account of who) amount 0
-  at true = omega arith
-  at false = omega (arith, one (same_account of who), sum_by-cons (amount_taken who) (lines.Slashed of taken) [])
-
-told_slashes : (who : AccountId) (dues : List Backer) (chain : Chain) → told_taken who (slashes dues chain).lines ≤ sum_by (λ (l : Backer). cond (same_account l.who who) l.amount 0) dues
-told_slashes who [] chain = omega arith
-told_slashes who (due ∷ more) chain =
-    let taken : ℕ = slash_amount (row_at chain.book due.who) due.amount in
-    let next : Chain = slashed_once due chain in
-    let less : taken ≤ due.amount = omega arith in
-    omega (
-      arith,
-      told_slash who due.who taken due.amount less,
-      told_slashes who more next,
-      sum_by-append (amount_taken who) (slash_told due.who taken) (slashes more next).lines,
-      sum_by-cons (λ (l : Backer). cond (same_account l.who who) l.amount 0) due more,
-    )
-
-taken_kind : (era : ℕ) (who : AccountId) (index : ℕ) (chain : Chain) (by : AccountId) (kind : CallKind)
-    → taken_for era who kind (lines.CallOk index ∷ told_of chain by kind) ≤ due_of_kind era who kind chain
-unfolding told_of
-taken_kind era who index chain by (kinds.Offence other validator fraction) = at (other == era) where
-  dues : List Backer
-  dues = slash_in chain.eras other validator fraction
-
-  at : (b : Bool) → (if b then told_taken who (lines.CallOk index ∷ offence_told chain other validator fraction) else 0)
-      ≤ (if b then amount_for who (slash_in chain.eras other validator fraction) else 0)
-  at true =
-      omega (
-        arith,
-        told_slashes who dues chain,
-        for_sum who dues,
-        sum_by-cons (amount_taken who) (lines.CallOk index) (offence_told chain other validator fraction),
-      )
-  at false = omega arith
-taken_kind era who index chain by (kinds.Transfer to value) = omega arith
-taken_kind era who index chain by (kinds.Bond value) = omega arith
-taken_kind era who index chain by (kinds.BondExtra value) = omega arith
-taken_kind era who index chain by (kinds.Unbond value) = omega arith
-taken_kind era who index chain by (kinds.Rebond value) = omega arith
-taken_kind era who index chain by kinds.Withdraw = omega arith
-taken_kind era who index chain by (kinds.Nominate targets) = omega arith
-taken_kind era who index chain by (kinds.Validate commission) = omega arith
-taken_kind era who index chain by kinds.Chill = omega arith
-taken_kind era who index chain by (kinds.Rebag whom) = omega arith
-taken_kind era who index chain by (kinds.PutInFront lighter) = omega arith
-taken_kind era who index chain by (kinds.Submit round claim bytes) = omega arith
-taken_kind era who index chain by (kinds.Points items) = omega arith
-taken_kind era who index chain by (kinds.Payout other validator) = omega arith
-
-refused_taken : (era : ℕ) (who : AccountId) (index code : ℕ) (kind : CallKind) → taken_for era who kind (lines.CallRefused index code ∷ []) ≡ 0
-refused_taken era who index code (kinds.Offence other validator fraction) = either_nothing (other == era)
-refused_taken era who index code (kinds.Payout other validator) = refl
-refused_taken era who index code (kinds.Transfer to value) = refl
-refused_taken era who index code (kinds.Bond value) = refl
-refused_taken era who index code (kinds.BondExtra value) = refl
-refused_taken era who index code (kinds.Unbond value) = refl
-refused_taken era who index code (kinds.Rebond value) = refl
-refused_taken era who index code kinds.Withdraw = refl
-refused_taken era who index code (kinds.Nominate targets) = refl
-refused_taken era who index code (kinds.Validate commission) = refl
-refused_taken era who index code kinds.Chill = refl
-refused_taken era who index code (kinds.Rebag whom) = refl
-refused_taken era who index code (kinds.PutInFront lighter) = refl
-refused_taken era who index code (kinds.Submit round claim bytes) = refl
-refused_taken era who index code (kinds.Points items) = refl
-
-taken_call : (era : ℕ) (who : AccountId) (due : Option Refusal) (index : ℕ) (call : Call) (chain : Chain)
-    → taken_for era who call.kind (call_after due index call chain).lines ≤ due_of era who due call.kind chain
-taken_call era who None index call chain = taken_kind era who index chain call.who call.kind
-taken_call era who (Some refusal) index call chain = omega (arith, refused_taken era who index (code_of refusal) call.kind)
+taken_call : (era : ℕ) (who : AccountId) (index : ℕ) (call : Call) (chain : Chain) → taken_by era who index call chain ≤ due_by era who index call chain
+taken_call era who index call chain = taken_rule era who (rule_for chain call).refusal index (rule_for chain call) chain (lawful_call call chain).eras
 
 module _ (less more : ℕ → Call → Chain → ℕ) (each : (index : ℕ) (call : Call) (chain : Chain) → less index call chain ≤ more index call chain) where
   fewer_calls : (index : ℕ) (calls : List Call) (chain : Chain) → over_calls less index calls chain ≤ over_calls more index calls chain
@@ -228,8 +83,8 @@ module _ (less more : ℕ → Call → Chain → ℕ) (each : (index : ℕ) (cal
   fewer_blocks chain (block ∷ rest) = omega (arith, fewer_calls 0 block.calls (before_calls chain), fewer_blocks (step chain block).state rest)
 
 pub taken_law : TakenLaw
-taken_law genesis blocks era who sound fit =
-    fewer_blocks (taken_by era who) (due_by era who) (λ index call chain. taken_call era who (refusal_of chain call.who call.kind) index call chain) (genesis_chain genesis) blocks
+taken_law genesis blocks era who history =
+    fewer_blocks (taken_by era who) (due_by era who) (taken_call era who) (genesis_chain genesis) blocks
 
 -- ## One slash
 
@@ -289,22 +144,22 @@ taken_each (due ∷ more) chain live =
       slash_amount (row_at chain.book due.who) due.amount,
       slashed due.who due.amount chain.book,
       (slashes more next).lines,
-      taken_once due chain.book live.balanced,
+      taken_once due chain.book live.books.balanced,
       refl,
       taken_each more next (slashed_live due chain live),
     )
 
 -- the chain in the midst of a block is live
-live_at : (genesis : Genesis) (blocks : List Block) (calls : List Call) → genesis_fault genesis ≡ None → FitsBehind genesis blocks → IsLive (chain_at genesis blocks calls)
-live_at genesis blocks calls sound fit =
-    let chain : Chain = after_blocks (genesis_chain genesis) blocks in
-    live_calls 0 calls (before_calls chain) (live_before chain (live_blocks (genesis_chain genesis) blocks (live_begun genesis sound) fit))
+live_at : (chain : Chain) (blocks : List Block) (calls : List Call) → CanTake chain blocks → IsLive (chain_at chain blocks calls)
+live_at chain blocks calls can =
+    let last : Chain = after_blocks chain blocks in
+    live_calls 0 calls (before_calls last) (live_before last (live_blocks chain blocks can.between.live can.fit))
 
 pub slash_law : SlashLaw
-unfolding told_of done_of
-slash_law genesis blocks calls who era validator fraction sound fit free =
-    let chain : Chain = chain_at genesis blocks calls in
-    taken_each (slash_in chain.eras era validator fraction) chain (live_at genesis blocks calls sound fit)
+unfolding rule_of
+slash_law chain blocks calls can who era validator fraction free =
+    let now : Chain = chain_at chain blocks calls in
+    taken_each (slash_in now.eras era validator fraction) now (live_at chain blocks calls can)
 
 -- ## From the genesis on
 
@@ -319,13 +174,13 @@ nobody_twice = tt
 module _ (packed : PackedYesIsAccepting) (plain : PlainYesIsPassing) (fill : EveryFillPasses) where
   -- the story of a genesis with params
   full_story : (endowments : List Endowment) (params : Params) (blocks : List Block)
-      → genesis_fault (geneses.Full endowments params) ≡ None → FitsBehind (geneses.Full endowments params) blocks
+      → IsHistory (geneses.Full endowments params) blocks
       → IsStory params (after_blocks (genesis_chain (geneses.Full endowments params)) blocks) (seated_by (genesis_chain (geneses.Full endowments params)) blocks)
       (events_by (genesis_chain (geneses.Full endowments params)) blocks)
-  full_story endowments params blocks sound fit =
+  full_story endowments params blocks history =
       let first : Chain = genesis_chain (geneses.Full endowments params) in
-      let live : IsLive first = live_begun (geneses.Full endowments params) sound in
-      story_blocks params packed plain fill live.params first blocks [] [] live fit (record {
+      let live : IsLive first = live_begun (geneses.Full endowments params) history.faultless in
+      story_blocks params packed plain fill live.params first blocks [] [] live history.fit (record {
         between = record {
           params_are = refl;
           timely = tt;
@@ -354,42 +209,42 @@ module _ (packed : PackedYesIsAccepting) (plain : PlainYesIsPassing) (fill : Eve
       ∙ ap (after_all (events_by (step chain block).state more)) (eras_block chain block)
       ∙ eras_blocks (step chain block).state more
 
-  accepted_from : (genesis : Genesis) (blocks : List Block) → genesis_fault genesis ≡ None → FitsBehind genesis blocks → AreAccepted (events_by (genesis_chain genesis) blocks) first_era
-  accepted_from (geneses.Plain endowments) blocks sound fit = plain_accepted (genesis_chain (geneses.Plain endowments)) blocks refl
-  accepted_from (geneses.Full endowments params) blocks sound fit = (full_story endowments params blocks sound fit).accepted
+  accepted_from : (genesis : Genesis) (blocks : List Block) → IsHistory genesis blocks → AreAccepted (events_by (genesis_chain genesis) blocks) first_era
+  accepted_from (geneses.Plain endowments) blocks history = plain_accepted (genesis_chain (geneses.Plain endowments)) blocks refl
+  accepted_from (geneses.Full endowments params) blocks history = (full_story endowments params blocks history).accepted
 
   pub history_law : HistoryLaw
-  history_law genesis blocks sound fit = (accepted_from genesis blocks sound fit, eras_blocks (genesis_chain genesis) blocks)
+  history_law genesis blocks history = (accepted_from genesis blocks history, eras_blocks (genesis_chain genesis) blocks)
 
   pub once_law : OnceLaw
   unfolding IsDistinct
-  once_law (geneses.Plain endowments) blocks sound fit =
+  once_law (geneses.Plain endowments) blocks history =
       subst (λ (elections : List Election). IsDistinct same_round elections) (sym (plain_seated (genesis_chain (geneses.Plain endowments)) blocks refl)) tt
-  once_law (geneses.Full endowments params) blocks sound fit = (full_story endowments params blocks sound fit).between.once
+  once_law (geneses.Full endowments params) blocks history = (full_story endowments params blocks history).between.once
 
-  pub rewards_law : RewardLaw
-  rewards_law genesis blocks era sound fit =
+  pub rewards_law : PaidWithinRewardLaw
+  rewards_law genesis blocks era history =
       let params : Option Params = params_of genesis in
       let sum : paid_in era genesis blocks ≡ given_by (pays era (era_reward_of params)) (events_by (genesis_chain genesis) blocks) first_era =
-      sum_blocks params (paid_by era) (pays era (era_reward_of params)) (λ index call chain is. paid_call era params (refusal_of chain call.who call.kind) index call chain is) (λ exposures eras. refl)
+      sum_blocks params (paid_by era) (pays era (era_reward_of params)) (paid_call era params) (λ exposures eras. refl)
       (genesis_chain genesis) blocks refl in
-      omega (arith, sum, reward_law era (era_reward_of params) (events_by (genesis_chain genesis) blocks) (accepted_from genesis blocks sound fit))
+      omega (arith, sum, reward_law era (era_reward_of params) (events_by (genesis_chain genesis) blocks) (accepted_from genesis blocks history))
 
-  covered_from : (genesis : Genesis) (blocks : List Block) (era : ℕ) (who : AccountId) → genesis_fault genesis ≡ None → FitsBehind genesis blocks
+  covered_from : (genesis : Genesis) (blocks : List Block) (era : ℕ) (who : AccountId) → IsHistory genesis blocks
       → exposed_for who (exposures_of era (events_by (genesis_chain genesis) blocks)) ≤ stake_behind who (elected_for era (seated_by (genesis_chain genesis) blocks))
-  covered_from (geneses.Plain endowments) blocks era who sound fit =
+  covered_from (geneses.Plain endowments) blocks era who history =
       let none : exposed_for who (exposures_of era (events_by (genesis_chain (geneses.Plain endowments)) blocks)) ≡ 0 =
       ap (λ (es : List (List Exposure)). exposed_for who (unwrap_or (slice_get ([] ∷ es) era) [])) (plain_begun (genesis_chain (geneses.Plain endowments)) blocks refl) ∙ no_exposure who era in
       omega (arith, none)
-  covered_from (geneses.Full endowments params) blocks era who sound fit = (full_story endowments params blocks sound fit).covered who era
+  covered_from (geneses.Full endowments params) blocks era who history = (full_story endowments params blocks history).covered who era
 
-  pub dues_law : DueLaw
-  dues_law genesis blocks era who sound fit =
+  pub dues_law : DueWithinStakeLaw
+  dues_law genesis blocks era who history =
       let events : List Event = events_by (genesis_chain genesis) blocks in
       let sum : due_in era who genesis blocks ≡ given_by (makes_due era who) events first_era =
-      sum_blocks (params_of genesis) (due_by era who) (makes_due era who) (λ index call chain is. due_call era who (refusal_of chain call.who call.kind) call.kind chain) (λ exposures eras. refl)
+      sum_blocks (params_of genesis) (due_by era who) (makes_due era who) (λ index call chain is. refl) (λ exposures eras. refl)
       (genesis_chain genesis) blocks refl in
-      omega (arith, sum, due_law era who events (accepted_from genesis blocks sound fit), covered_from genesis blocks era who sound fit)
+      omega (arith, sum, due_law era who events (accepted_from genesis blocks history), covered_from genesis blocks era who history)
 
   -- ## One payout
 
@@ -397,32 +252,25 @@ module _ (packed : PackedYesIsAccepting) (plain : PlainYesIsPassing) (fill : Eve
   abbrev cut : List Call → Block
   cut calls = record { number = 0; calls = calls }
 
-  accepted_block_from : (genesis : Genesis) (blocks : List Block) (calls : List Call) → genesis_fault genesis ≡ None → FitsBehind genesis blocks
+  accepted_block_from : (genesis : Genesis) (blocks : List Block) (calls : List Call) → IsHistory genesis blocks
       → AreAccepted (events_by (genesis_chain genesis) blocks ++ events_in (after_blocks (genesis_chain genesis) blocks) (cut calls)) first_era
-  accepted_block_from (geneses.Plain endowments) blocks calls sound fit =
+  accepted_block_from (geneses.Plain endowments) blocks calls history =
       let first : Chain = genesis_chain (geneses.Plain endowments) in
-      accepted_append (events_by first blocks) (events_in (after_blocks first blocks) (cut calls)) first_era (accepted_from (geneses.Plain endowments) blocks sound fit)
-      (subst (AreAccepted (events_in (after_blocks first blocks) (cut calls))) (sym (eras_blocks first blocks)) (accepted_plain (after_blocks first blocks) (cut calls) (plain_params first blocks refl))) where
-        plain_params : (chain : Chain) (more : List Block) → chain.params ≡ None → (after_blocks chain more).params ≡ None
-        plain_params chain [] none = none
-        plain_params chain (block ∷ more) none = plain_params (step chain block).state more (params_step chain block ∙ none)
-  accepted_block_from (geneses.Full endowments params) blocks calls sound fit =
+      accepted_append (events_by first blocks) (events_in (after_blocks first blocks) (cut calls)) first_era (accepted_from (geneses.Plain endowments) blocks history)
+      (subst (AreAccepted (events_in (after_blocks first blocks) (cut calls))) (sym (eras_blocks first blocks)) (accepted_plain (after_blocks first blocks) (cut calls) (params_blocks first blocks)))
+  accepted_block_from (geneses.Full endowments params) blocks calls history =
       let first : Chain = genesis_chain (geneses.Full endowments params) in
-      let live : IsLive first = live_begun (geneses.Full endowments params) sound in
-      story_accepted params packed plain fill live.params (after_blocks first blocks) (cut calls) (seated_by first blocks) (events_by first blocks) (live_blocks first blocks live fit)
-      (full_story endowments params blocks sound fit)
-
-  params_blocks : (chain : Chain) (blocks : List Block) → (after_blocks chain blocks).params ≡ chain.params
-  params_blocks chain [] = refl
-  params_blocks chain (block ∷ more) = params_blocks (step chain block).state more ∙ params_step chain block
+      let live : IsLive first = live_begun (geneses.Full endowments params) history.faultless in
+      story_accepted params packed plain fill live.params (after_blocks first blocks) (cut calls) (seated_by first blocks) (events_by first blocks) (live_blocks first blocks live history.fit)
+      (full_story endowments params blocks history)
 
   minted_all : (lines_of : List Backer) (book : Ledger) → (all_minted lines_of book).minted ≡ book.minted + amount_sum lines_of
   minted_all [] book = omega arith
   minted_all (line ∷ more) book = omega (arith, minted_all more (minted_free line.who line.amount book), sum_by-cons (λ (l : Backer). l.amount) line more)
 
-  pub payout_law : PayoutLaw
-  unfolding refusal_of done_of told_of
-  payout_law genesis blocks calls who era validator sound fit free = record {
+  pub payout_law : PaidAsToldLaw
+  unfolding rule_of
+  payout_law genesis blocks calls history who era validator free = record {
     told = told_payout chain era validator;
     minted = minted_all (payout_now chain era validator).lines chain.book
         ∙ ap (λ n. chain.book.minted + n) (sym (payout_sums chain.eras era validator (era_reward_of chain.params)));
@@ -435,10 +283,10 @@ module _ (packed : PackedYesIsAccepting) (plain : PlainYesIsPassing) (fill : Eve
     before = after_blocks (genesis_chain genesis) blocks
 
     chain : Chain
-    chain = chain_at genesis blocks calls
+    chain = chain_at (genesis_chain genesis) blocks calls
 
     reward : ℕ
-    reward = era_reward_of (chain_at genesis blocks calls).params
+    reward = era_reward_of (chain_at (genesis_chain genesis) blocks calls).params
 
     events : List Event
     events = events_by (genesis_chain genesis) blocks ++ events_in (after_blocks (genesis_chain genesis) blocks) (cut calls)
@@ -451,7 +299,7 @@ module _ (packed : PackedYesIsAccepting) (plain : PlainYesIsPassing) (fill : Eve
 
     accepted : AreAccepted (events ++ Paid era validator ∷ []) first_era
     accepted =
-        accepted_append events (Paid era validator ∷ []) first_era (accepted_block_from genesis blocks calls sound fit)
+        accepted_append events (Paid era validator ∷ []) first_era (accepted_block_from genesis blocks calls history)
         (subst (AreAccepted (Paid era validator ∷ [])) (sym eras_are) (payout_free chain era validator free, tt))
 
     itself : (n : ℕ) → cond (nat_eq era era) n 0 ≡ n

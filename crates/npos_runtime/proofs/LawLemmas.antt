@@ -16,32 +16,32 @@ use Rattle.npos_runtime.specs.declared.round.Round.{Round}
 use Rattle.npos_runtime.specs.declared.round.Round.TheVariants as rounds
 use Rattle.chain_params.specs.Rules.{era_of, is_decision, place_of, begun_round}
 use Rattle.npos_runtime.specs.Rounds.{round_after, round_phase}
-use Rattle.npos_runtime.specs.Genesis.{genesis_chain}
 use Rattle.round_decision.specs.Decision.{others, decided_weights}
 use Rattle.npos_runtime.specs.Deciding.{decision_of, decision_phase}
 use Rattle.npos_runtime.specs.Outcome.{Election, Outcome, quiet}
-use Rattle.npos_runtime.specs.Calls.{refusal_of}
-use Rattle.npos_runtime.specs.Step.{era_phase, call_after, call_outcome, calls_outcome, step, seated_by}
+use Rattle.npos_runtime.specs.CallRule.{CallRule}
+use Rattle.npos_runtime.specs.Calls.{rule_for}
+use Rattle.npos_runtime.specs.Step.{before_calls, era_phase, call_after, call_outcome, calls_outcome, step, seated_by}
 use Rattle.npos_runtime.specs.Live.{IsLive, IsSoundRound}
 use Rattle.chain_params.specs.Faults.{AreSound}
-use Rattle.npos_runtime.specs.Laws.{IsSound, SoundStepLaw, SoundLaw, SeatsLaw, HeldLaw}
+use Rattle.npos_runtime.specs.Laws.{IsSound, SoundStepLaw, SeatedSoundLaw, SeatsLaw, HeldLaw}
 use Rattle.round_decision.proofs.VerdictLemmas.{decided_passes}
-use Rattle.npos_runtime.proofs.BeginLemmas.{live_begun}
-use Rattle.npos_runtime.specs.Offers.{before_calls}
 use Rattle.chain_params.proofs.PhaseLemmas.{phases_sound}
-use Rattle.npos_runtime.proofs.LiveLemmas.{live_era, live_round, live_step, live_blocks, due_step, fixed_calls}
+use Rattle.npos_runtime.proofs.PhaseTable.{live_era, live_round}
+use Rattle.npos_runtime.proofs.LiveLemmas.{live_step, live_blocks, due_step, fixed_calls}
 
 -- ## Calls seat nobody
 
-seats_after : (due : Option Refusal) (index : ℕ) (call : Call) (chain : Chain) → (call_after due index call chain).seated ≡ []
-seats_after None index call chain = refl
-seats_after (Some refusal) index call chain = refl
+seats_after : (due : Option Refusal) (index : ℕ) (rule : CallRule) (chain : Chain) → (call_after due index rule chain).seated ≡ []
+seats_after None index rule chain = refl
+seats_after (Some refusal) index rule chain = refl
 
 seats_calls : (index : ℕ) (calls : List Call) (chain : Chain) → (calls_outcome index calls chain).seated ≡ []
 seats_calls index [] chain = refl
 seats_calls index (call ∷ calls) chain =
-    ap (λ (es : List Election). es ++ (calls_outcome (index + 1) calls (call_outcome index call chain).state).seated) (seats_after (refusal_of chain call.who call.kind) index call chain)
-    ∙ seats_calls (index + 1) calls (call_outcome index call chain).state
+    let next : Chain = (call_outcome index call chain).state in
+    ap (λ (es : List Election). es ++ (calls_outcome (index + 1) calls next).seated) (seats_after (rule_for chain call).refusal index (rule_for chain call) chain)
+    ∙ seats_calls (index + 1) calls next
 
 -- what the step seats is what its decision seats
 abbrev pub undecided : Chain → Chain
@@ -49,9 +49,11 @@ undecided chain = (round_phase (era_phase chain).state).state
 
 pub seats_step : (chain : Chain) (block : Block) → (step chain block).seated ≡ (decision_phase (undecided chain)).seated
 seats_step chain block =
-    append-nil ((decision_phase (undecided chain)).seated ++ (calls_outcome 0 block.calls (before_calls chain)).seated)
-    ∙ (ap (λ (es : List Election). (decision_phase (undecided chain)).seated ++ es) (seats_calls 0 block.calls (before_calls chain))
-    ∙ append-nil (decision_phase (undecided chain)).seated)
+    let decision : List Election = (decision_phase (undecided chain)).seated in
+    let calls : List Election = (calls_outcome 0 block.calls (before_calls chain)).seated in
+    (λ i. append-nil decision i ++ append-nil calls i)
+    ∙ ap (λ (es : List Election). decision ++ es) (seats_calls 0 block.calls (before_calls chain))
+    ∙ append-nil decision
 
 -- ## Every committee is sound
 
@@ -60,13 +62,13 @@ module _ (packed : PackedYesIsAccepting) (plain : PlainYesIsPassing) (fill : Eve
   sound_of None chain sound = All-nil IsSound
   sound_of (Some (rounds.Void number)) chain sound = All-nil IsSound
   sound_of (Some (rounds.Open number snapshot commissions)) chain sound =
-      let passes = decided_passes packed fill plain snapshot chain.queue.items sound in
+      let passes = decided_passes packed fill plain snapshot chain.queue.items sound.0 in
       let weights = decided_weights snapshot (others snapshot chain.queue.items) in
       All-cons IsSound (record { round = number; snapshot = snapshot; weights = weights }) [] (record {
-        well_formed = sound;
+        well_formed = sound.0;
         feasible = passes.feasible;
         passes = passes;
-        proportional = averaging snapshot weights sound passes;
+        proportional = averaging snapshot weights sound.0 passes;
       })
       (All-nil IsSound)
 
@@ -87,8 +89,8 @@ module _ (packed : PackedYesIsAccepting) (plain : PlainYesIsPassing) (fill : Eve
       All-append IsSound (step chain block).seated (seated_by (step chain block).state more) (sound_step chain block live)
       (sound_blocks (step chain block).state more (live_step chain block live (omega (arith, fit))) (omega (arith, fit, due_step chain block)))
 
-  pub sound_all : SoundLaw
-  sound_all genesis blocks sound fit = sound_blocks (genesis_chain genesis) blocks (live_begun genesis sound) fit
+  pub sound_all : SeatedSoundLaw
+  sound_all chain blocks can = sound_blocks chain blocks can.between.live can.fit
 
 -- ## A round that is not void seats a committee
 
@@ -100,22 +102,20 @@ not_begun (Some params) number sound is = at (place_of params number == params.o
   at true e = absurd (let some = (phases_sound params sound).0 in grind (arith, nat_tests))
   at false e = refl
 
--- the decision of a round that is not void
-pub decides : (chain : Chain) (number : ℕ) (snapshot : Snapshot) (commissions : List ℕ) → IsLive chain
-    → is_decision chain.params chain.due ≡ true → chain.round ≡ Some (rounds.Open number snapshot commissions)
-    → decision_phase (undecided chain) ≡ decision_of (Some (rounds.Open number snapshot commissions)) (undecided chain)
-decides chain number snapshot commissions live is stands =
-    let last : (undecided chain).round ≡ Some (rounds.Open number snapshot commissions) =
-    ap (round_after (era_phase chain).state) (not_begun chain.params chain.due live.params is) ∙ stands in
+-- the decision is that of the round which stood before the block
+pub decides : (chain : Chain) (round : Option Round) → IsLive chain → is_decision chain.params chain.due ≡ true → chain.round ≡ round
+    → decision_phase (undecided chain) ≡ decision_of round (undecided chain)
+decides chain round live is stands =
+    let last : (undecided chain).round ≡ round = ap (round_after (era_phase chain).state) (not_begun chain.params chain.due live.params is) ∙ stands in
     (λ i. if is i then decision_of (undecided chain).round (undecided chain) else quiet (undecided chain))
     ∙ ap (λ round. decision_of round (undecided chain)) last
 
 pub seats : SeatsLaw
 seats chain block number snapshot commissions live is stands =
-    let phase = decides chain number snapshot commissions live is stands in (
+    let phase = decides chain (Some (rounds.Open number snapshot commissions)) live is stands in (
       (fixed_calls 0 block.calls (before_calls chain)).waiting ∙ ap (λ (o : Outcome). o.state.waiting) phase,
       seats_step chain block ∙ ap (λ (o : Outcome). o.seated) phase,
     )
 
 pub held_after : HeldLaw
-held_after genesis blocks who sound fit = (live_blocks (genesis_chain genesis) blocks (live_begun genesis sound) fit).deposits.held who
+held_after chain blocks who can = (live_blocks chain blocks can.between.live can.fit).books.deposits.held who

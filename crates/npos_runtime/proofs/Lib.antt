@@ -11,6 +11,15 @@ pub mod VoidLemmas
 pub mod EraLemmas
 pub mod OfficeLemmas
 pub mod ExposureLemmas
+pub mod PartLemmas
+pub mod RuleLemmas
+pub mod BookCallLemmas
+pub mod ListCallLemmas
+pub mod SubmitCallLemmas
+pub mod OfficeCallLemmas
+pub mod CallTable
+pub mod FairLemmas
+pub mod PhaseTable
 pub mod LiveLemmas
 pub mod EndowLemmas
 pub mod BeginLemmas
@@ -22,6 +31,9 @@ pub mod SubmitLemmas
 pub mod FateLemmas
 pub mod LawLemmas
 pub mod CrowdingLemmas
+pub mod TimeLemmas
+pub mod DepositsLemmas
+pub mod SeatingsLemmas
 pub mod HistoryLemmas
 pub mod ElectedLemmas
 pub mod SeatedLemmas

@@ -22,7 +22,7 @@ use Rattle.voter_lists.specs.Roles.{RoleList, role_in, role_of, standing_of, wit
 use Rattle.voter_lists.proofs.ValidatorLemmas.{ranked_left, ranked_nominating, ranked_validating}
 use Rattle.npos_base.specs.declared.limits.TheConstants.{WHOLE_FRACTION}
 use Rattle.npos_runtime.specs.Ballots.{commission_in}
-use Rattle.npos_runtime.specs.Live.{IsNomination}
+use Rattle.npos_runtime.specs.Live.{IsNomination, AreRoles}
 
 pub apart_from : (who q : AccountId) → same_account who q ≡ false → q ≢ who
 apart_from who q e = λ same. true≢false (sym (same_itself who) ∙ ap (λ (a : AccountId). same_account who a) (sym same) ∙ e)
@@ -78,12 +78,6 @@ module _ (who : AccountId) where
     at true rest = s.1
     at false rest = (all_without (λ y. account_cmp row.0 y ≡ Less) rows s.0, rest)
 
--- the roles that a chain keeps
-pub record AreKept (roles : RoleList) : Type 0 where
-  pub ranked : AreRanked roles (validators_of roles)
-  pub nominations : (who : AccountId) → IsNomination (nominated_by roles who)
-  pub commissions : (who : AccountId) → commission_in (role_of roles who) ≤ WHOLE_FRACTION
-
 no_targets : IsNomination []
 no_targets = record { few = omega arith; distinct = refl }
 
@@ -103,7 +97,7 @@ commissions_rest old new who others all here q = by_account who q
     (λ same. subst (λ (a : AccountId). commission_in (role_of new a) ≤ WHOLE_FRACTION) same here)
     (λ apart. subst (λ o. commission_in (role_in o) ≤ WHOLE_FRACTION) (sym (others q (apart_from who q apart))) (all q))
 
-pub kept_without : (roles : RoleList) (who : AccountId) → AreKept roles → AreKept (without_role roles who)
+pub kept_without : (roles : RoleList) (who : AccountId) → AreRoles roles → AreRoles (without_role roles who)
 kept_without roles who kept = record {
   ranked = let r = ranked_left who roles (without_role roles who) (validators_of roles) (remove_key (is_at (account_cmp who)) (validators_of roles)) kept.ranked refl (rising_without who roles kept.ranked.rising) refl in
       subst (λ (accounts : List AccountId). AreRanked (without_role roles who) accounts) r.ranked r;
@@ -113,8 +107,8 @@ kept_without roles who kept = record {
       (subst (λ o. commission_in (role_in o) ≤ WHOLE_FRACTION) (sym (standing_without who roles kept.ranked.rising)) none_kept);
 }
 
-pub kept_nominated : (roles : RoleList) (who : AccountId) (targets : List AccountId) → AreKept roles → list_nominate_refusal roles who targets ≡ None
-    → AreKept (with_standing roles who (Nominator targets))
+pub kept_nominated : (roles : RoleList) (who : AccountId) (targets : List AccountId) → AreRoles roles → list_nominate_refusal roles who targets ≡ None
+    → AreRoles (with_standing roles who (Nominator targets))
 kept_nominated roles who targets kept allowed = record {
   ranked = let r = ranked_nominating who targets roles (with_standing roles who (Nominator targets)) (validators_of roles) (remove_key (is_at (account_cmp who)) (validators_of roles)) kept.ranked refl
       (sorted_put account_total who (Nominator targets) roles kept.ranked.rising) refl in
@@ -127,8 +121,8 @@ kept_nominated roles who targets kept allowed = record {
   sound : IsNomination targets
   sound = record { few = grind (arith, common_steps, nat_tests, allowed); distinct = grind (arith, common_steps, allowed) }
 
-pub kept_validating : (roles : RoleList) (who : AccountId) (commission : ℕ) → AreKept roles → list_validate_refusal roles who commission ≡ None
-    → AreKept (with_standing roles who (Validator commission))
+pub kept_validating : (roles : RoleList) (who : AccountId) (commission : ℕ) → AreRoles roles → list_validate_refusal roles who commission ≡ None
+    → AreRoles (with_standing roles who (Validator commission))
 kept_validating roles who commission kept allowed = record {
   ranked = let r = ranked_validating who commission roles (with_standing roles who (Validator commission)) (validators_of roles) (insert_key account_cmp (validators_of roles) who) kept.ranked room refl
       (sorted_put account_total who (Validator commission) roles kept.ranked.rising) refl in

@@ -10,15 +10,12 @@ use Rattle.std.proofs.lemmas.List.Elements.{All-nil, All-cons, All-head, All-tai
 use Rattle.npos_base.specs.declared.account.AccountId.{AccountId}
 use Rattle.block_wire.specs.declared.genesis.Params.{Params}
 use Rattle.block_wire.specs.declared.call.Call.{Call}
-use Rattle.block_wire.specs.declared.call.CallKind.{CallKind}
-use Rattle.block_wire.specs.declared.call.CallKind.TheVariants as kinds
 use Rattle.block_wire.specs.declared.block.Block.{Block}
 use Rattle.election_snapshot.specs.Snapshot.{IsWellFormed}
 use Rattle.election_check.specs.Laws.{PackedYesIsAccepting, PlainYesIsPassing}
 use Rattle.quota_fill.specs.Laws.{EveryFillPasses}
 use Rattle.era_book.specs.Exposures.{AreSound as AreSoundExposures, exposed_for}
 use Rattle.npos_runtime.specs.declared.chain.Chain.{Chain}
-use Rattle.block_receipts.specs.declared.refusal.Refusal.{Refusal}
 use Rattle.npos_runtime.specs.declared.round.Round.{Round}
 use Rattle.npos_runtime.specs.declared.round.Round.TheVariants as rounds
 use Rattle.npos_runtime.specs.Committee.{Committee}
@@ -29,16 +26,15 @@ use Rattle.round_decision.specs.Decision.{others, decided_weights}
 use Rattle.npos_runtime.specs.Deciding.{committee_of, decision_of, decision_phase}
 use Rattle.npos_runtime.specs.Exposed.{exposed}
 use Rattle.npos_runtime.specs.Outcome.{Election, Outcome, quiet}
-use Rattle.npos_runtime.specs.Calls.{refusal_of, done_of}
-use Rattle.npos_runtime.specs.Step.{waiting_after, eras_after, era_phase, call_after, call_outcome, calls_outcome, closed, step}
+use Rattle.npos_runtime.specs.Step.{before_calls, waiting_after, eras_after, era_phase, calls_outcome, closed, step}
 use Rattle.chain_params.specs.Faults.{params_fault}
 use Rattle.npos_runtime.specs.Live.{IsLive, IsSoundRound, IsNotedCommittee}
-use Rattle.npos_runtime.specs.Offers.{before_calls}
 use Rattle.npos_runtime.specs.EraLaws.{elected_for, stake_in, stake_behind}
 use Rattle.chain_params.proofs.PhaseLemmas.{next_place, phases_sound}
 use Rattle.npos_runtime.proofs.EraLemmas.{era_begun}
 use Rattle.npos_runtime.proofs.ElectedLemmas.{IsGiven, follows_rising, exposures_sound, exposures_within, nobody_sound}
-use Rattle.npos_runtime.proofs.LiveLemmas.{live_era, live_round, fixed_calls, due_calls, due_before}
+use Rattle.npos_runtime.proofs.PhaseTable.{live_era, live_round}
+use Rattle.npos_runtime.proofs.LiveLemmas.{fixed_calls, due_calls, due_before}
 use Rattle.npos_runtime.proofs.LawLemmas.{undecided, seats_step}
 use Rattle.round_decision.proofs.VerdictLemmas.{decided_passes}
 
@@ -76,35 +72,6 @@ once_last era (e ∷ es) election within is once = (
   apart_last era e es election (All-head (λ (other : Election). other.round ≤ era) e es within) is once.0,
   once_last era es election (All-tail (λ (other : Election). other.round ≤ era) e es within) is once.1,
 )
-
--- ## Calls leave the round
-
-round_done : (chain : Chain) (who : AccountId) (kind : CallKind) → (done_of chain who kind).round ≡ chain.round
-unfolding done_of
-round_done chain who (kinds.Transfer to value) = refl
-round_done chain who (kinds.Bond value) = refl
-round_done chain who (kinds.BondExtra value) = refl
-round_done chain who (kinds.Unbond value) = refl
-round_done chain who (kinds.Rebond value) = refl
-round_done chain who kinds.Withdraw = refl
-round_done chain who (kinds.Nominate targets) = refl
-round_done chain who (kinds.Validate commission) = refl
-round_done chain who kinds.Chill = refl
-round_done chain who (kinds.Rebag whom) = refl
-round_done chain who (kinds.PutInFront lighter) = refl
-round_done chain who (kinds.Submit round claim bytes) = refl
-round_done chain who (kinds.Points items) = refl
-round_done chain who (kinds.Payout era validator) = refl
-round_done chain who (kinds.Offence era validator fraction) = refl
-
-round_call : (due : Option Refusal) (index : ℕ) (call : Call) (chain : Chain) → (call_after due index call chain).state.round ≡ chain.round
-round_call None index call chain = round_done chain call.who call.kind
-round_call (Some refusal) index call chain = refl
-
-round_calls : (index : ℕ) (calls : List Call) (chain : Chain) → (calls_outcome index calls chain).state.round ≡ chain.round
-round_calls index [] chain = refl
-round_calls index (call ∷ calls) chain =
-    round_calls (index + 1) calls (call_outcome index call chain).state ∙ round_call (refusal_of chain call.who call.kind) index call chain
 
 -- ## Who waits was elected
 
@@ -247,7 +214,7 @@ module _ (params : Params) where
             found_it = ap (λ n. elected_for (n + 1) (seated ++ election ∷ [])) current ∙ found_last (era chain.due) seated election past numbered
 
             well_formed : IsWellFormed snapshot
-            well_formed = subst IsSoundRound is sound
+            well_formed = (subst IsSoundRound is sound).0
 
             given : IsGiven committee
             given =
@@ -276,7 +243,7 @@ module _ (params : Params) where
         record {
           params_are = fixed.params ∙ h.params_are;
           timely = subst (λ (due : ℕ). IsTimely params.offset end_place due (calls_outcome 0 calls chain).state.round) (sym fixed.due)
-              (subst (λ (r : Option Round). IsTimely params.offset end_place chain.due r) (sym (round_calls 0 calls chain)) h.timely);
+              (subst (λ (r : Option Round). IsTimely params.offset end_place chain.due r) (sym fixed.round) h.timely);
           waits = subst (λ (n : ℕ). Waits (calls_outcome 0 calls chain).state.waiting (elected_for (n + 1) seated)) (sym fixed.era)
               (subst (λ (w : Option Committee). Waits w (elected_for (chain.eras.current + 1) seated)) (sym fixed.waiting) h.waits);
           latest = subst (λ (due : ℕ). All (λ (e : Election). e.round ≤ era due + 1) seated) (sym fixed.due) h.latest;
@@ -334,9 +301,9 @@ module _ (params : Params) where
         let before : Chain = undecided chain in
         let live_before : IsLive before = live_round (era_phase chain).state (live_era chain live) in
         let begun : before.eras.current ≡ era before.due =
-        era_begun chain.eras chain.waiting chain.params chain.due live.params live.due_at_least current ∙ ap (λ (ps : Option Params). era_of ps chain.due) h.params_are in
+        era_begun chain.eras chain.waiting chain.params chain.due live.params live.due.at_least current ∙ ap (λ (ps : Option Params). era_of ps chain.due) h.params_are in
         let decided = decides_it before seated (begins (era_phase chain).state seated (starts chain seated h)) live_before.round begun in
         subst (λ (elections : List Election). IsBetween (step chain block).state (seated ++ elections)) (sym (seats_step chain block))
         (closes (calls_outcome 0 block.calls start).state (seated ++ (decision_phase before).seated) sound
-        (omega (arith, due_calls 0 block.calls start, due_before chain, live.due_at_least))
+        (omega (arith, due_calls 0 block.calls start, due_before chain, live.due.at_least))
         (called block.calls start (seated ++ (decision_phase before).seated) decided))

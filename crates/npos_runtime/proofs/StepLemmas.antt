@@ -73,7 +73,7 @@ pub polled_first : (chain : Chain) (draft : Draft) (ahead : List AccountId) → 
 polled_first chain draft ahead live empty whole =
     subst (λ d. IsPolled chain d ahead) (sym empty)
     (subst (λ accounts. IsPolled chain (record { targets = validators_of chain.roles; voters = [] }) accounts) (sym whole)
-    (record { targets = refl; voters = refl; few = omega arith; once = live.listing.once; rest = refl }))
+    (record { targets = refl; voters = refl; few = omega arith; once = live.bags.once; rest = refl }))
 
 -- and at last the whole electorate is
 pub polled_last : (chain : Chain) (draft : Draft) (ahead : List AccountId) → IsPolled chain draft ahead

@@ -19,14 +19,13 @@ use Rattle.npos_runtime.specs.Exposed.{exposed}
 use Rattle.chain_params.specs.Rules.{era_of, begun_era, is_decision}
 use Rattle.npos_runtime.specs.Deciding.{decision_of}
 use Rattle.npos_runtime.specs.Outcome.{Election, quiet}
-use Rattle.npos_runtime.specs.Step.{eras_after, step, after_blocks, seated_by}
+use Rattle.npos_runtime.specs.Step.{before_calls, eras_after, step, after_blocks, seated_by}
 use Rattle.chain_params.specs.Faults.{params_fault}
 use Rattle.npos_runtime.specs.Live.{IsLive}
-use Rattle.npos_runtime.specs.Offers.{before_calls}
 use Rattle.npos_runtime.specs.EraLaws.{started_by, events_in, events_by, elected_for, stake_behind}
-use Rattle.npos_runtime.proofs.LiveLemmas.{live_step, due_step, era_step, fixed_calls, eras_before}
+use Rattle.npos_runtime.proofs.LiveLemmas.{live_step, due_step, era_step, fixed_calls, eras_before, params_step}
 use Rattle.npos_runtime.proofs.LawLemmas.{undecided, seats_step}
-use Rattle.npos_runtime.proofs.HistoryLemmas.{accepted_block, eras_block, begun_block, params_step}
+use Rattle.npos_runtime.proofs.HistoryLemmas.{accepted_block, eras_block, begun_block}
 use Rattle.npos_runtime.proofs.SeatedLemmas.{IsBetween, seated_step, waiting_sound, waiting_within}
 
 -- ## What is exposed in each era

@@ -21,7 +21,7 @@ ejected_held chain item out book live answer is =
     let one : ejected chain.queue item ≡ out ∷ [] = ap put_out answer in
     let held : AreHeld (deposit_held item.who item.deposit chain.book) (ejected chain.queue item ++ (offered chain.queue item).items) =
     held_moved (deposit_held item.who item.deposit chain.book) (item ∷ chain.queue.items) (ejected chain.queue item ++ (offered chain.queue item).items) moved
-    (held_more chain.book item chain.queue.items live.deposits) in
+    (held_more chain.book item chain.queue.items live.books.deposits) in
     held_within book (out ∷ (offered chain.queue item).items) out (offered chain.queue item).items
     (subst (λ (b : Ledger). AreHeld b (out ∷ (offered chain.queue item).items)) (sym is)
     (subst (λ xs. AreHeld (deposit_held item.who item.deposit chain.book) (xs ++ (offered chain.queue item).items)) one held)) refl

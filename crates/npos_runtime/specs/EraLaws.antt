@@ -5,7 +5,6 @@ use Rattle.std.specs.List.{IsDistinct}
 use Rattle.npos_base.specs.declared.account.AccountId.{AccountId}
 use Rattle.npos_base.specs.Account.{same_account}
 use Rattle.block_wire.specs.declared.call.Call.{Call}
-use Rattle.block_wire.specs.declared.call.CallKind.{CallKind}
 use Rattle.block_wire.specs.declared.call.CallKind.TheVariants as kinds
 use Rattle.block_wire.specs.declared.block.Block.{Block}
 use Rattle.block_wire.specs.declared.genesis.Genesis.{Genesis}
@@ -14,10 +13,9 @@ use Rattle.stake_ledger.specs.Chunks.{chunk_sum}
 use Rattle.stake_ledger.specs.Ledger.{Ledger, row_at}
 use Rattle.election_snapshot.specs.Snapshot.{Snapshot}
 use Rattle.era_book.specs.declared.exposure.Backer.{Backer}
-use Rattle.era_book.specs.Exposures.{amount_for}
 use Rattle.era_book.specs.Calls.{slash_in}
 use Rattle.era_book.specs.Eras.{first_era}
-use Rattle.era_book.specs.Events.{Event, Started, Pointed, Paid, Reported, AreAccepted, after_all}
+use Rattle.era_book.specs.Events.{Event, Started, Paid, Reported, AreAccepted, after_all, given_by, makes_due}
 use Rattle.npos_runtime.specs.declared.chain.Chain.{Chain}
 use Rattle.block_receipts.specs.declared.line.Line.{Line}
 use Rattle.block_receipts.specs.declared.line.Line.TheVariants as lines
@@ -26,12 +24,12 @@ use Rattle.npos_runtime.specs.Committee.{Committee}
 use Rattle.npos_runtime.specs.Exposed.{exposed}
 use Rattle.chain_params.specs.Rules.{begun_era, era_reward_of}
 use Rattle.npos_runtime.specs.Outcome.{Election}
-use Rattle.npos_runtime.specs.Genesis.{genesis_fault, genesis_chain, params_of}
-use Rattle.npos_runtime.specs.Calls.{refusal_of, done_of, told_of}
+use Rattle.npos_runtime.specs.Genesis.{genesis_chain, params_of}
+use Rattle.npos_runtime.specs.CallRule.{CallRule}
+use Rattle.npos_runtime.specs.Calls.{rule_for, refusal_of, done_of, told_of}
 use Rattle.npos_runtime.specs.Offices.{payout_now, slash_told}
-use Rattle.npos_runtime.specs.Step.{call_outcome, calls_outcome, step, after_blocks, seated_by}
-use Rattle.npos_runtime.specs.Offers.{before_calls}
-use Rattle.npos_runtime.specs.Laws.{FitsBehind}
+use Rattle.npos_runtime.specs.Step.{before_calls, call_outcome, calls_outcome, step, after_blocks, seated_by}
+use Rattle.npos_runtime.specs.History.{CanTake, IsHistory}
 
 -- ## What happens to the eras
 
@@ -40,22 +38,18 @@ abbrev pub started_by : Option Committee → Option ℕ → List Event
 started_by waiting None = []
 started_by waiting (Some era) = Started (exposed waiting) ∷ []
 
-abbrev pub event_of_kind : CallKind → List Event
-event_of_kind (kinds.Points items) = Pointed items ∷ []
-event_of_kind (kinds.Payout era validator) = Paid era validator ∷ []
-event_of_kind (kinds.Offence era validator fraction) = Reported era validator fraction ∷ []
-event_of_kind other = []
-
 -- a refused call is no event
-abbrev pub event_of : Option Refusal → CallKind → List Event
-event_of None kind = event_of_kind kind
-event_of (Some refusal) kind = []
+abbrev pub event_of : Option Refusal → CallRule → List Event
+event_of None rule = rule.events
+event_of (Some refusal) rule = []
+
+abbrev pub events_at : Call → Chain → List Event
+events_at call chain = event_of (rule_for chain call).refusal (rule_for chain call)
 
 abbrev pub events_of : ℕ → List Call → Chain → List Event
 events_of index [] chain = []
 events_of index (call ∷ calls) chain =
-    event_of (refusal_of chain call.who call.kind) call.kind
-    ++ events_of (index + 1) calls (call_outcome index call chain).state
+    events_at call chain ++ events_of (index + 1) calls (call_outcome index call chain).state
 
 abbrev pub events_in : Chain → Block → List Event
 events_in chain block =
@@ -69,7 +63,7 @@ events_by chain (block ∷ more) = events_in chain block ++ events_by (step chai
 -- The eras of the chain are what the blocks' events make of era 0, and each event is accepted.
 abbrev pub HistoryLaw : Type 0
 HistoryLaw = (genesis : Genesis) (blocks : List Block)
-    → genesis_fault genesis ≡ None → FitsBehind genesis blocks
+    → IsHistory genesis blocks
     → AreAccepted (events_by (genesis_chain genesis) blocks) first_era
     × (after_all (events_by (genesis_chain genesis) blocks) first_era
     ≡ (after_blocks (genesis_chain genesis) blocks).eras)
@@ -97,28 +91,28 @@ amount_paid other = 0
 abbrev pub told_paid : List Line → ℕ
 told_paid told = sum_by amount_paid told
 
--- what the lines of a call tell to be paid of the reward of an era
-abbrev pub paid_for : ℕ → CallKind → List Line → ℕ
-paid_for era (kinds.Payout other validator) told = if other == era then told_paid told else 0
+-- what the lines of a call tell to be paid of the reward of an era, where this happened to the eras
+abbrev pub paid_for : ℕ → List Event → List Line → ℕ
+paid_for era (Paid other validator ∷ more) told = if other == era then told_paid told else 0
 paid_for era other told = 0
 
 abbrev pub paid_by : ℕ → ℕ → Call → Chain → ℕ
-paid_by era index call chain = paid_for era call.kind (call_outcome index call chain).lines
+paid_by era index call chain =
+    paid_for era (events_at call chain) (call_outcome index call chain).lines
 
 -- what blocks tell to be paid of the reward of an era, over all its validators
 abbrev pub paid_in : ℕ → Genesis → List Block → ℕ
 paid_in era genesis blocks = over_blocks (paid_by era) (genesis_chain genesis) blocks
 
 -- All that is paid of an era is at most its reward.
-abbrev pub RewardLaw : Type 0
-RewardLaw = (genesis : Genesis) (blocks : List Block) (era : ℕ)
-    → genesis_fault genesis ≡ None → FitsBehind genesis blocks
+abbrev pub PaidWithinRewardLaw : Type 0
+PaidWithinRewardLaw = (genesis : Genesis) (blocks : List Block) (era : ℕ)
+    → IsHistory genesis blocks
     → paid_in era genesis blocks ≤ era_reward_of (params_of genesis)
 
 -- the chain behind these blocks, once the next one has begun and these of its calls are done
-abbrev pub chain_at : Genesis → List Block → List Call → Chain
-chain_at genesis blocks calls =
-    (calls_outcome 0 calls (before_calls (after_blocks (genesis_chain genesis) blocks))).state
+abbrev pub chain_at : Chain → List Block → List Call → Chain
+chain_at chain blocks calls = (calls_outcome 0 calls (before_calls (after_blocks chain blocks))).state
 
 -- the lines of a payout tell its total, which is minted, and is at most the reward of the era
 pub record IsPaidOut (chain : Chain) (who : AccountId) (era : ℕ) (validator : AccountId) : Type 0 where
@@ -128,12 +122,14 @@ pub record IsPaidOut (chain : Chain) (who : AccountId) (era : ℕ) (validator : 
       ≡ chain.book.minted + (payout_now chain era validator).total
   pub within : (payout_now chain era validator).total ≤ era_reward_of chain.params
 
-abbrev pub PayoutLaw : Type 0
-PayoutLaw = (genesis : Genesis) (blocks : List Block) (calls : List Call) (who : AccountId)
-    (era : ℕ) (validator : AccountId)
-    → genesis_fault genesis ≡ None → FitsBehind genesis blocks
-    → refusal_of (chain_at genesis blocks calls) who (kinds.Payout era validator) ≡ None
-    → IsPaidOut (chain_at genesis blocks calls) who era validator
+-- each payout that is accepted is minted as it is told
+abbrev pub PaysAsTold : Chain → Type 0
+PaysAsTold chain = (who : AccountId) (era : ℕ) (validator : AccountId)
+    → refusal_of chain who (kinds.Payout era validator) ≡ None → IsPaidOut chain who era validator
+
+abbrev pub PaidAsToldLaw : Type 0
+PaidAsToldLaw = (genesis : Genesis) (blocks : List Block) (calls : List Call)
+    → IsHistory genesis blocks → PaysAsTold (chain_at (genesis_chain genesis) blocks calls)
 
 -- ## Offences
 
@@ -157,15 +153,18 @@ AreTaken (due ∷ more) old told new =
     (taken : ℕ) × (between : Ledger) × (rest : List Line) × IsTaken due taken old between
     × (told ≡ slash_told due.who taken ++ rest) × AreTaken more between rest new
 
+-- each report that is accepted takes what is due, one account after the other, but no more than the
+-- account has bonded
+abbrev pub TakesWhatIsDue : Chain → Type 0
+TakesWhatIsDue chain = (who : AccountId) (era : ℕ) (validator : AccountId) (fraction : ℕ)
+    → refusal_of chain who (kinds.Offence era validator fraction) ≡ None
+    → AreTaken (slash_in chain.eras era validator fraction) chain.book
+    (told_of chain who (kinds.Offence era validator fraction))
+    (done_of chain who (kinds.Offence era validator fraction)).book
+
 abbrev pub SlashLaw : Type 0
-SlashLaw = (genesis : Genesis) (blocks : List Block) (calls : List Call) (who : AccountId)
-    (era : ℕ) (validator : AccountId) (fraction : ℕ)
-    → genesis_fault genesis ≡ None → FitsBehind genesis blocks
-    → refusal_of (chain_at genesis blocks calls) who (kinds.Offence era validator fraction) ≡ None
-    → AreTaken (slash_in (chain_at genesis blocks calls).eras era validator fraction)
-    (chain_at genesis blocks calls).book
-    (told_of (chain_at genesis blocks calls) who (kinds.Offence era validator fraction))
-    (done_of (chain_at genesis blocks calls) who (kinds.Offence era validator fraction)).book
+SlashLaw = (chain : Chain) (blocks : List Block) (calls : List Call) → CanTake chain blocks
+    → TakesWhatIsDue (chain_at chain blocks calls)
 
 abbrev pub amount_taken : AccountId → Line → ℕ
 amount_taken who (lines.Slashed other amount) = if same_account other who then amount else 0
@@ -175,31 +174,23 @@ amount_taken who other = 0
 abbrev pub told_taken : AccountId → List Line → ℕ
 told_taken who told = sum_by (amount_taken who) told
 
--- what the lines of a call tell to be taken from an account for an era
-abbrev pub taken_for : ℕ → AccountId → CallKind → List Line → ℕ
-taken_for era who (kinds.Offence other validator fraction) told =
+-- what the lines of a call tell to be taken from an account for an era, where this happened to the eras
+abbrev pub taken_for : ℕ → AccountId → List Event → List Line → ℕ
+taken_for era who (Reported other validator fraction ∷ more) told =
     if other == era then told_taken who told else 0
 taken_for era who other told = 0
 
 abbrev pub taken_by : ℕ → AccountId → ℕ → Call → Chain → ℕ
-taken_by era who index call chain = taken_for era who call.kind (call_outcome index call chain).lines
+taken_by era who index call chain =
+    taken_for era who (events_at call chain) (call_outcome index call chain).lines
 
 -- what blocks tell to be taken from an account for an era, over all its validators and all reports
 abbrev pub taken_in : ℕ → AccountId → Genesis → List Block → ℕ
 taken_in era who genesis blocks = over_blocks (taken_by era who) (genesis_chain genesis) blocks
 
 -- what a call makes due from an account for an era; a refused call makes nothing due
-abbrev pub due_of_kind : ℕ → AccountId → CallKind → Chain → ℕ
-due_of_kind era who (kinds.Offence other validator fraction) chain =
-    if other == era then amount_for who (slash_in chain.eras other validator fraction) else 0
-due_of_kind era who other chain = 0
-
-abbrev pub due_of : ℕ → AccountId → Option Refusal → CallKind → Chain → ℕ
-due_of era who None kind chain = due_of_kind era who kind chain
-due_of era who (Some refusal) kind chain = 0
-
 abbrev pub due_by : ℕ → AccountId → ℕ → Call → Chain → ℕ
-due_by era who index call chain = due_of era who (refusal_of chain call.who call.kind) call.kind chain
+due_by era who index call chain = given_by (makes_due era who) (events_at call chain) chain.eras
 
 -- what blocks make due from an account for an era, over all its validators and all reports
 abbrev pub due_in : ℕ → AccountId → Genesis → List Block → ℕ
@@ -208,7 +199,7 @@ due_in era who genesis blocks = over_blocks (due_by era who) (genesis_chain gene
 -- No more is taken than is due.
 abbrev pub TakenLaw : Type 0
 TakenLaw = (genesis : Genesis) (blocks : List Block) (era : ℕ) (who : AccountId)
-    → genesis_fault genesis ≡ None → FitsBehind genesis blocks
+    → IsHistory genesis blocks
     → taken_in era who genesis blocks ≤ due_in era who genesis blocks
 
 -- ## The election of an era
@@ -216,7 +207,7 @@ TakenLaw = (genesis : Genesis) (blocks : List Block) (era : ℕ) (who : AccountI
 -- each round is decided once, and elects for the era of its number
 abbrev pub OnceLaw : Type 0
 OnceLaw = (genesis : Genesis) (blocks : List Block)
-    → genesis_fault genesis ≡ None → FitsBehind genesis blocks
+    → IsHistory genesis blocks
     → IsDistinct (λ first second. first.round == second.round) (seated_by (genesis_chain genesis) blocks)
 
 -- the election that seated the committee of an era, if one did
@@ -233,8 +224,25 @@ stake_behind who None = 0
 stake_behind who (Some election) = stake_in election.snapshot who
 
 -- All that is due from an account for an era is at most its stake in the election of that era.
-abbrev pub DueLaw : Type 0
-DueLaw = (genesis : Genesis) (blocks : List Block) (era : ℕ) (who : AccountId)
-    → genesis_fault genesis ≡ None → FitsBehind genesis blocks
+abbrev pub DueWithinStakeLaw : Type 0
+DueWithinStakeLaw = (genesis : Genesis) (blocks : List Block) (era : ℕ) (who : AccountId)
+    → IsHistory genesis blocks
     → due_in era who genesis blocks
     ≤ stake_behind who (elected_for era (seated_by (genesis_chain genesis) blocks))
+
+-- ## All of it
+
+-- What these blocks pay of an era is at most its reward, and what they make due from an account for
+-- an era is at most its stake in the one election of that era; no more is taken than is due.
+pub record AreWithin (genesis : Genesis) (blocks : List Block) : Type 0 where
+  pub rewards : (era : ℕ) → paid_in era genesis blocks ≤ era_reward_of (params_of genesis)
+  pub taken : (era : ℕ) (who : AccountId) → taken_in era who genesis blocks ≤ due_in era who genesis blocks
+  pub dues : (era : ℕ) (who : AccountId) → due_in era who genesis blocks
+      ≤ stake_behind who (elected_for era (seated_by (genesis_chain genesis) blocks))
+  pub once : IsDistinct (λ first second. first.round == second.round)
+      (seated_by (genesis_chain genesis) blocks)
+
+pub record ErasHold (genesis : Genesis) (blocks : List Block) : Type 0 where
+  pub within : AreWithin genesis blocks
+  pub payouts : (calls : List Call) → PaysAsTold (chain_at (genesis_chain genesis) blocks calls)
+  pub slashes : (calls : List Call) → TakesWhatIsDue (chain_at (genesis_chain genesis) blocks calls)

@@ -1,5 +1,5 @@
--- What follows from the step of a block, for all blocks from a genesis on.
-use Rattle.std.specs.Prelude.{◌≡◌, ℕ, ◌+◌, ◌≤◌, ◌^◌, true, List, [], ◌∷◌, length, Some, None, All}
+-- What follows from the step of a block, for all blocks that a chain can take.
+use Rattle.std.specs.Prelude.{◌≡◌, ℕ, ◌+◌, ◌≤◌, true, List, [], ◌∷◌, Some, All}
 use Rattle.block_wire.specs.declared.block.Block.{Block}
 use Rattle.block_wire.specs.declared.genesis.Genesis.{Genesis}
 use Rattle.stake_ledger.specs.Ledger.{row_at}
@@ -13,7 +13,8 @@ use Rattle.chain_params.specs.Rules.{is_decision}
 use Rattle.npos_runtime.specs.Outcome.{Election}
 use Rattle.round_decision.specs.Decision.{others, decided_weights}
 use Rattle.npos_runtime.specs.Deciding.{committee_of}
-use Rattle.npos_runtime.specs.Genesis.{genesis_fault, genesis_chain}
+use Rattle.npos_runtime.specs.Genesis.{genesis_chain}
+use Rattle.npos_runtime.specs.History.{CanTake, IsHistory}
 use Rattle.npos_runtime.specs.Live.{IsLive}
 use Rattle.npos_runtime.specs.Step.{step, after_blocks, told_by, seated_by}
 use Rattle.round_decision.specs.Deposits.{deposits_of}
@@ -34,14 +35,9 @@ abbrev pub SoundStepLaw : Type 0
 SoundStepLaw =
     (chain : Chain) (block : Block) → IsLive chain → All IsSound (step chain block).seated
 
--- the blocks are so few that each has a number
-abbrev pub FitsBehind : Genesis → List Block → Type 0
-FitsBehind genesis blocks = 1 + length blocks ≤ 2 ^ 32
-
-abbrev pub SoundLaw : Type 0
-SoundLaw = (genesis : Genesis) (blocks : List Block)
-    → genesis_fault genesis ≡ None → FitsBehind genesis blocks
-    → All IsSound (seated_by (genesis_chain genesis) blocks)
+abbrev pub SeatedSoundLaw : Type 0
+SeatedSoundLaw = (chain : Chain) (blocks : List Block) → CanTake chain blocks
+    → All IsSound (seated_by chain blocks)
 
 -- Where a round that is not void is decided, its committee is seated and waits: with the round's
 -- snapshot, the weights of the winner or the fill, and the members in rising order.
@@ -59,23 +55,27 @@ SeatsLaw = (chain : Chain) (block : Block) (number : ℕ) (snapshot : Snapshot) 
 
 -- What is held of each account is the deposits of its submissions that wait.
 abbrev pub HeldLaw : Type 0
-HeldLaw = (genesis : Genesis) (blocks : List Block) (who : AccountId)
-    → genesis_fault genesis ≡ None → FitsBehind genesis blocks
-    → (row_at (after_blocks (genesis_chain genesis) blocks).book who).held
-    ≡ deposits_of who (after_blocks (genesis_chain genesis) blocks).queue.items
+HeldLaw = (chain : Chain) (blocks : List Block) (who : AccountId) → CanTake chain blocks
+    → (row_at (after_blocks chain blocks).book who).held
+    ≡ deposits_of who (after_blocks chain blocks).queue.items
+
+-- Whatever waited or is given a number since then is settled once, or waits still.
+abbrev pub SettledLaw : Type 0
+SettledLaw = (chain : Chain) (blocks : List Block) (number : ℕ) → CanTake chain blocks
+    → fate number (told_by chain blocks)
+    + (waiting_with number (after_blocks chain blocks).queue.items + issued number chain.next)
+    ≡ waiting_with number chain.queue.items + issued number (after_blocks chain blocks).next
 
 -- Accepted submissions have the numbers from 1 on without gaps. Each that was accepted waits once
 -- and was not settled, or does not wait and was settled once; no other was settled.
 abbrev pub FateLaw : Type 0
-FateLaw = (genesis : Genesis) (blocks : List Block) (number : ℕ)
-    → genesis_fault genesis ≡ None → FitsBehind genesis blocks → 1 ≤ number
+FateLaw = (genesis : Genesis) (blocks : List Block) (number : ℕ) → IsHistory genesis blocks → 1 ≤ number
     → fate number (told_by (genesis_chain genesis) blocks)
     + waiting_with number (after_blocks (genesis_chain genesis) blocks).queue.items
     ≡ issued number (after_blocks (genesis_chain genesis) blocks).next
 
 -- Nothing valid is crowded out for free: whatever valid was offered to a round is passed over only
 -- for a claim that is no less, or at the cost of as many deposits as the queue has places.
-abbrev pub CrowdingLaw : Type 0
-CrowdingLaw = (genesis : Genesis) (blocks : List Block) (block : Block)
-    → genesis_fault genesis ≡ None → FitsBehind genesis blocks
-    → IsNoneCrowdedOut (genesis_chain genesis) blocks block
+abbrev pub NoneCrowdedOutLaw : Type 0
+NoneCrowdedOutLaw = (chain : Chain) (blocks : List Block) (block : Block) → CanTake chain blocks
+    → IsNoneCrowdedOut chain blocks block

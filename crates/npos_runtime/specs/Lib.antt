@@ -3,6 +3,9 @@ pub mod Outcome
 pub mod Ballots
 pub mod Rounds
 pub mod Lists
+pub mod CallRule
+pub mod BookCalls
+pub mod ListCalls
 pub mod Signed
 pub mod Offices
 pub mod Exposed
@@ -12,8 +15,11 @@ pub mod Step
 pub mod Genesis
 pub mod Live
 pub mod Life
+pub mod History
 pub mod Polling
 pub mod Fates
+pub mod Deposits
+pub mod Seatings
 pub mod Offers
 pub mod Laws
 pub mod EraLaws

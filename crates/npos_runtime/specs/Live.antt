@@ -1,19 +1,21 @@
 -- What holds of a chain, besides what its parts keep.
-use Rattle.std.specs.Prelude.{◌≡◌, ℕ, ◌+◌, ◌-◌, ◌*◌, ◌^◌, ◌≤◌, false, All, List, count_by, length, Option, Some, None}
+use Rattle.std.specs.Prelude.{◌≡◌, ℕ, ◌+◌, ◌-◌, ◌*◌, ◌^◌, ◌≤◌, ◌<◌, false, All, List, [], count_by, length, Option, Some, None}
 use Rattle.npos_base.specs.declared.account.AccountId.{AccountId}
 use Rattle.npos_base.specs.declared.limits.TheConstants.{MOST_NOMINATIONS, WHOLE_FRACTION}
-use Rattle.stake_ledger.specs.Ledger.{row_at, IsBalanced}
+use Rattle.stake_ledger.specs.Ledger.{Ledger, row_at, IsBalanced}
 use Rattle.npos_runtime.specs.declared.chain.Chain.{Chain}
-use Rattle.chain_params.specs.Rules.{era_of}
+use Rattle.block_wire.specs.declared.genesis.Params.{Params}
+use Rattle.chain_params.specs.Rules.{era_of, place_of, places_of}
 use Rattle.chain_params.specs.Faults.{AreSound}
 use Rattle.npos_runtime.specs.Ballots.{commission_in}
 use Rattle.npos_runtime.specs.Committee.{Committee}
-use Rattle.npos_runtime.specs.Calls.{release_now}
+use Rattle.npos_runtime.specs.BookCalls.{release_now}
 use Rattle.npos_base.specs.Account.{same_account}
 use Rattle.voter_lists.specs.Ranked.{AreRanked}
 use Rattle.voter_lists.specs.Roles.{RoleList, role_of, nominated_by, validators_of, has_repeat}
 use Rattle.voter_lists.specs.Bags.{Listing, is_listed, walk}
 use Rattle.election_snapshot.specs.Snapshot.{IsWellFormed}
+use Rattle.submission_queue.specs.declared.submission.Submission.{Submission}
 use Rattle.submission_queue.specs.Ranking.{IsOrdered}
 use Rattle.npos_runtime.specs.declared.round.Round.{Round}
 use Rattle.npos_runtime.specs.declared.round.Round.TheVariants.{Open}
@@ -42,55 +44,83 @@ pub record IsNomination (targets : List AccountId) : Type 0 where
   pub few : length targets ≤ MOST_NOMINATIONS
   pub distinct : has_repeat targets ≡ false
 
--- a round that is open has a well-formed snapshot
-abbrev pub IsSoundRound : Option Round → Type 0
-IsSoundRound (Some (Open number snapshot commissions)) = IsWellFormed snapshot
-IsSoundRound other = Unit {0}
+-- there are at most 2,048 validators, and no validator keeps more than the whole of its rewards
+pub record AreRoles (roles : RoleList) : Type 0 where
+  pub ranked : AreRanked roles (validators_of roles)
+  pub nominations : (who : AccountId) → IsNomination (nominated_by roles who)
+  pub commissions : (who : AccountId) → commission_in (role_of roles who) ≤ WHOLE_FRACTION
+
+-- The books balance, nothing is released later than in this era, and what is held is the deposits
+-- of these submissions.
+pub record AreBooks (release : ℕ) (items : List Submission) (book : Ledger) : Type 0 where
+  pub balanced : IsBalanced book
+  pub releases : (who : AccountId) → All (λ chunk. chunk.release ≤ release) (row_at book who).chunks
+  pub deposits : AreHeld book items
 
 -- a commission is noted for each target, at most the whole
 pub record AreNoted (targets : List AccountId) (commissions : List ℕ) : Type 0 where
   pub count : length commissions ≡ length targets
   pub within : All (λ commission. commission ≤ WHOLE_FRACTION) commissions
 
-abbrev pub IsNotedRound : Option Round → Type 0
-IsNotedRound (Some (Open number snapshot commissions)) = AreNoted snapshot.targets commissions
-IsNotedRound other = Unit {0}
+-- a round that is open has a well-formed snapshot, and the commissions of its targets
+abbrev pub IsSoundRound : Option Round → Type 0
+IsSoundRound (Some (Open number snapshot commissions)) =
+    IsWellFormed snapshot × AreNoted snapshot.targets commissions
+IsSoundRound other = Unit {0}
 
 abbrev pub IsNotedCommittee : Option Committee → Type 0
 IsNotedCommittee None = Unit {0}
 IsNotedCommittee (Some committee) = AreNoted committee.snapshot.targets committee.commissions
 
--- what holds of a chain at any time
+-- a block of this number can be due: block numbers are u32, so the last is the one behind them
+pub record CanBeDue (number : ℕ) : Type 0 where
+  pub at_least : 1 ≤ number
+  pub at_most : number ≤ 2 ^ 32
+
+-- What holds of a chain at any time: of each part what it keeps, and of the parts what ties them
+-- together.
 pub record IsLive (chain : Chain) : Type 0 where
   pub params : AreSound chain.params
-  -- block numbers are u32, so the last due number is the one behind them
-  pub due_at_least : 1 ≤ chain.due
-  pub due_at_most : chain.due ≤ 2 ^ 32
-  pub balanced : IsBalanced chain.book
+  pub due : CanBeDue chain.due
   -- nothing is released later than what would be unbonded now
-  pub releases : (who : AccountId)
-      → All (λ chunk. chunk.release ≤ release_now chain) (row_at chain.book who).chunks
-  pub listing : IsListing chain.roles chain.bags
-  -- there are at most 2,048 validators
-  pub roles : AreRanked chain.roles (validators_of chain.roles)
-  pub nominations : (who : AccountId) → IsNomination (nominated_by chain.roles who)
-  -- no validator keeps more than the whole of its rewards
-  pub commissions : (who : AccountId) → commission_in (role_of chain.roles who) ≤ WHOLE_FRACTION
+  pub books : AreBooks (release_now chain) chain.queue.items chain.book
+  pub roles : AreRoles chain.roles
+  pub bags : IsListing chain.roles chain.bags
   pub round : IsSoundRound chain.round
-  pub noted : IsNotedRound chain.round
-  pub waiting : IsNotedCommittee chain.waiting
   pub queue : IsOrdered chain.queue
-  pub deposits : AreHeld chain.book chain.queue.items
+  pub waiting : IsNotedCommittee chain.waiting
+
+-- Before this block a round of this number is open: that of the next era, between the block of its
+-- snapshot and the end of the one of its decision.
+pub record IsUnderway (params : Params) (due number : ℕ) : Type 0 where
+  pub number_is : number ≡ era_of (Some params) due + 1
+  pub begun : params.offset < place_of params due
+  pub undecided : place_of params due ≤ params.offset + params.signed
+
+abbrev pub CanBeOpen : Option Params → ℕ → ℕ → Type 0
+CanBeOpen None due number = ⊥
+CanBeOpen (Some params) due number = IsUnderway params due number
+
+-- where no round is open, nothing waits
+abbrev pub IsInTime : Option Round → Option Params → ℕ → List Submission → Type 0
+IsInTime (Some (Open number snapshot commissions)) params due items = CanBeOpen params due number
+IsInTime other params due items = items ≡ []
+
+-- a chain between two blocks
+pub record IsBetweenBlocks (chain : Chain) : Type 0 where
+  pub live : IsLive chain
+  -- the era is the one of the last block that was taken
+  pub era : chain.eras.current ≡ era_of chain.params (chain.due - 1)
+  pub places : chain.queue.places ≡ places_of chain.params
+  -- a round is open in its own blocks alone
+  pub timely : IsInTime chain.round chain.params chain.due chain.queue.items
 
 -- A block has fewer than 2^32 calls, and block numbers are u32, so the numbers of submissions fit
 -- u64.
 abbrev pub most_calls : ℕ
 most_calls = 2 ^ 32 - 1
 
--- a chain that can take its next block
+-- a chain that can take its next block: no block before took more submissions than it may have calls
 pub record IsReady (chain : Chain) : Type 0 where
-  pub live : IsLive chain
-  -- no block before took more submissions than it may have calls
+  pub between : IsBetweenBlocks chain
   pub numbered : chain.next ≤ 1 + most_calls * (chain.due - 1)
-  -- the era is the one of the last block that was taken
-  pub era : chain.eras.current ≡ era_of chain.params (chain.due - 1)

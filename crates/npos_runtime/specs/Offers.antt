@@ -1,10 +1,7 @@
 -- What blocks offer to a round, and what has become of a valid offer once the round is decided.
 use Rattle.std.specs.Prelude.{◌≡◌, ◌⊎◌, ℕ, ◌+◌, Bool, true, false, ◌==◌, ◌&&◌, if◌then◌else◌, All, Contains, List, [], ◌∷◌, ◌++◌, length, Option, Some, None}
-use Rattle.npos_base.specs.declared.account.AccountId.{AccountId}
 use Rattle.npos_base.specs.Score.{is_better}
 use Rattle.block_wire.specs.declared.call.Call.{Call}
-use Rattle.block_wire.specs.declared.call.CallKind.{CallKind}
-use Rattle.block_wire.specs.declared.call.CallKind.TheVariants as kinds
 use Rattle.block_wire.specs.declared.block.Block.{Block}
 use Rattle.submission_queue.specs.declared.submission.Submission.{Submission}
 use Rattle.submission_queue.specs.Ranking.{Ranking}
@@ -20,11 +17,10 @@ use Rattle.block_receipts.specs.declared.refusal.Refusal.{Refusal}
 use Rattle.block_receipts.specs.declared.refusal.Refusal.TheVariants.{NotBetter}
 use Rattle.npos_runtime.specs.declared.round.Round.TheVariants as rounds
 use Rattle.chain_params.specs.Rules.{is_decision}
-use Rattle.npos_runtime.specs.Rounds.{round_phase}
-use Rattle.npos_runtime.specs.Signed.{submission_of, submit_refusal}
+use Rattle.npos_runtime.specs.CallRule.{CallRule}
+use Rattle.npos_runtime.specs.Calls.{rule_for}
 use Rattle.round_decision.specs.Decision.{judged, forfeit_line}
-use Rattle.npos_runtime.specs.Deciding.{decision_phase}
-use Rattle.npos_runtime.specs.Step.{era_phase, call_outcome, step, after_blocks}
+use Rattle.npos_runtime.specs.Step.{call_outcome, before_calls, step, after_blocks}
 
 -- ## Offers
 
@@ -34,23 +30,22 @@ is_offered None = true
 is_offered (Some NotBetter) = true
 is_offered (Some other) = false
 
--- what a call offers to the round of this number
-abbrev pub offer_of : ℕ → Chain → AccountId → CallKind → List Submission
-offer_of number chain who (kinds.Submit round claim bytes) =
-    if (round == number) && is_offered (submit_refusal chain who round claim bytes)
-    then submission_of chain who claim bytes ∷ [] else []
-offer_of number chain who other = []
+-- a submission is offered to the round that it names
+abbrev pub offered_to : ℕ → Bool → Option (ℕ × Submission) → List Submission
+offered_to number offered None = []
+offered_to number offered (Some (round, item)) =
+    if (round == number) && offered then item ∷ [] else []
+
+-- what a call of this rule offers to the round of this number
+abbrev pub offer_of : ℕ → CallRule → List Submission
+offer_of number rule = offered_to number (is_offered rule.refusal) rule.offer
 
 -- what calls offer, from this place in their block on
 abbrev pub offers_in : ℕ → ℕ → List Call → Chain → List Submission
 offers_in number index [] chain = []
 offers_in number index (call ∷ calls) chain =
-    offer_of number chain call.who call.kind
+    offer_of number (rule_for chain call)
     ++ offers_in number (index + 1) calls (call_outcome index call chain).state
-
--- the chain as it is when the calls of its block begin
-abbrev pub before_calls : Chain → Chain
-before_calls chain = (decision_phase (round_phase (era_phase chain).state).state).state
 
 -- what blocks offer to the round of this number
 abbrev pub offers_by : ℕ → Chain → List Block → List Submission

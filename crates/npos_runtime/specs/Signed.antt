@@ -11,13 +11,13 @@ use Rattle.submission_queue.specs.declared.submission.Submission.{Submission}
 use Rattle.submission_queue.specs.declared.submission.NotBetter.{NotBetter as Worse}
 use Rattle.submission_queue.specs.Ranking.{Ranking, offered, offer_answer}
 use Rattle.npos_runtime.specs.declared.chain.Chain.{Chain}
-use Rattle.block_receipts.specs.declared.line.Line.{Line}
 use Rattle.block_receipts.specs.declared.refusal.Refusal.{Refusal}
 use Rattle.block_receipts.specs.declared.refusal.Refusal.TheVariants.{Ledger as ByLedger, NotBetter, WrongPhase, WrongRound, SolutionTooLong}
 use Rattle.npos_runtime.specs.declared.round.Round.{Round}
 use Rattle.npos_runtime.specs.declared.round.Round.TheVariants as rounds
 use Rattle.chain_params.specs.Rules.{deposit_of, era_of, is_signed, solution_max_of}
 use Rattle.round_decision.specs.Deposits.{all_returned, return_lines}
+use Rattle.npos_runtime.specs.CallRule.{CallRule}
 
 -- a round stands that is not void
 abbrev pub is_open : Option Round → Bool
@@ -78,9 +78,14 @@ submitted chain item = record chain {
   next = chain.next + 1;
 }
 
-abbrev pub submit_done : Chain → AccountId → Score → List ℕ → Chain
-submit_done chain who claim bytes = submitted chain (submission_of chain who claim bytes)
-
-abbrev pub submit_told : Chain → AccountId → Score → List ℕ → List Line
-submit_told chain who claim bytes =
-    return_lines (ejected chain.queue (submission_of chain who claim bytes))
+-- What the ejected one gets back is told.
+abbrev pub submit_rule : Chain → AccountId → ℕ → Score → List ℕ → CallRule
+submit_rule chain who round claim bytes =
+    let item : Submission = submission_of chain who claim bytes in
+    record {
+      refusal = submit_refusal chain who round claim bytes;
+      done = submitted chain item;
+      told = return_lines (ejected chain.queue item);
+      events = [];
+      offer = Some (round, item);
+    }

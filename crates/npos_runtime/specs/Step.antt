@@ -15,7 +15,8 @@ use Rattle.npos_runtime.specs.Committee.{Committee}
 use Rattle.npos_runtime.specs.Exposed.{exposed}
 use Rattle.npos_runtime.specs.Rounds.{round_phase}
 use Rattle.npos_runtime.specs.Deciding.{decision_phase}
-use Rattle.npos_runtime.specs.Calls.{refusal_of, done_of, told_of}
+use Rattle.npos_runtime.specs.CallRule.{CallRule}
+use Rattle.npos_runtime.specs.Calls.{rule_for}
 
 abbrev pub opened : ℕ → Chain → Outcome
 opened number chain = telling (lines.Block number ∷ []) chain
@@ -38,15 +39,15 @@ era_phase chain =
       eras = eras_after chain.eras chain.waiting (begun_era chain.params chain.due);
     })
 
--- one call, at its place in the block
-abbrev pub call_after : Option Refusal → ℕ → Call → Chain → Outcome
-call_after None index call chain =
-    telling (lines.CallOk index ∷ told_of chain call.who call.kind) (done_of chain call.who call.kind)
-call_after (Some refusal) index call chain =
+-- one call by its rule, at its place in the block
+abbrev pub call_after : Option Refusal → ℕ → CallRule → Chain → Outcome
+call_after None index rule chain = telling (lines.CallOk index ∷ rule.told) rule.done
+call_after (Some refusal) index rule chain =
     telling (lines.CallRefused index (code_of refusal) ∷ []) chain
 
 abbrev pub call_outcome : ℕ → Call → Chain → Outcome
-call_outcome index call chain = call_after (refusal_of chain call.who call.kind) index call chain
+call_outcome index call chain =
+    call_after (rule_for chain call).refusal index (rule_for chain call) chain
 
 abbrev pub calls_outcome : ℕ → List Call → Chain → Outcome
 calls_outcome index [] chain = quiet chain
@@ -57,10 +58,22 @@ calls_outcome index (call ∷ calls) chain = after (call_outcome index call chai
 abbrev pub closed : Chain → Outcome
 closed chain = quiet (record chain { due = chain.due + 1 })
 
+-- one part after the other
+abbrev pub in_turn : List (Chain → Outcome) → Chain → Outcome
+in_turn [] chain = quiet chain
+in_turn (part ∷ more) chain = after (part chain) (in_turn more)
+
+-- what a block does before its calls, in order
+abbrev pub phases : List (Chain → Outcome)
+phases = era_phase ∷ round_phase ∷ decision_phase ∷ []
+
+-- the chain as it is when the calls of its block begin
+abbrev pub before_calls : Chain → Chain
+before_calls chain = (in_turn phases chain).state
+
 abbrev pub step : Chain → Block → Outcome
 step chain block =
-    after (after (after (after (after (opened block.number chain) era_phase) round_phase) decision_phase)
-    (calls_outcome 0 block.calls)) closed
+    in_turn (opened block.number ∷ in_turn phases ∷ calls_outcome 0 block.calls ∷ closed ∷ []) chain
 
 -- the chain after each block in turn
 abbrev pub after_blocks : Chain → List Block → Chain

@@ -1,9 +1,12 @@
 //! The kinds of call, one function each.
 ghost use Rattle.std.specs.Prelude.{◌≡◌, ◌+◌, ◌<◌, ◌^◌, ◌++◌, Err, None, Some, OnOk, IfOk, IfErr};
-ghost use Rattle.npos_runtime.specs.Outcome.{Meets, Untold};
+ghost use Rattle.npos_runtime.specs.Outcome.{Untold};
 ghost use Rattle.npos_runtime.specs.Live.{IsLive, IsJoined};
 ghost use Rattle.npos_runtime.specs.Ballots.{active_of};
-ghost use Rattle.npos_runtime.specs.Calls.{release_now, refusal_of, done_of, told_of, transfer_refusal, transfer_done, bond_refusal, bond_done, bond_extra_refusal, bond_extra_done, unbond_refusal, unbond_done, rebond_refusal, rebond_done, withdraw_refusal, withdraw_done, least_active, role_refusal, nominate_refusal, nominate_done, validate_refusal, validate_done, chill_refusal, chill_done, rebag_refusal, rebag_done, put_in_front_refusal, put_in_front_done};
+ghost use Rattle.npos_runtime.specs.CallRule.{Follows};
+ghost use Rattle.npos_runtime.specs.BookCalls.{release_now, least_active, transfer_rule, bond_rule, bond_extra_rule, unbond_rule, rebond_rule, withdraw_rule};
+ghost use Rattle.npos_runtime.specs.ListCalls.{role_refusal, nominate_rule, validate_rule, chill_rule, rebag_rule, put_in_front_rule};
+ghost use Rattle.npos_runtime.specs.Calls.{rule_of, told_of};
 ghost use Rattle.voter_lists.specs.Bags.{is_listed};
 ghost use Rattle.npos_runtime.specs.Lists.{followed, listed_anew, retired, unlisted};
 
@@ -20,16 +23,14 @@ use std::alloc::Global;
 use voter_lists::{Bags, Role};
 
 fn transfer(chain: &mut Chain, who: AccountId, to: AccountId, value: u64) -> Result<(), Stop>
-    ensures { Meets (transfer_refusal chain.old who to value)
-        (transfer_done chain.old who to value) chain.old chain.new result }
+    ensures { Follows (transfer_rule chain.old who to value) chain.old chain.new result }
 {
     chain.book.transfer(who, to, value)?;
     Ok(())
 }
 
 fn bond(chain: &mut Chain, who: AccountId, value: u64) -> Result<(), Stop>
-    ensures { Meets (bond_refusal chain.old who value)
-        (bond_done chain.old who value) chain.old chain.new result }
+    ensures { Follows (bond_rule chain.old who value) chain.old chain.new result }
 {
     let minimum = least_bond_of(&chain.params);
     chain.book.bond(who, value, minimum)?;
@@ -37,8 +38,7 @@ fn bond(chain: &mut Chain, who: AccountId, value: u64) -> Result<(), Stop>
 }
 
 fn bond_extra(chain: &mut Chain, who: AccountId, value: u64) -> Result<(), Stop>
-    ensures { Meets (bond_extra_refusal chain.old who value)
-        (bond_extra_done chain.old who value) chain.old chain.new result }
+    ensures { Follows (bond_extra_rule chain.old who value) chain.old chain.new result }
 {
     chain.book.bond_extra(who, value)?;
     follow(chain, who)?;
@@ -78,8 +78,7 @@ fn release(chain: &Chain) -> u32
 
 fn unbond(chain: &mut Chain, who: AccountId, value: u64) -> Result<(), Stop>
     requires { IsLive chain.old }
-    ensures { Meets (unbond_refusal chain.old who value)
-        (unbond_done chain.old who value) chain.old chain.new result }
+    ensures { Follows (unbond_rule chain.old who value) chain.old chain.new result }
 {
     let release = release(chain);
     let least = least_active(chain, who);
@@ -89,8 +88,7 @@ fn unbond(chain: &mut Chain, who: AccountId, value: u64) -> Result<(), Stop>
 }
 
 fn rebond(chain: &mut Chain, who: AccountId, value: u64) -> Result<(), Stop>
-    ensures { Meets (rebond_refusal chain.old who value)
-        (rebond_done chain.old who value) chain.old chain.new result }
+    ensures { Follows (rebond_rule chain.old who value) chain.old chain.new result }
 {
     chain.book.rebond(who, value)?;
     follow(chain, who)?;
@@ -99,8 +97,7 @@ fn rebond(chain: &mut Chain, who: AccountId, value: u64) -> Result<(), Stop>
 
 fn withdraw(chain: &mut Chain, who: AccountId) -> Result<(), Stop>
     requires { IsLive chain.old }
-    ensures { Meets (withdraw_refusal chain.old who)
-        (withdraw_done chain.old who) chain.old chain.new result }
+    ensures { Follows (withdraw_rule chain.old who) chain.old chain.new result }
 {
     let era = era_of(&chain.params, chain.due);
     chain.book.withdraw(who, era)?;
@@ -149,8 +146,7 @@ fn list_anew(bags: &mut Bags, who: AccountId, score: u64, listed: bool) -> Resul
 #[tactic(auto, using(crate::proofs::ListLemmas::role_listed))]
 fn nominate(chain: &mut Chain, who: AccountId, targets: List<AccountId>) -> Result<(), Stop>
     requires { IsJoined chain.old.roles chain.old.bags }
-    ensures { Meets (nominate_refusal chain.old who targets)
-        (nominate_done chain.old who targets) chain.old chain.new result }
+    ensures { Follows (nominate_rule chain.old who targets) chain.old chain.new result }
 {
     let active = check_role(chain, who)?;
     let before = chain.roles.role(who);
@@ -164,8 +160,7 @@ fn nominate(chain: &mut Chain, who: AccountId, targets: List<AccountId>) -> Resu
 #[tactic(auto, using(crate::proofs::ListLemmas::role_listed))]
 fn validate(chain: &mut Chain, who: AccountId, commission: u32) -> Result<(), Stop>
     requires { IsJoined chain.old.roles chain.old.bags }
-    ensures { Meets (validate_refusal chain.old who commission)
-        (validate_done chain.old who commission) chain.old chain.new result }
+    ensures { Follows (validate_rule chain.old who commission) chain.old chain.new result }
 {
     let active = check_role(chain, who)?;
     let before = chain.roles.role(who);
@@ -178,8 +173,7 @@ fn validate(chain: &mut Chain, who: AccountId, commission: u32) -> Result<(), St
 
 fn chill(chain: &mut Chain, who: AccountId) -> Result<(), Stop>
     requires { IsJoined chain.old.roles chain.old.bags }
-    ensures { Meets (chill_refusal chain.old who)
-        (chill_done chain.old who) chain.old chain.new result }
+    ensures { Follows (chill_rule chain.old who) chain.old chain.new result }
 {
     chain.roles.chill(who)?;
     chain.bags.remove(who);
@@ -187,8 +181,7 @@ fn chill(chain: &mut Chain, who: AccountId) -> Result<(), Stop>
 }
 
 fn rebag(chain: &mut Chain, whom: AccountId) -> Result<(), Stop>
-    ensures { Meets (rebag_refusal chain.old whom)
-        (rebag_done chain.old whom) chain.old chain.new result }
+    ensures { Follows (rebag_rule chain.old whom) chain.old chain.new result }
 {
     let score = chain.book.active(whom);
     chain.bags.rebag(whom, score)?;
@@ -196,8 +189,7 @@ fn rebag(chain: &mut Chain, whom: AccountId) -> Result<(), Stop>
 }
 
 fn put_in_front(chain: &mut Chain, who: AccountId, lighter: AccountId) -> Result<(), Stop>
-    ensures { Meets (put_in_front_refusal chain.old who lighter)
-        (put_in_front_done chain.old who lighter) chain.old chain.new result }
+    ensures { Follows (put_in_front_rule chain.old who lighter) chain.old chain.new result }
 {
     let score = chain.book.active(who);
     let lighter_score = chain.book.active(lighter);
@@ -207,7 +199,7 @@ fn put_in_front(chain: &mut Chain, who: AccountId, lighter: AccountId) -> Result
 
 /// Does what the call asks for, or stops. What it tells besides that it was accepted is appended to
 /// `more`; a refused call tells nothing.
-#[tactic(auto, unfolding(crate::specs::Calls::refusal_of, crate::specs::Calls::done_of, crate::specs::Calls::told_of))]
+#[tactic(auto, unfolding(crate::specs::Calls::rule_of))]
 pub fn act(
     alloc: Global,
     chain: &mut Chain,
@@ -217,8 +209,7 @@ pub fn act(
 ) -> Result<(), Stop>
     requires live { IsLive chain.old }
     requires numbers { chain.old.next + 1 < 2 ^ 64 }
-    ensures meets { Meets (refusal_of chain.old who kind)
-        (done_of chain.old who kind) chain.old chain.new result }
+    ensures meets { Follows (rule_of chain.old who kind) chain.old chain.new result }
     ensures told { OnOk result (more.new.items ≡ more.old.items ++ told_of chain.old who kind) }
     ensures untold { Untold more.old.items more.new.items result }
 {

@@ -4,8 +4,11 @@ ghost use Rattle.std.specs.Prelude.{◌≡◌, ◌+◌, ◌≤◌, ◌^◌, fals
 ghost use Rattle.block_wire.specs.declared.block.Block.{Block as ABlock};
 ghost use Rattle.stake_ledger.specs.Ledger.{IsBalanced};
 ghost use Rattle.npos_runtime.specs.Step.{after_blocks};
-ghost use Rattle.npos_runtime.specs.Laws.{SoundStepLaw, SoundLaw, SeatsLaw, HeldLaw, FateLaw, CrowdingLaw};
-ghost use Rattle.npos_runtime.specs.EraLaws.{HistoryLaw, RewardLaw, PayoutLaw, SlashLaw, TakenLaw, OnceLaw, DueLaw};
+ghost use Rattle.npos_runtime.specs.History.{StartLaw};
+ghost use Rattle.npos_runtime.specs.Deposits.{DepositsLaw};
+ghost use Rattle.npos_runtime.specs.Seatings.{SeatingsLaw};
+ghost use Rattle.npos_runtime.specs.Laws.{SoundStepLaw, SeatedSoundLaw, SeatsLaw, HeldLaw, SettledLaw, FateLaw, NoneCrowdedOutLaw};
+ghost use Rattle.npos_runtime.specs.EraLaws.{HistoryLaw, PaidWithinRewardLaw, PaidAsToldLaw, SlashLaw, TakenLaw, OnceLaw, DueWithinStakeLaw};
 
 use crate::Runtime;
 use election_check::laws::{a_packed_yes_is_a_plain_yes, a_plain_yes_is_passing};
@@ -22,11 +25,17 @@ pub fn books_balance(runtime: &Runtime)
     let _ = runtime.totals();
 }
 
+/// The chain of a genesis without a fault is ready, so that the laws over any chain hold from its
+/// genesis on.
+pub fn every_history_starts_ready()
+    ensures { StartLaw }
+{}
+
 /// Every committee that is seated, from a signed solution or from the fill, has a member for each
 /// seat, follows nominations, spends no voter beyond its stake, and is proportional.
 pub fn every_seated_committee_is_sound()
     ensures step { SoundStepLaw }
-    ensures blocks { SoundLaw }
+    ensures blocks { SeatedSoundLaw }
 {
     a_packed_yes_is_a_plain_yes();
     a_plain_yes_is_passing();
@@ -39,6 +48,13 @@ pub fn every_open_round_seats_a_committee()
     ensures { SeatsLaw }
 {}
 
+/// Where a block takes the snapshot of a round, the block of its decision seats exactly one
+/// committee, elected from that very snapshot; or the line of the snapshot says that there were too
+/// few targets or too little stake, and nobody is seated.
+pub fn every_round_ends_as_it_began()
+    ensures { SeatingsLaw }
+{}
+
 /// What is held of an account is the deposits of its submissions that wait.
 pub fn deposits_are_held()
     ensures { HeldLaw }
@@ -47,7 +63,14 @@ pub fn deposits_are_held()
 /// Each accepted submission has a number of its own, from 1 on without gaps, and its deposit is
 /// settled once: not while it waits, and then it is burned or free again.
 pub fn each_deposit_has_one_fate()
-    ensures { FateLaw }
+    ensures from_genesis { FateLaw }
+    ensures from_any { SettledLaw }
+{}
+
+/// What is held is the deposits of what waits, each submission that was accepted waits or is settled
+/// once, and by the time a round is decided each is settled for good.
+pub fn deposits_are_settled()
+    ensures { DepositsLaw }
 {}
 
 /// Nothing valid is crowded out for free. A submission is offered to a round where its call is
@@ -55,7 +78,7 @@ pub fn each_deposit_has_one_fate()
 /// is decided either claims no more than the winner, whose claim is the score of the committee that
 /// is seated; or the fill is seated, and as many deposits are burned as the queue has places.
 pub fn nothing_valid_is_crowded_out_for_free()
-    ensures { CrowdingLaw }
+    ensures { NoneCrowdedOutLaw }
 {
     a_packed_yes_is_a_plain_yes();
 }
@@ -83,8 +106,8 @@ pub fn eras_follow_the_blocks()
 /// What an era pays is told line by line and minted, and is at most the reward of the era: each
 /// payout for itself, and all payouts of the era together, over all its validators.
 pub fn payouts_are_within_the_reward()
-    ensures each { PayoutLaw }
-    ensures together { RewardLaw }
+    ensures each { PaidAsToldLaw }
+    ensures together { PaidWithinRewardLaw }
 {
     a_packed_yes_is_a_plain_yes();
     a_plain_yes_is_passing();
@@ -97,7 +120,7 @@ pub fn payouts_are_within_the_reward()
 pub fn slashes_are_within_the_stake()
     ensures each { SlashLaw }
     ensures taken { TakenLaw }
-    ensures due { DueLaw }
+    ensures due { DueWithinStakeLaw }
 {
     a_packed_yes_is_a_plain_yes();
     a_plain_yes_is_passing();

@@ -3,9 +3,10 @@ ghost use Rattle.std.specs.Prelude.{◌≡◌, ◌+◌, ◌<◌, ◌≤◌, ◌+
 ghost use Rattle.std.specs.Vec.{vec_capacity};
 ghost use Rattle.stake_ledger.specs.Calls.{minted_free, room_of};
 ghost use Rattle.era_book.specs.Exposures.{amount_sum};
-ghost use Rattle.npos_runtime.specs.Outcome.{Goes, Meets, Untold};
+ghost use Rattle.npos_runtime.specs.Outcome.{Goes, Untold};
+ghost use Rattle.npos_runtime.specs.CallRule.{Follows};
 ghost use Rattle.npos_runtime.specs.Live.{IsLive};
-ghost use Rattle.npos_runtime.specs.Offices.{is_root, points_refusal, points_done, payout_refusal, payout_done, payout_told, all_minted, paid_line, offence_refusal, offence_done, offence_told, slash_outcome, slashes};
+ghost use Rattle.npos_runtime.specs.Offices.{is_root, points_rule, payout_rule, all_minted, paid_line, offence_rule, slash_outcome, slashes};
 
 use crate::Chain;
 use crate::lists::retire_unless;
@@ -24,8 +25,7 @@ fn is_root(chain: &Chain, who: AccountId) -> bool
 
 /// Gives points to members of the current era.
 pub fn points(chain: &mut Chain, who: AccountId, items: List<(AccountId, u32)>) -> Result<(), Stop>
-    ensures { Meets (points_refusal chain.old who items)
-        (points_done chain.old items) chain.old chain.new result }
+    ensures { Follows (points_rule chain.old who items) chain.old chain.new result }
 {
     if !is_root(chain, who) {
         return Err(Stop::Refused(Refusal::NotRoot));
@@ -88,10 +88,9 @@ pub fn payout(
     era: u32,
     validator: AccountId,
 ) -> Result<(), Stop>
-    ensures meets { Meets (payout_refusal chain.old era validator)
-        (payout_done chain.old era validator) chain.old chain.new result }
+    ensures meets { Follows (payout_rule chain.old era validator) chain.old chain.new result }
     ensures told { OnOk result
-        (more.new.items ≡ more.old.items ++ payout_told chain.old era validator) }
+        (more.new.items ≡ more.old.items ++ (payout_rule chain.old era validator).told) }
     ensures untold { Untold more.old.items more.new.items result }
 {
     let reward = era_reward_of(&chain.params);
@@ -154,10 +153,10 @@ pub fn offence(
     fraction: u32,
 ) -> Result<(), Stop>
     requires { IsLive chain.old }
-    ensures meets { Meets (offence_refusal chain.old reporter era validator fraction)
-        (offence_done chain.old era validator fraction) chain.old chain.new result }
-    ensures told { OnOk result
-        (more.new.items ≡ more.old.items ++ offence_told chain.old era validator fraction) }
+    ensures meets { Follows (offence_rule chain.old reporter era validator fraction)
+        chain.old chain.new result }
+    ensures told { OnOk result (more.new.items
+        ≡ more.old.items ++ (offence_rule chain.old reporter era validator fraction).told) }
     ensures untold { Untold more.old.items more.new.items result }
 {
     if !is_root(chain, reporter) {

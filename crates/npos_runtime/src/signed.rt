@@ -3,7 +3,8 @@ ghost use Rattle.std.specs.Prelude.{◌≡◌, ◌+◌, ◌++◌, ◌<◌, ◌^�
 ghost use Rattle.npos_runtime.specs.Outcome.{Meets, Untold};
 ghost use Rattle.npos_runtime.specs.Live.{IsLive};
 ghost use Rattle.round_decision.specs.Deposits.{return_lines};
-ghost use Rattle.npos_runtime.specs.Signed.{is_open, form_refusal, offer_refusal, ejected, submitted, submit_refusal, submit_done, submit_told};
+ghost use Rattle.npos_runtime.specs.Signed.{is_open, form_refusal, offer_refusal, ejected, submitted, submit_rule};
+ghost use Rattle.npos_runtime.specs.CallRule.{Follows};
 
 use crate::{Chain, Round};
 use block_receipts::{Line, Refusal, Stop};
@@ -77,10 +78,10 @@ pub fn submit(
 ) -> Result<(), Stop>
     requires live { IsLive chain.old }
     requires numbers { chain.old.next + 1 < 2 ^ 64 }
-    ensures meets { Meets (submit_refusal chain.old who round claim bytes)
-        (submit_done chain.old who claim bytes) chain.old chain.new result }
-    ensures told { OnOk result
-        (more.new.items ≡ more.old.items ++ submit_told chain.old who claim bytes) }
+    ensures meets { Follows (submit_rule chain.old who round claim bytes)
+        chain.old chain.new result }
+    ensures told { OnOk result (more.new.items
+        ≡ more.old.items ++ (submit_rule chain.old who round claim bytes).told) }
     ensures untold { Untold more.old.items more.new.items result }
 {
     if let Err(refusal) = check_form(chain, round, bytes.as_slice()) {

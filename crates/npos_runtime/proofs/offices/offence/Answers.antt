@@ -3,7 +3,7 @@ use Rattle.era_book.specs.Eras.{Eras, member_in}
 use Rattle.era_book.specs.Calls.{IsBelow}
 use Rattle.npos_runtime.specs.declared.chain.Chain.{Chain}
 use Rattle.npos_runtime.specs.Offices.{is_root}
-use Rattle.npos_runtime.proofs.LiveLemmas.{slashes_within, offence_is}
+use Rattle.npos_runtime.proofs.OfficeCallLemmas.{slashes_within, offence_is}
 use Rattle.npos_runtime.proofs.offices.offence.Goals as goal
 
 pub mark_slashed-requires : goal.mark_slashed-requires
@@ -18,7 +18,7 @@ returns-clause-meets c =
     record {
       ok = (
         rw (root, c.in_ok-dues.ensures.accepted) refl,
-        offence_is c.args.chain.now c.slash_all.new.chain c.args.era c.args.validator c.args.fraction c.in_ok-dues.dues c.mark_slashed.new.self
+        offence_is c.args.chain.now c.slash_all.new.chain c.args.reporter c.args.era c.args.validator c.args.fraction c.in_ok-dues.dues c.mark_slashed.new.self
             c.in_ok-dues.ensures.ok c.in_ok-slash_all.ensures.state c.mark_slashed.ensures.marked,
       );
       refused = tt;

@@ -4,7 +4,7 @@ use Rattle.era_book.specs.declared.exposure.Backer.{Backer}
 use Rattle.npos_runtime.specs.Outcome.{told_after}
 use Rattle.npos_runtime.specs.Live.{IsLive}
 use Rattle.npos_runtime.specs.Offices.{slash_outcome, slashes}
-use Rattle.npos_runtime.proofs.LiveLemmas.{slashed_live}
+use Rattle.npos_runtime.proofs.OfficeCallLemmas.{slashed_live}
 use Rattle.npos_runtime.proofs.OutcomeLemmas.{told_more}
 use Rattle.npos_runtime.proofs.offices.slash_all.Goals as goal
 

@@ -1,13 +1,15 @@
 use Rattle.std.proofs.Common.{◌≡◌, ◌+◌, ◌-◌, arith, ap, sym, subst, ◌∙◌}
-use Rattle.npos_runtime.specs.Offers.{before_calls}
 use Rattle.npos_runtime.specs.declared.chain.Chain.{Chain}
-use Rattle.npos_runtime.specs.Step.{era_phase, calls_outcome}
+use Rattle.npos_runtime.specs.Step.{before_calls, era_phase, calls_outcome}
 use Rattle.npos_runtime.specs.Rounds.{round_phase}
 use Rattle.npos_runtime.specs.Deciding.{decision_phase}
-use Rattle.npos_runtime.specs.Live.{IsLive}
+use Rattle.block_wire.specs.declared.block.Block.{Block}
+use Rattle.npos_runtime.specs.Live.{IsLive, IsBetweenBlocks}
+use Rattle.npos_runtime.proofs.TimeLemmas.{between_step}
 use Rattle.chain_params.specs.Rules.{era_of}
 use Rattle.chain_params.proofs.PhaseLemmas.{era_within}
-use Rattle.npos_runtime.proofs.LiveLemmas.{live_era, live_round, live_before, live_closed, due_before, next_before, due_calls, next_calls, era_step}
+use Rattle.npos_runtime.proofs.PhaseTable.{live_era, live_round}
+use Rattle.npos_runtime.proofs.LiveLemmas.{live_before, due_before, next_before, due_calls, next_calls}
 use Rattle.npos_runtime.proofs.step.take_block.Goals as goal
 
 -- the chain when its calls begin
@@ -20,25 +22,25 @@ pub begin_era-requires-clause-more : goal.begin_era-requires-clause-more
 begin_era-requires-clause-more c =
     omega (
       arith,
-      c.requires.ready.era,
+      c.requires.ready.between.era,
       era_within c.args.chain.now.params (c.args.chain.now.due - 1),
-      c.requires.ready.live.due_at_most,
+      c.requires.ready.between.live.due.at_most,
     )
 
 pub begin_round-requires : goal.begin_round-requires
-begin_round-requires c = subst IsLive (sym c.in_ok-begin_era.ensures.state) (live_era c.args.chain.now c.requires.ready.live)
+begin_round-requires c = subst IsLive (sym c.in_ok-begin_era.ensures.state) (live_era c.args.chain.now c.requires.ready.between.live)
 
 pub decide_round-requires : goal.decide_round-requires
 decide_round-requires c =
     subst IsLive (sym c.in_ok-begin_round.ensures.state)
-    (live_round c.begin_era.new.chain (subst IsLive (sym c.in_ok-begin_era.ensures.state) (live_era c.args.chain.now c.requires.ready.live)))
+    (live_round c.begin_era.new.chain (subst IsLive (sym c.in_ok-begin_era.ensures.state) (live_era c.args.chain.now c.requires.ready.between.live)))
 
 pub take_calls-requires-clause-live : goal.take_calls-requires-clause-live
 take_calls-requires-clause-live c =
     subst IsLive
     (sym (begun c.args.chain.now c.begin_era.new.chain c.begin_round.new.chain c.decide_round.new.chain
     c.in_ok-begin_era.ensures.state c.in_ok-begin_round.ensures.state c.in_ok-decide_round.ensures.state))
-    (live_before c.args.chain.now c.requires.ready.live)
+    (live_before c.args.chain.now c.requires.ready.between.live)
 
 pub take_calls-requires-clause-numbers : goal.take_calls-requires-clause-numbers
 take_calls-requires-clause-numbers c =
@@ -49,7 +51,7 @@ take_calls-requires-clause-numbers c =
       ap (λ (chain : Chain). chain.next) same,
       next_before c.args.chain.now,
       c.requires.ready.numbered,
-      c.requires.ready.live.due_at_most,
+      c.requires.ready.between.live.due.at_most,
       c.requires.few,
     )
 
@@ -58,16 +60,11 @@ returns-clause-ready_after c =
     let same = begun c.args.chain.now c.begin_era.new.chain c.begin_round.new.chain c.decide_round.new.chain
     c.in_ok-begin_era.ensures.state c.in_ok-begin_round.ensures.state c.in_ok-decide_round.ensures.state in
     let called = c.in_ok-take_calls.ensures.goes.state in
+    let whole = called ∙ ap (λ (chain : Chain). (calls_outcome 0 c.args.calls.items chain).state) same in
+    let block : Block = record { number = c.args.number; calls = c.args.calls.items } in
     record {
-      live = live_closed c.take_calls.new.chain c.in_ok-take_calls.ensures.live_after
-          (omega (
-            arith,
-            ap (λ (chain : Chain). chain.due) called,
-            due_calls 0 c.args.calls.items c.decide_round.new.chain,
-            ap (λ (chain : Chain). chain.due) same,
-            due_before c.args.chain.now,
-            c.requires.due,
-          ));
+      between = subst (λ (chain : Chain). IsBetweenBlocks (record chain { due = chain.due + 1 })) (sym whole)
+          (between_step c.args.chain.now block c.requires.ready.between (omega (arith, c.requires.due)));
       numbered = omega (
         arith,
         ap (λ (chain : Chain). chain.next) called,
@@ -79,10 +76,7 @@ returns-clause-ready_after c =
         ap (λ (chain : Chain). chain.due) same,
         due_before c.args.chain.now,
         c.requires.ready.numbered,
-        c.requires.ready.live.due_at_least,
+        c.requires.ready.between.live.due.at_least,
         c.requires.few,
       );
-      era = subst (λ (chain : Chain). chain.eras.current ≡ era_of chain.params (chain.due + 1 - 1))
-          (sym (called ∙ ap (λ (chain : Chain). (calls_outcome 0 c.args.calls.items chain).state) same))
-          (era_step c.args.chain.now (record { number = c.args.number; calls = c.args.calls.items }) c.requires.ready.live c.requires.ready.era);
     }

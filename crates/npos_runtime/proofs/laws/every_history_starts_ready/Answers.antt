@@ -1,0 +1,5 @@
+use Rattle.npos_runtime.proofs.BeginLemmas.{start_law}
+use Rattle.npos_runtime.proofs.laws.every_history_starts_ready.Goals as goal
+
+pub returns : goal.returns
+returns c = start_law
