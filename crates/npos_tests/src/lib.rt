@@ -7,6 +7,8 @@
 #[cfg(test)]
 mod elections;
 #[cfg(test)]
+mod ordinary;
+#[cfg(test)]
 mod refusals;
 #[cfg(test)]
 mod replays;
@@ -14,5 +16,9 @@ mod replays;
 mod rewriting;
 #[cfg(test)]
 mod runtimes;
+#[cfg(test)]
+mod stream_calls;
+#[cfg(test)]
+mod stream_rows;
 #[cfg(test)]
 mod streams;
