@@ -74,7 +74,7 @@ def run(main: Callable[[], int]) -> None:
         status = main()
         sys.stdout.flush()
         sys.exit(status)
-    except Fault as fault:
+    except (Fault, argparse.ArgumentTypeError) as fault:
         sentence = str(fault)
     except BrokenPipeError:
         # nobody reads on, so nothing is to be said either
