@@ -7,7 +7,7 @@ import shlex
 import subprocess
 import sys
 import unittest
-from typing import List, Optional
+from typing import Dict, List, Optional
 
 TOP = pathlib.Path(__file__).resolve().parent.parent.parent
 EXAMPLES = TOP / 'examples'
@@ -30,10 +30,14 @@ def program() -> Optional[List[str]]:
 needs_program = unittest.skipUnless(program(), 'the proved program is not built; NPOS_PROGRAM may name it')
 
 
+def environment() -> Dict[str, str]:
+    """What scripts are run in: they leave nothing behind, and ask no other program."""
+    return dict(os.environ, PYTHONDONTWRITEBYTECODE='1', NPOS_PROGRAM=shlex.join(program() or []))
+
+
 def run(path: pathlib.Path, *words: str, data: bytes = b'') -> 'subprocess.CompletedProcess[bytes]':
     """Runs a script on some words and bytes."""
-    environment = dict(os.environ, PYTHONDONTWRITEBYTECODE='1', NPOS_PROGRAM=shlex.join(program() or []))
-    return subprocess.run([sys.executable, str(path), *words], input=data, capture_output=True, env=environment)
+    return subprocess.run([sys.executable, str(path), *words], input=data, capture_output=True, env=environment())
 
 
 def ask(*words: str, data: bytes = b'') -> 'subprocess.CompletedProcess[bytes]':
