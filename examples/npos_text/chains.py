@@ -50,9 +50,9 @@ def told(reading: Reading, lines: List[str]) -> Iterator[Told]:
     for number, text in enumerate(lines, 1):
         words = text.split()
         call = None
-        if words[:1] == ['block']:
+        if words[0] == 'block':
             block = int(words[1])
-        if words[:1] == ['call']:
+        if words[0] == 'call':
             calls = blocks.get(block, [])
             if int(words[1]) >= len(calls):
                 raise Fault(f'line {number}: there stands {text}, and block {block} of the stream has {len(calls)} calls')
@@ -137,6 +137,15 @@ class Chain:
     def end_role(self, who: str) -> None:
         self.row(who).votes = None
         self.leave(who)
+
+    def follow(self, line: Told) -> None:
+        """What a line says was done."""
+        if line.words[0] == 'era':
+            self.era = int(line.words[1])
+        elif line.words[0] == 'slashed':
+            self.slash(line.words[1], int(line.words[2]))
+        elif line.call and line.words[2] == 'ok':
+            self.do(line.call.words[1:])
 
     def do(self, words: List[str]) -> None:
         """A call that was done. Those that move no stake, role or bag have no method."""
@@ -236,18 +245,16 @@ def rounds_of(reading: Reading, lines: List[str]) -> List[Round]:
     chain = Chain(reading)
     rounds: List[Round] = []
     for line in told(reading, lines):
-        word = line.words[0] if line.words else ''
-        if word == 'era':
-            chain.era = int(line.words[1])
-        elif word == 'call' and line.call and line.words[2] == 'ok':
-            chain.do(line.call.words[1:])
-        elif word == 'slashed':
-            chain.slash(line.words[1], int(line.words[2]))
-        elif word == 'snapshot':
+        word = line.words[0]
+        if word == 'snapshot':
             rounds.append(Round(int(line.words[1]), line.block, chain.election(), []))
             must_agree(line, rounds[-1].election)
         elif word in ('seat', 'member') and rounds:
             rounds[-1].seated.append(line.words)
+        try:
+            chain.follow(line)
+        except (KeyError, ValueError):
+            raise Fault(f'line {line.number}: there stands {" ".join(line.words)}, which the stream does not lead to') from None
     return rounds
 
 

@@ -1,7 +1,11 @@
 """What the numbers and words in the lines of npos mean."""
 from __future__ import annotations
 
+import re
 from typing import Dict, List
+
+from .forms import shown
+from .scale import Fault
 
 # why a call is refused
 REFUSALS: Dict[int, str] = dict(enumerate([
@@ -40,17 +44,26 @@ FAULTS: Dict[str, str] = {
     'long': 'the input has more than 16,777,216 bytes',
 }
 
-# what each line looks like
+# what each line looks like, where N is a number and H an account
 LINES: List[str] = [
-    'block [0-9]+', 'era [0-9]+', 'snapshot [0-9]+ targets [0-9]+ voters [0-9]+ total [0-9]+', 'void [0-9]+ (few|poor)',
-    'forfeit [0-9]+ [0-9]+ verdict [0-9 ]+', 'return [0-9]+ [0-9]+', 'reward [0-9]+ [0-9]+',
-    'seat [0-9]+ (signed [0-9]+|fill)', '(member|paid|slashed) [0-9a-f]{64} [0-9]+', 'call [0-9]+ (ok|refused ([1-9]|[12][0-9]|30))',
-    'end free [0-9]+ active [0-9]+ unlocking [0-9]+ deposits [0-9]+ minted [0-9]+ burned [0-9]+ issuance [0-9]+',
-    'fault [0-9]+ (short|notshortest|toowide|badtag|toomany|trailing|nosolution|json|shape|long)',
-    'fault [0-9]+ number due [0-9]+ found [0-9]+', 'fault 0 genesis [1-9] [0-9]+', 'fault 0 snapshot ([1-9]|1[0-3]) [0-9 ]+',
-    'score [0-9]+ [0-9]+ [0-9]+', 'solution [0-9a-f]*', 'lost [0-9]+', 'verdict ([0-9]|1[01])( [0-9]+)*',
-    'demo targets [0-9]+ voters [0-9]+ total [0-9]+', '(fill|seq) score [0-9]+ [0-9]+ [0-9]+ verdict [0-9 ]+', 'seq lost [0-9]+',
+    'block N', 'era N', 'snapshot N targets N voters N total N', 'void N (few|poor)', 'forfeit N N verdict W', 'return N N',
+    'reward N N', 'seat N (signed N|fill)', '(member|paid|slashed) H N', 'call N (ok|refused ([1-9]|[12][0-9]|30))',
+    'end free N active N unlocking N deposits N minted N burned N issuance N',
+    'fault N (short|notshortest|toowide|badtag|toomany|trailing|nosolution|json|shape|long)', 'fault N number due N found N',
+    'fault 0 genesis [1-9] N', 'fault 0 snapshot ([1-9]|1[0-3]) N( N)?', 'score N N N', 'solution [0-9a-f]*', 'lost N', 'verdict W',
+    'demo targets N voters N total N', '(fill|seq) score N N N verdict W', 'seq lost N',
 ]
+LINE = re.compile('|'.join(LINES).replace('W', '(0|1 N [1-6]|[23458] N|(6|10) N N|(7|11) N|9 N N N)')
+                  .replace('N', '[0-9]{1,39}').replace('H', '[0-9a-f]{64}'))
+
+
+def report(text: str) -> List[str]:
+    """The lines of what npos wrote."""
+    lines = text.splitlines()
+    for number, line in enumerate(lines, 1):
+        if not LINE.fullmatch(line):
+            raise Fault(f'line {number}: there stands {shown(line)}, and a line that npos writes was expected')
+    return lines
 
 
 def verdict(words: List[str]) -> str:

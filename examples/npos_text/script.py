@@ -9,6 +9,7 @@ import subprocess
 import sys
 from typing import Callable, List
 
+from .reasons import report
 from .scale import Fault
 
 TOP = pathlib.Path(__file__).resolve().parent.parent.parent
@@ -64,7 +65,7 @@ def replayed(stream: bytes) -> List[str]:
     done = subprocess.run(program() + ['replay'], input=stream, stdout=subprocess.PIPE)
     if done.returncode not in (0, 3):
         raise Fault(f'npos replay ended with status {done.returncode}, and 0 or 3 was expected')
-    return done.stdout.decode().splitlines()
+    return report(done.stdout.decode())
 
 
 def run(main: Callable[[], int]) -> None:

@@ -90,6 +90,32 @@ class Wrapper(Folder):
         self.assertEqual((done.returncode, done.stdout, done.stderr), (0, 'built\n', ''))
 
 
+class Gate(Folder):
+    """The gate runs the kit's, with no names, and then every folder of tests, whatever either says."""
+
+    def ask(self, kit_status: int, tests_pass: bool, bindings_status: int = 0) -> Tuple[int, str]:
+        """The status of a gate with these, and what ran in which order."""
+        self.put('.ci/run', (TOP / '.ci/run').read_text())
+        self.put('kit/rt', f'#!/bin/sh\necho "rt $*" >> ran\nexit {kit_status}\n')
+        for name in ['examples', 'tools']:
+            self.put(f'{name}/tests/test_it.py', 'import unittest\nclass It(unittest.TestCase):\n    def test(self):\n'
+                     f"        open('ran', 'a').write('{name}\\n')\n        self.assertTrue({tests_pass})\n")
+        self.put('bindings/test', f'#!/bin/sh\necho bindings >> ran\nexit {bindings_status}\n')
+        (self.top / 'ran').unlink(missing_ok=True)
+        path = f'{self.top}/kit:{os.environ["PATH"]}'
+        done = subprocess.run([self.top / '.ci/run'], capture_output=True, env=dict(os.environ, PATH=path))
+        self.assertEqual(done.stdout, b'')
+        return done.returncode, (self.top / 'ran').read_text()
+
+    def test_the_gate(self) -> None:
+        ran = 'rt ci\nexamples\ntools\nbindings\n'
+        self.assertEqual(self.ask(0, True), (0, ran))
+        self.assertEqual(self.ask(3, True), (3, ran))
+        self.assertEqual(self.ask(0, False), (1, ran))
+        self.assertEqual(self.ask(0, True, 1), (1, ran))
+        self.assertFalse(list(self.top.glob('**/__pycache__')))
+
+
 class Examples(Folder):
     def setUp(self) -> None:
         super().setUp()
