@@ -107,7 +107,7 @@ class Mining(Scripts):
 
     @needs_program
     def test_it_wins_somewhere(self) -> None:
-        election = generated(1, 20, 4).spelled()
+        election = generated(7, 200, 16).spelled()
         mined = self.written('tiny-miner', data=election)
         self.assertEqual(ask('check', data=mined).stdout, b'verdict 0\n')
         other = ask('mine', '--miner', 'mms', data=election).stdout.decode().splitlines()
