@@ -104,6 +104,7 @@ class Chain:
         self.era = 0
 
     def row(self, who: str) -> Row:
+        """What is kept of an account."""
         return self.rows.setdefault(who, Row())
 
     def bag_of(self, who: str) -> int:
@@ -111,6 +112,7 @@ class Chain:
         return bisect_left(self.thresholds, self.row(who).active)
 
     def leave(self, who: str) -> None:
+        """Stands in no bag any more."""
         if self.row(who).bag >= 0:
             self.bags[self.row(who).bag].remove(who)
         self.row(who).bag = -1
@@ -135,6 +137,7 @@ class Chain:
             self.join(who)
 
     def end_role(self, who: str) -> None:
+        """Is neither validator nor nominator any more."""
         self.row(who).votes = None
         self.leave(who)
 

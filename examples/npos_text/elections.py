@@ -40,7 +40,9 @@ class Election:
 
     def fault(self) -> Optional[str]:
         """Why there is no such election, if there is none; npos tells the first fault in its own order."""
-        count = len(self.targets)
+        count, names = len(self.targets), [voter.account for voter in self.voters]
+        if len(set(self.targets)) < count or len(set(names)) < len(names) or self.total >> 64:
+            return 'an account stands twice among the targets or the voters, or the stakes sum to 2^64 or more'
         for number, voter in enumerate(self.voters):
             if voter.stake == 0 or not 1 <= len(voter.votes) <= 16 or len(set(voter.votes)) < len(voter.votes):
                 return f'voter {number} has no stake, or not 1 to 16 different votes'

@@ -49,6 +49,7 @@ class Form:
 
 
 def must_be_few(count: int, limit: int, what: str) -> None:
+    """There are at most so many."""
     if count > limit:
         raise Fault(f'there stand {count} {what}, and at most {limit} were expected')
 
@@ -64,6 +65,7 @@ class Stream(Form):
         self.blocks: List[Tuple[bytes, List[bytes]]] = []
 
     def take(self, number: int, words: List[str]) -> None:
+        """Takes the next line, which may be one of the params."""
         if 'end' in self.seen:
             raise Fault(f'there stands {shown(words[0])} behind the end, and nothing was expected but bytes or cut')
         if words[0] in PARAMS:
@@ -139,6 +141,7 @@ class Bundle(Form):
         self.edges: List[bytes] = []
 
     def must_come_before(self, word: str) -> None:
+        """The line stands before the work."""
         if 'work' in self.seen:
             raise Fault(f'there stands {word}, which was expected before the work alone')
 
@@ -184,6 +187,7 @@ class Bundle(Form):
         must_be_few(len(self.edges), forms.EDGES, 'edges')
 
     def must_be_plain(self, word: str) -> None:
+        """The line stands behind `plain`."""
         if self.work != b'\x02':
             raise Fault(f'there stands {word}, and a line plain was expected before it')
 

@@ -1,5 +1,5 @@
 """Elections by hand: expand, generate, tiny-miner, and the key that shape names."""
-from support import Scripts, account, ask, needs_program
+from support import EXAMPLES, Scripts, account, ask, needs_program
 
 from npos_text import encode
 from npos_text.elections import Election, Voter, bundle_of, generated, levelled, packed
@@ -79,6 +79,26 @@ class Expanding(Scripts):
         self.assertEqual(self.refused('expand', data=encode(FILLED + 'packed 1 1 1 5:0')),
                          'the solution has an entry of voter 5 for [0], and positions that there are were expected')
         self.assertEqual(self.refused('expand', data=encode(FILLED + 'packed 1 1 1 hex:00')), 'at 1: short')
+
+
+    def test_the_numbers_behind_verdicts(self) -> None:
+        """Of the examples: their expected lines were made by another program."""
+        seen = set()
+        for path in EXAMPLES.glob('check/*.txt'):
+            kind, number, *numbers = path.with_suffix('.out').read_text().split()
+            if kind == 'fault' or number not in ('0', '9', '10'):
+                continue
+            seen.add(number)
+            bundle = bundle_of(encode(path.read_text()))
+            weights = bundle.weights()
+            assert weights is not None
+            prescores, price = weights.prescores(bundle.election), bundle.election.price
+            if number == '9':
+                self.assertEqual([str(one) for one in weights.score()], numbers)
+            if number == '10':
+                self.assertEqual(str(prescores[int(numbers[0])]), numbers[1])
+            self.assertEqual(number == '10', max(prescores.values(), default=0) >= price, path)
+        self.assertEqual(seen, {'0', '9', '10'})
 
 
 class Generating(Scripts):
