@@ -85,7 +85,8 @@ class Weights:
 
     def score(self) -> Tuple[int, int, int]:
         """The least support, the sum and the sum of squares."""
-        supports = [self.supports()[member] for member in self.committee]
+        found = self.supports()
+        supports = [found[member] for member in self.committee]
         return min(supports), sum(supports), sum(support * support for support in supports)
 
     def prescores(self, election: Election) -> Dict[int, int]:
@@ -212,11 +213,12 @@ def fill(election: Election) -> Weights:
     backing = {target: sum(left[voter] for voter in voters) for target, voters in enumerate(nominators)}
     edges: Edges = {}
     committee = []
+    price = election.price
     for _ in range(election.seats):
         best = max(backing, key=lambda target: backing[target])
         committee.append(best)
         del backing[best]
-        due = election.price
+        due = price
         for number in nominators[best]:
             drawn = min(due, left[number])
             due -= drawn

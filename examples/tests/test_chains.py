@@ -177,6 +177,10 @@ class Explaining(Chains):
         lines = self.written('explain', data='\n'.join(ALONE).encode()).decode().splitlines()
         self.assertEqual(dict(map(split, lines)), ALONE)
 
+    def test_accounts_in_short(self) -> None:
+        written = self.written('explain', data=f'member {"3f9a1b" + "0" * 52 + "0c2d4e"} 5\nmember {account(7)} 6\n'.encode())
+        self.assertEqual(written, b'member 3f9a1b..0c2d4e 5\nmember @7 6\n')
+
     def test_where_a_fault_lies(self) -> None:
         for name, due in [('short', 'in call 0 of block 1'), ('toomany', 'in block 1'), ('trailing', 'behind block 1'),
                           ('toowide', 'in the genesis'), ('number', 'in block 3')]:
