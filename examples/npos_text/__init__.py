@@ -17,7 +17,7 @@ target 2 and the rest for target 3; no entries are `hex:` and the bytes of sixte
     voter @4 60 0 1
     packed 40 100 5200 0:0 1:1          or `nothing`, or `plain`, `committee 0 1` and a line `edge 0 0 60` for each edge
 
-For damaged inputs lines at the end add bytes (`bytes ff00`) or leave so many (`cut 71`); `end` or the work may then lack.
+For damaged inputs lines at the end add bytes (`bytes ff00`) or leave so many (`cut 71`); `end` or the work may be missing then.
 """
 from .forms import KINDS, PARAMS, account_of, name_of
 from .reading import Line, Reading, decode
