@@ -1,0 +1,185 @@
+"""What stands around the program: the wrapper at the top, examples/run and bench/run, with programs that are made up here."""
+from __future__ import annotations
+
+import os
+import pathlib
+import shutil
+import subprocess
+import tempfile
+import unittest
+from typing import Tuple
+
+from support import EXAMPLES, TOP, run
+
+TOOLS = '/usr/bin:/bin'
+# a kit that builds a program which tells its words and ends with 1, or that fails
+BUILDS = '''#!/bin/sh
+if [ "$1" = all ]; then exit 0; fi
+mkdir -p out && printf '#!/bin/sh\\necho "ran $*"; exit 1\\n' > out/npos && chmod +x out/npos
+exit 2
+'''
+FAILS = '#!/bin/sh\nexit 1\n'
+
+
+class Folder(unittest.TestCase):
+    """Tests with a folder of their own."""
+
+    def setUp(self) -> None:
+        folder = tempfile.TemporaryDirectory()
+        self.addCleanup(folder.cleanup)
+        self.top = pathlib.Path(folder.name).resolve()
+
+    def put(self, place: str, text: str) -> pathlib.Path:
+        """A file that can be run."""
+        path = self.top / place
+        path.parent.mkdir(parents=True, exist_ok=True)
+        path.write_text(text)
+        path.chmod(0o755)
+        return path
+
+
+class Wrapper(Folder):
+    def setUp(self) -> None:
+        super().setUp()
+        self.put('crates.txt', '')
+        self.source = self.put('crates/npos/src/main.rt', '')
+        shutil.copy(TOP / 'npos', self.top / 'npos')
+
+    def ask(self, *words: str, kit: str = '', name: str = 'npos') -> subprocess.CompletedProcess[str]:
+        """Runs the wrapper with a kit on the PATH, or without one."""
+        if kit:
+            self.put('kit/rt', kit)
+        path = f'{self.top}/kit:{TOOLS}' if kit else TOOLS
+        return subprocess.run([self.top / name, *words], capture_output=True, text=True, env=dict(os.environ, PATH=path))
+
+    def build(self, is_current: bool) -> pathlib.Path:
+        """A program that was built, after the sources or before."""
+        program = self.put('crates/npos/out/npos', '#!/bin/sh\necho built; exit 0\n')
+        if not is_current:
+            os.utime(program, (1, 1))
+        return program
+
+    @unittest.skipIf(shutil.which('rt', path=TOOLS), 'rt stands beside the tools of the system')
+    def test_without_the_kit_nothing_is_removed(self) -> None:
+        done = self.ask('check')
+        self.assertEqual((done.returncode, done.stdout), (8, ''))
+        self.assertIn('rt of the Rattle kit is not on the PATH', done.stderr)
+        program = self.build(is_current=False)
+        self.assertEqual(self.ask('check').returncode, 8)
+        self.assertTrue(program.exists())
+
+    def test_a_failed_proof_is_no_verdict(self) -> None:
+        program = self.build(is_current=False)
+        done = self.ask('check', kit=FAILS)
+        self.assertEqual((done.returncode, done.stdout), (8, ''))
+        self.assertEqual(done.stderr.count('half an hour'), 1)
+        self.assertIn('rt try -- replay', done.stderr)
+        self.assertFalse(program.exists())
+
+    def test_it_builds_and_runs(self) -> None:
+        done = self.ask('check', '--a b', kit=BUILDS)
+        self.assertEqual((done.returncode, done.stdout), (1, 'ran check --a b\n'))
+        again = self.ask('check')
+        self.assertEqual((again.returncode, again.stdout, again.stderr), (1, 'ran check\n', ''))
+
+    def test_a_symlink(self) -> None:
+        self.build(is_current=True)
+        (self.top / 'bin').mkdir()
+        (self.top / 'bin/elsewhere').symlink_to(self.top / 'npos')
+        done = self.ask('show', name='bin/elsewhere')
+        self.assertEqual((done.returncode, done.stdout, done.stderr), (0, 'built\n', ''))
+
+
+class Gate(Folder):
+    """The gate runs the kit's, with no names, and then every folder of tests, whatever either says."""
+
+    def ask(self, kit_status: int, tests_pass: bool, bindings_status: int = 0) -> Tuple[int, str]:
+        """The status of a gate with these, and what ran in which order."""
+        self.put('.ci/run', (TOP / '.ci/run').read_text())
+        self.put('kit/rt', f'#!/bin/sh\necho "rt $*" >> ran\nexit {kit_status}\n')
+        for name in ['examples', 'tools']:
+            self.put(f'{name}/tests/test_it.py', 'import unittest\nclass It(unittest.TestCase):\n    def test(self):\n'
+                     f"        open('ran', 'a').write('{name}\\n')\n        self.assertTrue({tests_pass})\n")
+        self.put('bindings/test', f'#!/bin/sh\necho bindings >> ran\nexit {bindings_status}\n')
+        (self.top / 'ran').unlink(missing_ok=True)
+        path = f'{self.top}/kit:{os.environ["PATH"]}'
+        done = subprocess.run([self.top / '.ci/run'], capture_output=True, env=dict(os.environ, PATH=path))
+        self.assertEqual(done.stdout, b'')
+        return done.returncode, (self.top / 'ran').read_text()
+
+    def test_the_gate(self) -> None:
+        ran = 'rt ci\nexamples\ntools\nbindings\n'
+        self.assertEqual(self.ask(0, True), (0, ran))
+        self.assertEqual(self.ask(3, True), (3, ran))
+        self.assertEqual(self.ask(0, False), (1, ran))
+        self.assertEqual(self.ask(0, True, 1), (1, ran))
+        self.assertFalse(list(self.top.glob('**/__pycache__')))
+
+
+class Examples(Folder):
+    def setUp(self) -> None:
+        super().setUp()
+        shutil.copytree(EXAMPLES / 'npos_text', self.top / 'npos_text')
+        shutil.copy(EXAMPLES / 'run', self.top / 'run')
+        self.put('check/words', 'check')
+        self.put('check/yes.txt', (EXAMPLES / 'check/yes.txt').read_text())
+        self.put('check/yes.out', 'verdict 0\n')
+
+    def told(self, program: str) -> Tuple[int, str]:
+        """What the script says of a program, and its status."""
+        done = run(self.top / 'run', program)
+        self.assertEqual(done.stderr.decode(), '')
+        return done.returncode, done.stdout.decode()
+
+    def test_a_right_program(self) -> None:
+        right = self.put('right', '#!/bin/sh\nfor word; do :; done; [ "$word" = check ] && echo verdict 0\n')
+        self.assertEqual(self.told(str(right)), (0, '1 passed, 0 failed\n'))
+
+    def test_a_wrong_program(self) -> None:
+        wrong = self.put('wrong', '#!/bin/sh\necho verdict 1\nexit 1\n')
+        status, said = self.told(str(wrong))
+        self.assertEqual((status, said.splitlines()[0]), (1, 'check/yes: status 1, due 0; wrote'))
+        self.assertTrue(said.endswith('0 passed, 1 failed\n'))
+
+    def test_what_has_no_other_half_is_told(self) -> None:
+        self.put('check/alone.txt', 'bundle\nseats 1\nnothing\n')
+        self.put('check/bare.out', 'verdict 0\n')
+        status, said = self.told('true')
+        self.assertEqual(status, 1)
+        self.assertIn('check/alone: there is nothing to compare with, and a .out or a .bundle was expected\n', said)
+        self.assertIn('check/bare: there is no text to read, and a .txt or a .json was expected\n', said)
+
+    def test_one_sentence(self) -> None:
+        self.put('check/yes.txt', 'bundle\nseats x\n')
+        self.assertIn('check/yes.txt: line 2: there stands x, and', self.told('true')[1])
+        for program, said in [('/no/such', 'run: /no/such: No such file or directory\n'),
+                              (str(self.put('unbuilt', '#!/bin/sh\nexit 8\n')), 'run: the program is not built\n')]:
+            self.put('check/yes.txt', (EXAMPLES / 'check/yes.txt').read_text())
+            done = run(self.top / 'run', program)
+            self.assertEqual((done.returncode, done.stdout, done.stderr.decode()), (2, b'', said))
+
+
+class Bench(Folder):
+    def test_it_compares(self) -> None:
+        done = run(TOP / 'bench/run', '--rounds', '1', 'bonds', '10', 'true', 'true')
+        self.assertEqual((done.returncode, done.stderr), (0, b''))
+        self.assertTrue(done.stdout.startswith(b'bonds 10: '))
+        other = self.put('other', '#!/bin/sh\necho other\n')
+        self.assertEqual(run(TOP / 'bench/run', '--rounds', '1', 'bonds', '10', 'true', str(other)).returncode, 1)
+
+    def test_a_wrapper_stands_for_its_program(self) -> None:
+        self.put('crates.txt', '')
+        wrapper = self.put('npos', '#!/bin/sh\nexit 2\n')
+        self.put('crates/npos/out/npos', '#!/bin/sh\nexit 0\n')
+        self.assertEqual(run(TOP / 'bench/run', '--rounds', '1', 'bonds', '10', str(wrapper), 'true').returncode, 0)
+        self.put('npos', '#!/bin/sh\nexit 8\n')
+        done = run(TOP / 'bench/run', '--rounds', '1', 'bonds', '10', str(wrapper), 'true')
+        self.assertEqual((done.returncode, done.stderr.decode()), (2, f'run: {wrapper} has no program to measure\n'))
+
+    def test_one_sentence(self) -> None:
+        usage = 'bench/run [--rounds N] [--save FILE] JOB [NUMBER] PROGRAM OTHER'
+        for words, said in [(['bonds', 'true'], f'run: there stand 1 words behind the job, and this was expected: {usage}\n'),
+                            (['bonds', '/no/such', 'true'], 'run: there stands /no/such, and a command was expected\n'),
+                            (['rounds', '1', 'true', 'true'], 'run: there stands 1, and a number from 64 to 16384 was expected\n')]:
+            done = run(TOP / 'bench/run', *words)
+            self.assertEqual((done.returncode, done.stdout, done.stderr.decode()), (2, b'', said))

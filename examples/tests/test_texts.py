@@ -1,0 +1,161 @@
+"""Texts and their bytes: worked bytes, what encode refuses, what decode says of damaged bytes, and both ways of all examples."""
+from typing import Tuple
+
+from support import EXAMPLES, TOP, Scripts, account, run
+
+from npos_text import Fault, Reader, Reading, Refusal, compact, encode
+
+ONE, TWO, NINE = account(1), account(2), account(9)
+TRANSFERS = f'''
+    00 08 {ONE} 9101 {TWO} 00
+    01 04 08 {ONE} 00 {TWO} a0 {ONE} 00 {TWO} f4
+    00'''
+YES = f'''
+    08 0c {ONE} {TWO} {account(3)} 08 {account(4)} f0 04 00 {account(5)} a0 04 04
+    01 a0 9101 5014 {'00' * 14} 50 08000004 04 {'00' * 15}'''
+PARAMS = f'{NINE} 08 18 08 08 04 04 08 9101 a10f 0c a10f 30 14 a10f'
+
+FULL = '''root @9
+seats 2
+era_blocks 6
+offset 2
+signed 2
+bonding_eras 1
+least_bond 1
+thresholds 100 1000
+queue 3
+solution_max 1000
+deposit 12
+reward 5
+era_reward 1000'''
+
+BUNDLE = 'bundle\nseats 1\ntarget @1\nvoter @2 5 0\n'
+GENESIS = 'genesis plain\nendow @1 100\n'
+
+# a text, and the sentence with which it is refused
+REFUSED = [
+    ('', 'line 1: there stands nothing, and bundle, genesis plain or genesis full was expected'),
+    ('hello', 'line 1: there stands hello, and genesis plain, genesis full or bundle was expected first'),
+    ('genesis', 'line 1: genesis needs: plain or full; there stands: nothing'),
+    (GENESIS + 'block 1\ncall @1 transfer @2\nend', 'line 4: transfer needs: account number; there stands: @2'),
+    (GENESIS + 'block 1\ncall @1 points @1\nend', 'line 4: points needs: account number ..; there stands: @1'),
+    (GENESIS + 'block 1\ncall @1 chill 5\nend', 'line 4: chill needs: nothing more; there stands: 5'),
+    (GENESIS + 'block 1\ncall @1\nend', 'line 4: call needs: account kind ..; there stands: @1'),
+    (GENESIS + 'block 1\ncall 7 chill\nend',
+     'line 4: there stands 7, and an account was expected: @ with a number, or 64 hexadecimal digits'),
+    (GENESIS + 'call @1 chill\nend', 'line 3: there stands call, and a line block was expected before it'),
+    ('genesis plain\nendow @1 5 6\nend', 'line 2: endow needs: account number; there stands: @1 5 6'),
+    ('genesis plain\nendow @1 -5\nend', 'line 2: there stands -5, and a number below 2^64 was expected'),
+    (f'genesis plain\nendow @1 {1 << 64}\nend',
+     'line 2: there stands 18446744073709551616, and a number below 2^64 was expected'),
+    ('genesis plain\ngenesis plain\nend', 'line 2: there stands genesis, which stands in line 1 already'),
+    ('genesis plain\nseats 2\nend', 'line 2: there stands seats, and params were expected only in a full genesis, before its blocks'),
+    (GENESIS + 'block 1\nendow @2 1\nend', 'line 4: there stands endow, which was expected before the blocks alone'),
+    (GENESIS, 'line 3: there is no line end, which was expected'),
+    (GENESIS + 'end\nblock 1', 'line 4: there stands block behind the end, and nothing was expected but bytes or cut'),
+    ('genesis full\n' + FULL.replace('queue 3\n', '') + '\nend', 'line 14: there is no line queue, which was expected'),
+    ('genesis full\n' + FULL + '\nqueue 4\nend', 'line 15: there stands queue, which stands in line 10 already'),
+    (GENESIS + 'block 1\n' + 'call @1 chill\n' * 65 + 'end', 'line 68: there stand 65 calls in a block, and at most 64 were expected'),
+    ('bundle\ntarget @1\nnothing', 'line 4: there is no line seats, which was expected'),
+    (BUNDLE, 'line 5: there is no work, and a line nothing, packed or plain was expected'),
+    (BUNDLE + 'plain\nnothing', 'line 6: there stands nothing, but the work, which stands in line 5 already'),
+    (BUNDLE + 'plain', 'line 6: there is no line committee, which was expected'),
+    (BUNDLE + 'plain\ncommittee 0\nedge 0 0', 'line 7: edge needs: voter target amount; there stands: 0 0'),
+    (BUNDLE + 'edge 0 0 5', 'line 5: there stands edge, and a line plain was expected before it'),
+    (BUNDLE + 'packed 5 5 25', 'line 5: packed needs: least-support sum squares solution; there stands: 5 5 25'),
+    (BUNDLE + 'packed 5 5 25 0', 'line 5: there stands 0, and an entry voter:target/share,..,last with at most 16 targets was expected'),
+    (BUNDLE + 'packed 5 5 25 0:70000', 'line 5: there stands 70000, and a number below 2^16 was expected'),
+    (BUNDLE + 'packed 5 5 25 hex:0', 'line 5: there stands 0, and hexadecimal digits, two a byte, were expected'),
+    (BUNDLE + 'seats 1\nnothing', 'line 5: there stands seats, which stands in line 2 already'),
+    (BUNDLE + 'nothing\nbytes 00\nseats 1', 'line 7: there stands seats behind bytes or cut, and only such lines were expected'),
+    (BUNDLE + 'nothing\ncut 1000', 'line 6: there stands 1000, and at most the 71 bytes before it were expected'),
+    (BUNDLE + 'nothing\nbytes 0', 'line 6: there stands 0, and hexadecimal digits, two a byte, were expected'),
+]
+
+
+class Bytes(Scripts):
+    def test_worked_numbers(self) -> None:
+        for value, digits in [(63, 'fc'), (64, '0101'), (16383, 'fdff'), (16384, '02000100'), ((1 << 30) - 1, 'feffffff'),
+                              (1 << 30, '0300000040'), ((1 << 64) - 1, '13' + 'ff' * 8)]:
+            self.assertEqual(compact(value).hex(), digits)
+            self.assertEqual(Reader(bytes.fromhex(digits)).compact(), value)
+
+    def test_refused_numbers(self) -> None:
+        for digits, bits, why in [('0100', 32, 'notshortest'), ('070000004000', 64, 'notshortest'), ('01', 32, 'short'),
+                                  ('17' + 'ff' * 9, 64, 'toowide'), ('02000400', 16, 'toowide'), ('07', 32, 'toowide')]:
+            with self.assertRaises(Refusal) as caught:
+                Reader(bytes.fromhex(digits)).compact(bits)
+            self.assertEqual((caught.exception.at, caught.exception.why), (0, why))
+
+    def test_worked_texts(self) -> None:
+        text = GENESIS + 'endow @2 0\nblock 1\ncall @1 transfer @2 40\ncall @1 transfer @2 61\nend'
+        self.assertEqual(encode(text).hex(), ''.join(TRANSFERS.split()))
+        self.assertEqual((EXAMPLES / 'transfers.scale').read_bytes().hex(), ''.join(TRANSFERS.split()))
+        self.assertEqual(encode((EXAMPLES / 'check/yes.txt').read_text()).hex(), ''.join(YES.split()))
+        self.assertEqual(encode('genesis full\n' + FULL + '\nend').hex(), '0100' + ''.join(PARAMS.split()) + '00')
+        work = encode(BUNDLE + 'packed 3 10 58 0:0/21845,1')
+        self.assertTrue(work.hex().endswith('000400005655010004' + '00' * 14))
+
+    def test_refused_texts(self) -> None:
+        for text, sentence in REFUSED:
+            with self.subTest(text=text), self.assertRaises(Fault) as caught:
+                encode(text)
+            self.assertEqual(str(caught.exception), sentence)
+
+    def test_encode(self) -> None:
+        self.assertEqual(self.written('encode', data=b'bytes 00ff'), b'\x00\xff')
+        self.assertEqual(self.refused('encode', data=b'bundle\nseats 1 1\n'), 'line 2: seats needs: number; there stands: 1 1')
+        self.assertEqual(self.refused('encode', data=b'bundle\n\xff'), 'line 2: there stands a byte ff, and UTF-8 was expected')
+
+    def test_examples_both_ways(self) -> None:
+        for path in sorted([*EXAMPLES.glob('*/*.txt'), *EXAMPLES.glob('*/*.bundle')]):
+            if path.name.startswith('fault-') and path.with_suffix('.out').read_text().split()[-1].isalpha():
+                continue
+            data = encode(path.read_text())
+            reading = Reading(data, path.parent.name != 'replay')
+            self.assertIsNone(reading.fault, path)
+            self.assertEqual(encode(reading.text()), data, path)
+
+
+class Decoding(Scripts):
+    def decoded(self, data: bytes, *words: str) -> Tuple[str, str]:
+        """The last line and the sentence on bytes that cannot be read."""
+        done = run(EXAMPLES / 'decode', *words, data=data)
+        self.assertEqual(done.returncode, 2)
+        return ' '.join(done.stdout.decode().splitlines()[-1].split()), done.stderr.decode()[8:-1]
+
+    def test_faults_of_examples(self) -> None:
+        for name in ['badtag', 'notshortest', 'short', 'toomany', 'toowide', 'trailing']:
+            text = (EXAMPLES / f'replay/fault-{name}.txt').read_text()
+            due = (EXAMPLES / f'replay/fault-{name}.out').read_text().split()
+            last, _ = self.decoded(encode(text))
+            self.assertTrue(last.endswith(f'# at {due[-2]}: {due[-1]}'), last)
+
+    def test_the_rest_is_a_line_of_bytes(self) -> None:
+        data = encode(GENESIS + 'block 1\nend')[:-1] + b'\x07'
+        last, said = self.decoded(data)
+        self.assertEqual(last, 'bytes 07 # at 39: badtag')
+        self.assertEqual(said, 'the bytes cannot be read as a stream at 39: badtag')
+        self.assertEqual(encode(Reading(data, is_bundle=False).text()), data)
+
+    def test_hints(self) -> None:
+        bundle = encode((EXAMPLES / 'check/yes.txt').read_text())
+        stream = (EXAMPLES / 'transfers.scale').read_bytes()
+        self.assertIn('as a bundle they can be: examples/decode bundle', self.decoded(bundle)[1])
+        self.assertIn('as a stream they can be: examples/decode stream', self.decoded(stream, 'bundle')[1])
+
+    def test_words(self) -> None:
+        self.assertIn(b'target @1', self.written('decode', 'bundle', data=encode((EXAMPLES / 'check/yes.txt').read_text())))
+
+
+class Words(Scripts):
+    def test_help_and_unknown_words(self) -> None:
+        paths = [EXAMPLES / name for name in ['encode', 'decode', 'rounds', 'expand', 'explain', 'generate', 'tiny-miner', 'shape', 'run']]
+        for path in [*paths, TOP / 'bench/run']:
+            with self.subTest(path=path.name):
+                helped = run(path, '--help')
+                self.assertEqual((helped.returncode, helped.stderr), (0, b''))
+                unknown = run(path, '--unknown')
+                self.assertEqual((unknown.returncode, unknown.stdout), (2, b''))
+                self.assertIn(b'usage: ', unknown.stderr)
+                self.assertNotIn(b'Traceback', unknown.stderr)
