@@ -59,8 +59,8 @@ class Units:
 
     def fine(self, amount: int) -> str:
         """An amount of a voter, which may be small: with at least two digits that tell."""
-        value = amount / self.scale
-        return self.plain(amount) if value >= 1 or amount == 0 or self.scale == 1 else f'{value:.2g}'
+        tells = amount * 10 ** self.places >= 10 * self.scale
+        return self.plain(amount) if tells or amount == 0 or self.scale == 1 else f'{amount / self.scale:.2g}'
 
     def exact(self, amount: int) -> str:
         """An amount with every unit of stake."""
@@ -69,7 +69,7 @@ class Units:
 
     def named(self, amount: int) -> str:
         """An amount with its unit."""
-        return f'{self.plain(amount)} {self.name}'.strip()
+        return f'{self.plain(amount)} {"× " if self.name.startswith("10") else ""}{self.name}'
 
 
 def percent(part: int, whole: int) -> str:
@@ -103,8 +103,11 @@ def path(steps: str, kind: str = '', **more: object) -> str:
 
 def nice_step(most: float, count: int) -> float:
     """A round step so that about so many of them reach the greatest value."""
-    raw = max(most, 1) / count
-    power = 10.0 ** (len(str(int(raw))) - 1)
+    raw, power = max(most, 1e-9) / count, 1.0
+    while power > raw:
+        power /= 10
+    while power * 10 <= raw:
+        power *= 10
     return next(factor * power for factor in (1, 2, 2.5, 5, 10) if factor * power >= raw * 0.999)
 
 
@@ -278,7 +281,7 @@ def column_frame(page: Page, x: float, y: float, width: float, height: float, la
     while at * page.units.scale <= page.most:
         tick = bar_x + page.along(int(at * page.units.scale), bar_width)
         marks.append(path(f'M{tick:.1f} {y - 3}v{height + 3:.1f}', 'rule'))
-        if abs(tick - price_x) > (60 if layout.count == 1 else 34):
+        if abs(tick - price_x) > (62 if layout.count <= 2 else 34):
             marks.append(text(tick, y - 6, size, f'{at:,g}', 'quiet middle'))
         at += step
     word = 'price of a seat' if layout.count <= 2 else 'price'
@@ -348,8 +351,10 @@ def overview_legend(y: float, x: float) -> List[str]:
 def outside_panel(page: Page, x: float, y: float, width: float) -> Drawn:
     """The strongest targets outside, with what their nominators have left beside the price of a seat."""
     price, rows = page.scene.price(), page.scene.outsiders[:TABLE_ROWS]
-    marks = [text(x, y + 14, 15, 'Strongest targets outside', 'bold'),
-             text(x, y + 32, 11.5, 'what their nominators have left; at the price of a seat one would have a claim', 'quiet')]
+    title, remark = 'Strongest targets outside', 'what their nominators have left; at the price of a seat one would have a claim'
+    if not page.scene.members:
+        title, remark = 'Targets by the stake of their nominators', 'nobody is elected by this work, so all stake is left'
+    marks = [text(x, y + 14, 15, title, 'bold'), text(x, y + 32, 11.5, remark, 'quiet')]
     bar_x, bar_width, top, row = x + 104, width - 104 - 216, y + 58, 19
     most = max([price] + [one.left for one in rows]) * 1.04
     ends = [(x + width - 150, 'left'), (x + width - 84, 'of price'), (x + width, 'nominators')]

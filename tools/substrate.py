@@ -144,11 +144,6 @@ class Moved:
     words: List[str] = field(default_factory=list)
 
 
-def some(names: List[str]) -> str:
-    """The first of some names."""
-    return ', '.join(names[:3]) + (', ..' if len(names) > 3 else '')
-
-
 def election_of(snapshot: RoundSnapshot, seats: int, naming: Naming) -> Moved:
     """The election of a snapshot: votes for no target, voters without a vote and stakes of 0 are left out."""
     refuse_twice('target', snapshot.targets, naming)
@@ -156,32 +151,37 @@ def election_of(snapshot: RoundSnapshot, seats: int, naming: Naming) -> Moved:
     places = {account: i for i, account in enumerate(snapshot.targets)}
     voters: List[Voter] = []
     moved = Moved(Bundle(seats, snapshot.targets, voters), [], [])
-    lost, twice, voteless, idle = 0, 0, [], []
+    lost, twice, idle, voteless = 0, 0, [], []
     for i, voter in enumerate(snapshot.voters):
         kept = [places[target] for target in voter.targets if target in places]
         votes = tuple(dict.fromkeys(kept))
         lost, twice = lost + len(voter.targets) - len(kept), twice + len(kept) - len(votes)
-        name = f'{i} ({naming.short(voter.account)})'
-        if voter.stake == 0:
-            idle.append(name)
-        elif not votes:
-            voteless.append(name)
-        elif len(votes) > MOST_VOTES:
-            raise BadInput(f'voter {name} nominates {len(votes)} targets, which do not fit: a voter has at most {MOST_VOTES} votes')
         stays = voter.stake > 0 and len(votes) > 0
         moved.numbers.append(len(voters) if stays else None)
         moved.idle.append(voter.stake == 0)
-        if stays:
+        if not stays:
+            (voteless if voter.stake else idle).append(i)
+        elif len(votes) > MOST_VOTES:
+            raise BadInput(f'voter {i} ({naming.short(voter.account)}) nominates {len(votes)} targets, which do not fit: '
+                           f'a voter has at most {MOST_VOTES} votes')
+        else:
             voters.append(Voter(voter.account, voter.stake, votes))
-    if lost:
-        moved.words.append(f'{lost:,} votes for accounts that are no targets are left out')
-    if twice:
-        moved.words.append(f'{twice:,} votes that stood twice are left out')
-    if idle:
-        moved.words.append(f'{len(idle):,} voters with a stake of 0 are left out: {some(idle)}')
-    if voteless:
-        moved.words.append(f'{len(voteless):,} voters without a vote for a target are left out: {some(voteless)}')
+    moved.words += left_out_words(snapshot, naming, lost, twice, idle, voteless)
     return moved
+
+
+def left_out_words(snapshot: RoundSnapshot, naming: Naming, lost: int, twice: int, idle: List[int],
+                   voteless: List[int]) -> List[str]:
+    """What has to be told of the votes and the voters that were left out."""
+    def some(numbers: List[int]) -> str:
+        names = [f'{i} ({naming.short(snapshot.voters[i].account)})' for i in numbers[:3]]
+        return ', '.join(names) + (', ..' if len(numbers) > 3 else '')
+
+    words = [(lost, f'left out: {lost:,} votes for accounts that are no targets'),
+             (twice, f'left out: {twice:,} votes that stood twice'),
+             (len(idle), f'left out: {len(idle):,} voters with a stake of 0: {some(idle)}'),
+             (len(voteless), f'left out: {len(voteless):,} voters without a vote for a target: {some(voteless)}')]
+    return [word for count, word in words if count]
 
 
 def refuse_twice(what: str, accounts: List[bytes], naming: Naming) -> None:
@@ -205,30 +205,37 @@ def moved_entries(moved: Moved, entries: List[Entry]) -> Tuple[List[Entry], List
     An entry of a voter with a stake of 0 gives nothing and is left out. A voter that was left out for want of a vote cannot
     back anybody, so its entry gets a number that is no voter's, as one beyond the snapshot keeps: the verdict must not be yes.
     """
-    kept, words, out = [], [], 0
-    shift = len(moved.numbers) - len(moved.bundle.voters)
+    kept, words, changed, out = [], [], 0, 0
     for entry in entries:
-        if entry.voter >= len(moved.numbers):
-            words.append(f'the solution has an entry of voter {entry.voter}, which is none')
-            kept.append(entry._replace(voter=entry.voter - shift))
-            continue
-        new = moved.numbers[entry.voter]
-        if new is None and moved.idle[entry.voter]:
+        number, word = number_of(moved, entry)
+        if word:
+            words.append(word)
+        if number is None:
             out += 1
             continue
-        if new is None:
-            words.append(f'voter {entry.voter}, which votes for no target, backs target {entry.last} in the solution')
-            new = len(moved.bundle.voters)
-        elif max(entry.targets()) >= len(moved.bundle.targets):
-            words.append(f'voter {entry.voter} backs number {max(entry.targets())} in the solution, which is no target')
-        kept.append(entry._replace(voter=new))
-    changed = sum(1 for entry in entries if entry.voter < len(moved.numbers) and moved.numbers[entry.voter] not in
-                  (None, entry.voter))
+        changed += number != entry.voter
+        kept.append(entry._replace(voter=number))
     if changed:
         words.append(f'{changed:,} of the {len(entries):,} entries of the solution have another voter number now')
     if out:
-        words.append(f'{out:,} entries of voters with a stake of 0 are left out of the solution')
+        words.append(f'left out: {out:,} entries of the solution, of voters with a stake of 0')
     return kept, words
+
+
+def number_of(moved: Moved, entry: Entry) -> Tuple[Optional[int], str]:
+    """The number of an entry's voter in the bundle, or None where it is left out; and a word where something is wrong."""
+    voters, targets = len(moved.bundle.voters), len(moved.bundle.targets)
+    if entry.voter >= len(moved.numbers):
+        shift = len(moved.numbers) - voters
+        return entry.voter - shift, f'wrong: the solution has an entry of voter {entry.voter}, which is none'
+    if moved.idle[entry.voter]:
+        return None, ''
+    number = moved.numbers[entry.voter]
+    if number is None:
+        return voters, f'wrong: voter {entry.voter} backs target {entry.last} in the solution and nominates no target'
+    if max(entry.targets()) >= targets:
+        return number, f'wrong: voter {entry.voter} backs number {max(entry.targets())} in the solution, which is no target'
+    return number, ''
 
 
 def add_solution(moved: Moved, raw: RawSolution, own_score: bool) -> None:
