@@ -2,6 +2,7 @@
 from __future__ import annotations
 
 import argparse
+import os
 import sys
 from typing import Callable, NoReturn, Optional
 
@@ -42,7 +43,7 @@ def checked(read: Callable[[str], int]) -> Callable[[str], int]:
 
 def refuse(name: str, sentence: str) -> NoReturn:
     """Says one sentence on standard error and ends with the status of bad input."""
-    print(f'{name}: {sentence}', file=sys.stderr)
+    print(f'{name}: {" ".join(sentence.split())}', file=sys.stderr)
     sys.exit(REFUSED)
 
 
@@ -59,16 +60,27 @@ def file_bytes(path: str) -> bytes:
         return source.read()
 
 
+def printable(word: str) -> str:
+    """A text of the command line without what cannot be shown."""
+    return ''.join(letter for letter in word if letter.isprintable())
+
+
+def write_all(data: bytes) -> None:
+    """Writes to standard output, past Python's own buffer, so that a failure is met here and not when the script ends."""
+    if sys.stdout is None:
+        raise BadInput('standard output is closed')
+    rest, place = memoryview(data), sys.stdout.fileno()
+    while rest:
+        rest = rest[os.write(place, rest):]
+
+
 def run(name: str, work: Callable[[], bytes]) -> None:
     """Writes what the work gives, whole or not at all, and refuses in one sentence what cannot be done."""
     try:
-        answer = work()
-        sys.stdout.buffer.write(answer)
-        sys.stdout.buffer.flush()
+        write_all(work())
     except BadInput as fault:
         refuse(name, str(fault))
     except OSError as fault:
-        sys.stderr.flush()
         refuse(name, f'{fault.filename or "standard output"}: {fault.strerror or fault}')
     except KeyboardInterrupt:
         sys.exit(130)

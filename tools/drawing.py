@@ -1,7 +1,4 @@
-"""Draws an election as one SVG: the verdict, key numbers, members by support, targets outside, and who is left over.
-
-The colours are those of Okabe and Ito, which the colour-blind can tell apart; parts of a bar differ in lightness besides.
-"""
+"""Draws an election as one SVG: the verdict, key numbers, members by support, targets outside, and who is left over."""
 from __future__ import annotations
 
 import textwrap
@@ -9,106 +6,11 @@ from typing import List, NamedTuple, Optional, Tuple
 from xml.sax.saxutils import escape
 
 from accounts import Naming
-from scene import Member, Outsider, Scene, Sharer, verdict_words
+from marks import (FAINT, INNER, LEFT, MARGIN, NO, NO_BACK, OVER, OWN, REST, SHADES, STYLE, WIDTH, YES, YES_BACK, Units, box,
+                   nice_step, path, percent, text)
+from scene import Member, Scene, Sharer, verdict_words
 
-WIDTH = 1200
-MARGIN = 32
-INNER = WIDTH - 2 * MARGIN
-
-INK, QUIET, FAINT = '#1a1a1a', '#555555', '#d9d9d9'
-OWN = '#E69F00'
-SHADES = ['#005a8c', '#0072B2', '#3d93c7', '#7ab4da', '#aed1e9']
-REST = '#dfedf6'
-LINE = '#000000'
-YES, NO = '#00785a', '#b34700'
-YES_BACK, NO_BACK = '#e3f4ee', '#fcebdf'
-LEFT, OVER = '#CC79A7', '#D55E00'
-
-STYLE = f"""
-text {{ font-family: 'DejaVu Sans', Verdana, 'Segoe UI', Helvetica, sans-serif; fill: {INK}; }}
-.name {{ font-family: 'DejaVu Sans Mono', Menlo, Consolas, monospace; }}
-.quiet {{ fill: {QUIET}; }}
-.bold {{ font-weight: bold; }}
-.end {{ text-anchor: end; }}
-.middle {{ text-anchor: middle; }}
-.price {{ stroke: {LINE}; stroke-width: 1.4; stroke-dasharray: 5 3; fill: none; }}
-.rule {{ stroke: {FAINT}; stroke-width: 1; fill: none; }}
-"""
-
-POWERS = {0: '', 3: 'thousand ', 6: 'million ', 9: '10⁹ ', 12: '10¹² ', 15: '10¹⁵ ', 18: '10¹⁸ '}
 TABLE_ROWS = 10
-
-
-class Units:
-    """Writes amounts of stake, all in one unit that fits the price of a seat."""
-
-    def __init__(self, price: int, name: str, decimals: int):
-        digits = len(str(max(price, 1))) - 1 - decimals
-        self.power = max(0, min(18, digits - digits % 3))
-        self.decimals, self.places = decimals, max(0, 3 - (digits - self.power))
-        if self.power == 0 and decimals == 0:
-            self.places = 0
-        self.scale = 10 ** (decimals + self.power)
-        self.name = POWERS[self.power] + name
-
-    def plain(self, amount: int) -> str:
-        """An amount with as many decimals as all others."""
-        steps = (amount * 10 ** self.places * 2 + self.scale) // (2 * self.scale)
-        whole, rest = divmod(steps, 10 ** self.places)
-        return f'{whole:,}' + (f'.{rest:0{self.places}d}' if self.places else '')
-
-    def fine(self, amount: int) -> str:
-        """An amount of a voter, which may be small: with at least two digits that tell."""
-        tells = amount * 10 ** self.places >= 10 * self.scale
-        return self.plain(amount) if tells or amount == 0 or self.scale == 1 else f'{amount / self.scale:.2g}'
-
-    def exact(self, amount: int) -> str:
-        """An amount with every unit of stake."""
-        whole, rest = divmod(amount, 10 ** self.decimals)
-        return f'{whole:,}' + (f'.{rest:0{self.decimals}d}' if self.decimals else '')
-
-    def named(self, amount: int) -> str:
-        """An amount with its unit."""
-        return f'{self.plain(amount)} {"× " if self.name.startswith("10") else ""}{self.name}'
-
-
-def percent(part: int, whole: int) -> str:
-    """A part of a whole in per cent."""
-    return f'{100 * part / whole:.1f} %' if whole else '-'
-
-
-# ## Marks
-
-def attributes(**values: object) -> str:
-    """Attributes of an element; `kind` is its class, and other underscores are hyphens."""
-    return ''.join(f' {"class" if key == "kind" else key.replace("_", "-")}="{escape(str(value), {chr(34): "&quot;"})}"'
-                   for key, value in values.items() if value not in (None, ''))
-
-
-def text(x: float, y: float, size: float, words: str, kind: str = '', **more: object) -> str:
-    """A line of text."""
-    return f'<text{attributes(x=round(x, 1), y=round(y, 1), font_size=size, kind=kind, **more)}>{escape(words)}</text>'
-
-
-def box(x: float, y: float, width: float, height: float, fill: str, tip: str = '', **more: object) -> str:
-    """A filled box, with a word that shows where a pointer rests on it."""
-    shape = attributes(x=round(x, 2), y=round(y, 2), width=round(max(width, 0), 2), height=round(height, 2), fill=fill, **more)
-    return f'<rect{shape}><title>{escape(tip)}</title></rect>' if tip else f'<rect{shape}/>'
-
-
-def path(steps: str, kind: str = '', **more: object) -> str:
-    """A path."""
-    return f'<path{attributes(d=steps, kind=kind, **more)}/>'
-
-
-def nice_step(most: float, count: int) -> float:
-    """A round step so that about so many of them reach the greatest value."""
-    raw, power = max(most, 1e-9) / count, 1.0
-    while power > raw:
-        power /= 10
-    while power * 10 <= raw:
-        power *= 10
-    return next(factor * power for factor in (1, 2, 2.5, 5, 10) if factor * power >= raw * 0.999)
 
 
 class Page(NamedTuple):
@@ -162,8 +64,8 @@ def margin_words(page: Page) -> str:
     if not scene.outsiders or not scene.members or scene.verdict != (0,):
         return ''
     best = scene.outsiders[0]
-    return (f'The strongest target outside, {page.naming.short(best.account)}, would need {page.units.named(scene.price())} that '
-            f'its nominators have left; they have {page.units.plain(best.left)}.')
+    return (f'The strongest target outside, {page.naming.short(best.account)}, would have a claim to a seat if its nominators '
+            f'had {page.units.named(scene.price())} left; they have {page.units.plain(best.left)}.')
 
 
 def key_numbers(page: Page, y: float) -> Drawn:
@@ -234,8 +136,8 @@ def member_row(page: Page, rank: int, member: Member, x: float, y: float, width:
     size, base = layout.size, y + layout.row - 6
     bar_x, bar_width, value_x = member_places(page, x, width, layout)
     tip = f'{page.naming.full(member.account)}: {page.units.exact(member.support)} of {member.backers():,} backers'
-    name = text(x + size * 2.9, base, size, page.naming.short(member.account), 'name')
-    marks = [text(x + size * 2.3, base, size, str(rank), 'quiet end'), name.replace('</text>', f'<title>{escape(tip)}</title></text>'),
+    marks = [text(x + size * 2.3, base, size, str(rank), 'quiet end'),
+             text(x + size * 2.9, base, size, page.naming.short(member.account), 'name', tip),
              *member_bar(page, member, bar_x, y, bar_width, layout),
              text(value_x, base, size, page.units.plain(member.support), 'end')]
     if layout.count == 1:
@@ -360,8 +262,9 @@ def outside_panel(page: Page, x: float, y: float, width: float) -> Drawn:
     ends = [(x + width - 150, 'left'), (x + width - 84, 'of price'), (x + width, 'nominators')]
     marks += [text(end, top - 6, 11, word, 'quiet end') for end, word in ends]
     for i, one in enumerate(rows):
-        at, tip = top + i * row, f'{page.naming.full(one.account)}: {page.units.exact(one.left)} left of {page.units.exact(one.stake)}'
-        marks += [text(x, at + 13, 12, page.naming.short(one.account), 'name'),
+        at, left = top + i * row, f'{page.units.exact(one.left)} left of {page.units.exact(one.stake)}'
+        tip = f'{page.naming.full(one.account)}: {left}'
+        marks += [text(x, at + 13, 12, page.naming.short(one.account), 'name', tip),
                   box(bar_x, at + 1, one.left / most * bar_width, row - 4, OVER if one.left >= price else LEFT, tip),
                   text(ends[0][0], at + 13, 12, page.units.fine(one.left), 'end'),
                   text(ends[1][0], at + 13, 12, percent(one.left, price), 'quiet end'),
@@ -385,8 +288,7 @@ def least_panel(page: Page, x: float, y: float, width: float) -> Drawn:
         at = top + i * row
         values = [page.units.fine(one.stake), f'{one.votes}', f'{one.members}', page.units.fine(one.left),
                   percent(one.left, one.stake)]
-        name = text(x, at + 13, 12, page.naming.short(one.account), 'name')
-        marks.append(name.replace('</text>', f'<title>{escape(page.naming.full(one.account))}</title></text>'))
+        marks.append(text(x, at + 13, 12, page.naming.short(one.account), 'name', page.naming.full(one.account)))
         marks += [text(end, at + 13, 12, value, 'end' if word in ('stake', 'left') else 'quiet end')
                   for (end, word), value in zip(ends, values)]
     return marks, top + max(1, len(rows)) * row
@@ -460,6 +362,10 @@ def members_part(page: Page, y: float) -> Drawn:
     return shape + columns + lists + second + bars, y
 
 
+FEET = ['Price of a seat: the whole stake by the seats, rounded down. Support beyond it pays for nothing, and counts as left.',
+        "Drawn by tools/picture; the verdict is that of npos. Colours: Okabe and Ito's, which the colour-blind can tell."]
+
+
 def svg(scene: Scene, naming: Naming, units: Units, title: str, voter: Optional[Sharer] = None) -> str:
     """The picture, with what became of one voter's nominations where one is given."""
     supports = [member.support for member in scene.members]
@@ -468,12 +374,11 @@ def svg(scene: Scene, naming: Naming, units: Units, title: str, voter: Optional[
     numbers, y = key_numbers(page, y)
     view, y = voter_panel(page, voter, y) if voter else ([], y)
     body, y = members_part(page, y)
-    foot = ("Drawn from a bundle by tools/picture; the verdict is that of npos. Price of a seat: the whole stake by the seats. "
-            "Colours: Okabe and Ito's, which the colour-blind can tell.")
-    marks += [*numbers, *view, *body, text(MARGIN, y + 6, 11, foot, 'quiet')]
+    marks += [*numbers, *view, *body, *(text(MARGIN, y + 6 + 16 * i, 11, foot, 'quiet') for i, foot in enumerate(FEET))]
     headline, sentence = verdict_words(scene, naming, units.named)
-    height = round(y + 26)
-    return (f'<svg xmlns="http://www.w3.org/2000/svg" viewBox="0 0 {WIDTH} {height}" width="{WIDTH}" height="{height}" role="img" '
+    height = round(y + 42)
+    size = f'viewBox="0 0 {WIDTH} {height}" width="{WIDTH}" height="{height}"'
+    return (f'<svg xmlns="http://www.w3.org/2000/svg" {size} role="img" '
             f'aria-labelledby="title about"><title id="title">{escape(title)}</title>'
             f'<desc id="about">{escape(f"{headline}. {sentence}")}</desc><style>{STYLE}</style>'
             f'<rect width="{WIDTH}" height="{height}" fill="#ffffff"/>\n' + '\n'.join(marks) + '\n</svg>\n')

@@ -5,7 +5,7 @@ from html import escape
 from typing import Iterable, List, Sequence
 
 from accounts import Naming
-from drawing import Units, percent
+from marks import Units, percent
 from scene import Scene
 
 MOST_VOTERS_SHOWN = 1000

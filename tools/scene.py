@@ -1,10 +1,10 @@
 """What there is to draw of an election and the weights that a report is on: members, who is outside, who is left over."""
 from __future__ import annotations
 
-from typing import Dict, List, NamedTuple, Optional, Tuple
+from typing import Callable, Dict, List, NamedTuple, Optional, Tuple
 
 from accounts import Naming
-from bundle import Bundle, Packed, Plain, Score
+from bundle import Bundle, Packed, Score
 from program import Report
 from scale import BadInput
 from weights import Verdict, Weights, expand, fill, judge, prescores_of, score_of, slack_of, supports_of, verdict_on
@@ -149,7 +149,7 @@ def voters_of(bundle: Bundle, weights: Weights, slack: List[int]) -> List[Sharer
 
 # ## In words
 
-def verdict_words(scene: Scene, naming: Naming, amount) -> Tuple[str, str]:
+def verdict_words(scene: Scene, naming: Naming, amount: Callable[[int], str]) -> Tuple[str, str]:
     """What a verdict says: a headline, and a sentence. `amount` writes an amount of stake."""
     number, *details = scene.verdict
     price = amount(scene.price())
@@ -170,14 +170,14 @@ def verdict_words(scene: Scene, naming: Naming, amount) -> Tuple[str, str]:
     if number == 9:
         claim = ', '.join(map(amount, (scene.claim or (0, 0, 0))[:2]))
         found = ', '.join(map(amount, details[:2]))
-        return 'Another score was claimed', (f'Least support and sum were claimed as {claim}, and come to {found}; or the squares '
-                                             'differ. Whether the weights are proportional was not asked.')
+        return 'Another score was claimed', (f'Least support and sum were claimed as {claim}, and come to {found}; or the '
+                                             'squares differ. Whether the weights are proportional was not asked.')
     if number == 8:
         return 'Not one member a seat', f'The work elects {details[0]} members for {scene.bundle.seats} seats.'
     return 'The work is refused', refused_words(number, details, target, voter)
 
 
-def refused_words(number: int, details: List[int], target, voter) -> str:
+def refused_words(number: int, details: List[int], target: Callable[[int], str], voter: Callable[[int], str]) -> str:
     """The sentence on work that is of no good form."""
     if number == 1:
         return f'The bytes of the solution cannot be read from byte {details[0]} on. Nobody is elected by it.'
