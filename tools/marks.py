@@ -40,8 +40,7 @@ class Units:
         digits = len(str(max(price, 1))) - 1 - decimals
         self.power = max(0, min(18, digits - digits % 3))
         self.decimals, self.places = decimals, max(0, 3 - (digits - self.power))
-        if self.power == 0 and decimals == 0:
-            self.places = 0
+        self.places = min(self.places, decimals + self.power)
         self.scale = 10 ** (decimals + self.power)
         self.name = POWERS[self.power] + name
 
