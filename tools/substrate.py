@@ -46,7 +46,7 @@ def stored_bytes(data: bytes, what: str) -> bytes:
         text = data.decode('ascii').strip()
     except UnicodeDecodeError:
         return data
-    if text.startswith(('{"jsonrpc"', '{"id"', '{"result"', '"0x')) or re.match(r'\{\s*"(jsonrpc|id|result|error)"', text):
+    if re.match(r'"0x|\{\s*"(jsonrpc|id|result|error)"', text):
         text = answered(json_of(data, what), what)
     if not text.startswith('0x'):
         return data

@@ -22,9 +22,10 @@ def dump() -> dict:
                        [name(EVE), '500', [name(FERDIE)]], [name(ALICE), '0x28', [name(ALICE)]]], 'targets': [name(ALICE), name(BOB)]}
 
 
-def compact(value: int) -> str:
-    """A length from 2^14 on below 2^30, in the four bytes that it has then."""
-    return (value * 4 + 2).to_bytes(4, 'little').hex()
+def length(value: int) -> str:
+    """A length in one, two or four bytes, of which the lowest two bits tell how many there are."""
+    mode = 0 if value < 64 else 1 if value < 16384 else 2
+    return (value * 4 + mode).to_bytes(1 << mode, 'little').hex()
 
 
 class FromSubstrate(unittest.TestCase):
@@ -130,22 +131,22 @@ class FromSubstrate(unittest.TestCase):
 
         def voters(count: int, stake: int = 9) -> str:
             spelt = stake.to_bytes(8, 'little').hex()
-            return compact(count) + ''.join(f'{account(i)}{spelt}04{account(0)}' for i in range(count))
+            return length(count) + ''.join(f'{account(i)}{spelt}04{account(0)}' for i in range(count))
 
         def targets(count: int) -> str:
-            return (count * 4 + 1).to_bytes(2, 'little').hex() + ''.join(map(account, range(count)))
+            return length(count) + ''.join(map(account, range(count)))
 
         for data, seats, says in (
                 (voters(16385) + targets(64), '2', '16,385 voters do not fit: there are at most 16,384 voters'),
                 ('00' + targets(2049), '2', '2,049 targets do not fit: there are at most 2,048 targets'),
-                (voters(16384) + targets(2048), '513', '513 seats do not fit: there are 1 to 512 seats'),
-                (voters(16384) + targets(2048), '0', '0 seats do not fit'),
-                (voters(16384, 1 << 50) + targets(64), '2', 'a total stake of 18,446,744,073,709,551,616 does not fit: it is below 2^64'),
-                (voters(16384) + targets(64), '65', '64 targets are too few for 65 seats'),
-                (voters(16384) + targets(512), '400', 'too little for 400 seats'),
+                (voters(2) + targets(2), '513', '513 seats do not fit: there are 1 to 512 seats'),
+                (voters(2) + targets(2), '0', '0 seats do not fit'),
+                (voters(2, 1 << 63) + targets(2), '2', 'a total stake of 18,446,744,073,709,551,616 does not fit: it is below 2^64'),
+                (voters(2) + targets(64), '65', '64 targets are too few for 65 seats'),
+                (voters(2) + targets(512), '400', 'too little for 400 seats'),
                 ('04' + account(7) + '09' + '00' * 7 + '44' + ''.join(map(account, range(17))) + targets(64), '2',
                  'nominates 17 targets, which do not fit: a voter has at most 16 votes'),
-                (voters(16384) + '08' + account(3) * 2, '1', 'targets 0 and 1 of the snapshot have one account')):
+                (voters(2) + '08' + account(3) * 2, '1', 'targets 0 and 1 of the snapshot have one account')):
             with self.subTest(says):
                 self.refused(data=bytes.fromhex(data), seats=seats, says=says)
 
