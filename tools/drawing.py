@@ -94,7 +94,7 @@ def key_numbers(page: Page, y: float) -> Drawn:
 
 class Columns(NamedTuple):
     """How the list of members is laid out: columns, height of a row, size of letters, and how many parts a bar shows."""
-    count: int
+    number: int
     row: float
     size: float
     parts: int
@@ -140,7 +140,7 @@ def member_row(page: Page, rank: int, member: Member, x: float, y: float, width:
              text(x + size * 2.9, base, size, page.naming.short(member.account), 'name', tip),
              *member_bar(page, member, bar_x, y, bar_width, layout),
              text(value_x, base, size, page.units.plain(member.support), 'end')]
-    if layout.count == 1:
+    if layout.number == 1:
         marks += [text(x + width - 80, base, size, percent(member.support, page.scene.price()), 'quiet end'),
                   text(x + width, base, size, f'{member.backers():,}', 'quiet end')]
     return marks
@@ -149,8 +149,8 @@ def member_row(page: Page, rank: int, member: Member, x: float, y: float, width:
 def member_places(page: Page, x: float, width: float, layout: Columns) -> Tuple[float, float, float]:
     """Where the bar of a row begins, how wide it may be, and where its number ends."""
     bar_x = x + layout.size * (2.9 + 13 * 0.61) + 8
-    digits = max(len(page.units.plain(page.most)), len('support') if layout.count == 1 else 4)
-    value_x = x + width - (150 if layout.count == 1 else 0)
+    digits = max(len(page.units.plain(page.most)), len('support') if layout.number == 1 else 4)
+    value_x = x + width - (150 if layout.number == 1 else 0)
     return bar_x, value_x - digits * layout.size * 0.64 - 8 - bar_x, value_x
 
 
@@ -158,10 +158,10 @@ def member_list(page: Page, y: float) -> Drawn:
     """All members by falling support, in as many columns as they need, with the price of a seat as a line."""
     members, layout = page.scene.members, columns_for(len(page.scene.members))
     gap = 26
-    width = (INNER - gap * (layout.count - 1)) / layout.count
-    rows = -(-len(members) // layout.count)
+    width = (INNER - gap * (layout.number - 1)) / layout.number
+    rows = -(-len(members) // layout.number)
     marks, top = [], y + 22
-    for column in range(layout.count):
+    for column in range(layout.number):
         x = MARGIN + column * (width + gap)
         chosen = members[column * rows:(column + 1) * rows]
         if chosen:
@@ -177,18 +177,18 @@ def column_frame(page: Page, x: float, y: float, width: float, height: float, la
     """The scale over a column, and what its numbers are."""
     bar_x, bar_width, value_x = member_places(page, x, width, layout)
     marks, size = [], min(layout.size, 11)
-    step = nice_step(page.most / page.units.scale, 8 if layout.count == 1 else 4 if layout.count == 2 else 2)
+    step = nice_step(page.most / page.units.scale, 8 if layout.number == 1 else 4 if layout.number == 2 else 2)
     at = 0.0
     price_x = bar_x + page.along(page.scene.price(), bar_width)
     while at * page.units.scale <= page.most:
         tick = bar_x + page.along(int(at * page.units.scale), bar_width)
         marks.append(path(f'M{tick:.1f} {y - 3}v{height + 3:.1f}', 'rule'))
-        if abs(tick - price_x) > (62 if layout.count <= 2 else 34):
+        if abs(tick - price_x) > (62 if layout.number <= 2 else 34):
             marks.append(text(tick, y - 6, size, f'{at:,g}', 'quiet middle'))
         at += step
-    word = 'price of a seat' if layout.count <= 2 else 'price'
+    word = 'price of a seat' if layout.number <= 2 else 'price'
     marks.append(text(price_x, y - 6, size, word, 'bold middle'))
-    if layout.count == 1:
+    if layout.number == 1:
         marks += [text(value_x, y - 6, size, 'support', 'quiet end'), text(x + width - 80, y - 6, size, 'of price', 'quiet end'),
                   text(x + width, y - 6, size, 'backers', 'quiet end')]
     return marks
