@@ -4,8 +4,6 @@ pub mod SpelledLaws
 pub mod MinedLaws
 pub mod SoundLaws
 pub mod ReportLaws
-pub mod StatusLaws
 pub mod LongLaws
 pub mod RewriteLaws
 pub mod DemoLaws
-pub mod DigitLaws

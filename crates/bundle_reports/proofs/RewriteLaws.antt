@@ -15,44 +15,19 @@ use Rattle.bundle_json.specs.Text.{bundle_in_text}
 use Rattle.bundle_json.proofs.Rereading.{line_stands}
 use Rattle.bundle_reports.specs.declared.asked.Rewriting.{Rewriting}
 use Rattle.bundle_reports.specs.declared.asked.Rewriting.TheVariants.{Pack, Show}
-use Rattle.bundle_reports.specs.declared.reading.TheConstants.{MOST_BUNDLE}
-use Rattle.bundle_reports.specs.declared.status.Status.{Status}
-use Rattle.bundle_reports.specs.declared.status.Status.TheVariants as statuses
-use Rattle.bundle_reports.specs.Texts.{newline}
+use Rattle.bundle_reports.specs.declared.ending.Ending.TheVariants as endings
+use Rattle.told_lines.specs.Texts.{newline}
 use Rattle.bundle_reports.specs.Verdicts.{long_line}
 use Rattle.bundle_reports.specs.Bundles.{Report, faulty}
 use Rattle.bundle_reports.specs.Rewriting.{done, pack_report, show_report, rewritten, rewrite_report}
 
--- ## Statuses
-
--- what holds of these two holds of the status of each report
-module _ (P : Status → Type 0) (well : P statuses.Done) (bad : P statuses.BadInput) where
-  of_pack : (read : Result Bundle JsonFault) → P (pack_report read).status
-  of_pack (Ok bundle) = well
-  of_pack (Err fault) = bad
-
-  of_show : (read : Result Bundle WireFault) → P (show_report read).status
-  of_show (Ok bundle) = well
-  of_show (Err fault) = bad
-
-  of_way : (way : Rewriting) (bytes : List ℕ) → P (rewritten way bytes).status
-  of_way Pack bytes = of_pack (bundle_in_text bytes)
-  of_way Show bytes = of_show (read_as bundle_form bundle_laws bytes)
-
-  of_limited : (b : Bool) (way : Rewriting) (bytes : List ℕ) → P (if b then faulty long_line else rewritten way bytes).status
-  of_limited true way bytes = bad
-  of_limited false way bytes = of_way way bytes
-
-  pub of_rewritten : (way : Rewriting) (bytes : List ℕ) → P (rewrite_report way bytes).status
-  of_rewritten way bytes = of_limited (nat_lt MOST_BUNDLE (length bytes)) way bytes
-
 -- ## Bytes within the limit
 
-pub rewrite_long : (way : Rewriting) (bytes : List ℕ) → MOST_BUNDLE < length bytes → rewrite_report way bytes ≡ faulty long_line
-rewrite_long way bytes over = ap (λ (b : Bool). if b then faulty long_line else rewritten way bytes) (lt-ltb MOST_BUNDLE (length bytes) over)
+pub rewrite_long : (way : Rewriting) (bytes : List ℕ) → 16777216 < length bytes → rewrite_report way bytes ≡ faulty long_line
+rewrite_long way bytes over = ap (λ (b : Bool). if b then faulty long_line else rewritten way bytes) (lt-ltb 16777216 (length bytes) over)
 
-pub rewrite_within : (way : Rewriting) (bytes : List ℕ) → length bytes ≤ MOST_BUNDLE → rewrite_report way bytes ≡ rewritten way bytes
-rewrite_within way bytes within = ap (λ (b : Bool). if b then faulty long_line else rewritten way bytes) (le-ltb MOST_BUNDLE (length bytes) within)
+pub rewrite_within : (way : Rewriting) (bytes : List ℕ) → length bytes ≤ 16777216 → rewrite_report way bytes ≡ rewritten way bytes
+rewrite_within way bytes within = ap (λ (b : Bool). if b then faulty long_line else rewritten way bytes) (le-ltb 16777216 (length bytes) within)
 
 -- ## From SCALE to JSON and back
 
@@ -86,10 +61,10 @@ was_shown : (bytes text : List ℕ) → done text ≡ show_report (read_as bundl
 was_shown bytes text is = by (read_as bundle_form bundle_laws bytes) refl is where
   by : (read : Result Bundle WireFault) → read_as bundle_form bundle_laws bytes ≡ read → done text ≡ show_report read → Shows bytes text
   by (Ok bundle) e is = record { bundle = bundle; is_bundle = e; is_text = ap (λ (r : Report). r.text) is }
-  by (Err fault) e is = absurd (let other : statuses.Done ≡ statuses.BadInput = ap (λ (r : Report). r.status) is in cc)
+  by (Err fault) e is = absurd (let other : endings.Done ≡ endings.BadInput = ap (λ (r : Report). r.ending) is in cc)
 
 -- within the limit, packing a text that was shown gives back what was shown
-pub packs_shown : (bytes text : List ℕ) → IsBytes bytes → length bytes ≤ MOST_BUNDLE → done text ≡ rewrite_report Show bytes → length text ≤ MOST_BUNDLE
+pub packs_shown : (bytes text : List ℕ) → IsBytes bytes → length bytes ≤ 16777216 → done text ≡ rewrite_report Show bytes → length text ≤ 16777216
     → done bytes ≡ rewrite_report Pack text
 packs_shown bytes text are within shown short =
     let shows = was_shown bytes text (shown ∙ rewrite_within Show bytes within) in

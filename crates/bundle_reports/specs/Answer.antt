@@ -7,7 +7,7 @@ use Rattle.bundle_reports.specs.declared.reading.Reading.TheVariants.{Stands, Re
 use Rattle.bundle_reports.specs.Bundles.{Report}
 
 abbrev pub report_of : Answer → Report
-report_of answer = record { text = answer.text.items; status = answer.status }
+report_of answer = record { text = answer.text.items; ending = answer.ending }
 
 -- what was read is the election that is due, or the answer of its fault
 abbrev pub IsReading : Result Election Report → Reading → Type 0

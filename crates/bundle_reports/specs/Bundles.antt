@@ -13,29 +13,28 @@ use Rattle.election_check.specs.declared.verdict.Verdict.{Verdict}
 use Rattle.election_check.specs.declared.verdict.Verdict.TheVariants.{Yes}
 use Rattle.election_check.specs.Plain.{verdict_plain}
 use Rattle.election_check.specs.Packed.{verdict_packed}
-use Rattle.bundle_reports.specs.declared.status.Status.{Status}
-use Rattle.bundle_reports.specs.declared.status.Status.TheVariants as statuses
+use Rattle.bundle_reports.specs.declared.ending.Ending.{Ending}
+use Rattle.bundle_reports.specs.declared.ending.Ending.TheVariants as endings
 use Rattle.bundle_reports.specs.declared.reading.Election.{Election}
 use Rattle.bundle_reports.specs.Texts.{fault_line}
 use Rattle.bundle_reports.specs.Elections.{snapshot_of}
 use Rattle.bundle_reports.specs.Verdicts.{verdict_line, snapshot_line, no_solution_line, long_line}
-use Rattle.bundle_reports.specs.declared.reading.TheConstants.{MOST_BUNDLE}
 
 pub record Report : Type 0 where
   pub text : List ℕ
-  pub status : Status
+  pub ending : Ending
 
 abbrev pub faulty : List ℕ → Report
-faulty line = record { text = line; status = statuses.BadInput }
+faulty line = record { text = line; ending = endings.BadInput }
 
 -- only a Yes is no No
-abbrev pub verdict_status : Verdict → Status
-verdict_status Yes = statuses.Done
-verdict_status _ = statuses.No
+abbrev pub verdict_ending : Verdict → Ending
+verdict_ending Yes = endings.Done
+verdict_ending _ = endings.No
 
 -- lines, and then a verdict
 abbrev pub told : List ℕ → Verdict → Report
-told lines verdict = record { text = lines ++ verdict_line verdict; status = verdict_status verdict }
+told lines verdict = record { text = lines ++ verdict_line verdict; ending = verdict_ending verdict }
 
 abbrev pub judged : Verdict → Report
 judged verdict = told [] verdict
@@ -62,5 +61,5 @@ read_election (Err fault) = Err (faulty (fault_line fault.at fault.why))
 -- the election that the bytes spell, or the report of their first fault
 abbrev pub election_in : List ℕ → Result Election Report
 election_in bytes =
-    if nat_lt MOST_BUNDLE (length bytes) then Err (faulty long_line)
+    if nat_lt 16777216 (length bytes) then Err (faulty long_line)
     else read_election (read_as bundle_form bundle_laws bytes)

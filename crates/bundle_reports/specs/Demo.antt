@@ -15,9 +15,9 @@ use Rattle.election_check.specs.Plain.{verdict_plain}
 use Rattle.election_check.specs.Packed.{expanded, verdict_packed}
 use Rattle.election_check.specs.Laws.{packed_of}
 use Rattle.demo_election.specs.Generated.{generated}
-use Rattle.bundle_reports.specs.declared.status.Status.TheVariants as statuses
-use Rattle.bundle_reports.specs.Texts.{newline}
-use Rattle.bundle_reports.specs.Verdicts.{number_text, verdict_line, lost_line}
+use Rattle.bundle_reports.specs.declared.ending.Ending.TheVariants as endings
+use Rattle.told_lines.specs.Texts.{newline, number_text}
+use Rattle.bundle_reports.specs.Verdicts.{score_numbers, verdict_line, lost_line}
 use Rattle.bundle_reports.specs.Bundles.{Report}
 
 -- how many targets and voters there are, and all their stake
@@ -30,7 +30,7 @@ size_line snapshot =
 -- whose score it is, the score, and the verdict
 abbrev pub judged_line : List ℕ → Score → Verdict → List ℕ
 judged_line whose score verdict =
-    whose ++ (flat_map number_text (score.minimal ∷ score.sum ∷ score.squares ∷ [])
+    whose ++ (flat_map number_text (score_numbers score)
     ++ (codes " " ++ verdict_line verdict))
 
 -- the weights of the fill are judged as they are
@@ -63,4 +63,4 @@ election_text snapshot =
 -- it is done, whatever the verdicts
 abbrev pub demo_report : ℕ → ℕ → ℕ → Report
 demo_report seed voters seats =
-    record { text = election_text (generated seed voters seats); status = statuses.Done }
+    record { text = election_text (generated seed voters seats); ending = endings.Done }

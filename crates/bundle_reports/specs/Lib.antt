@@ -1,6 +1,4 @@
 pub mod Texts
-pub mod Pieces
-pub mod Status
 pub mod Rounds
 pub mod Elections
 pub mod Verdicts

@@ -14,7 +14,7 @@ use Rattle.election_check.specs.Packed.{expanded, verdict_packed}
 use Rattle.election_check.specs.Laws.{packed_of}
 use Rattle.bundle_reports.specs.declared.asked.Miner.{Miner}
 use Rattle.bundle_reports.specs.declared.asked.Miner.TheVariants as miners
-use Rattle.bundle_reports.specs.declared.status.Status.TheVariants as statuses
+use Rattle.bundle_reports.specs.declared.ending.Ending.TheVariants as endings
 use Rattle.bundle_reports.specs.Verdicts.{member_line, score_line, solution_line, lost_line}
 use Rattle.bundle_reports.specs.Bundles.{Report, told}
 
@@ -46,7 +46,7 @@ weights_lines snapshot weights =
 -- ## Reports
 
 abbrev pub lost_report : ℕ → Report
-lost_report member = record { text = lost_line member; status = statuses.No }
+lost_report member = record { text = lost_line member; ending = endings.No }
 
 -- the verdict on bytes that claim the score of these weights, behind the lines of the weights and
 -- of the bytes

@@ -12,14 +12,14 @@ use Rattle.bundle_json.specs.Json.{json_of}
 use Rattle.bundle_json.specs.Text.{bundle_in_text}
 use Rattle.bundle_reports.specs.declared.asked.Rewriting.{Rewriting}
 use Rattle.bundle_reports.specs.declared.asked.Rewriting.TheVariants.{Pack, Show}
-use Rattle.bundle_reports.specs.declared.status.Status.TheVariants as statuses
-use Rattle.bundle_reports.specs.Texts.{newline, fault_line}
+use Rattle.bundle_reports.specs.declared.ending.Ending.TheVariants as endings
+use Rattle.told_lines.specs.Texts.{newline}
+use Rattle.bundle_reports.specs.Texts.{fault_line}
 use Rattle.bundle_reports.specs.Verdicts.{long_line}
-use Rattle.bundle_reports.specs.declared.reading.TheConstants.{MOST_BUNDLE}
 use Rattle.bundle_reports.specs.Bundles.{Report, faulty}
 
 abbrev pub done : List ℕ → Report
-done text = record { text = text; status = statuses.Done }
+done text = record { text = text; ending = endings.Done }
 
 -- want of memory has no line
 abbrev pub json_fault_line : JsonFault → List ℕ
@@ -42,4 +42,4 @@ rewritten Pack bytes = pack_report (bundle_in_text bytes)
 rewritten Show bytes = show_report (read_as bundle_form bundle_laws bytes)
 
 abbrev pub rewrite_report : Rewriting → List ℕ → Report
-rewrite_report way bytes = if nat_lt MOST_BUNDLE (length bytes) then faulty long_line else rewritten way bytes
+rewrite_report way bytes = if nat_lt 16777216 (length bytes) then faulty long_line else rewritten way bytes

@@ -1,5 +1,5 @@
 -- The lines that tell of an election: words, and then numbers in decimal behind a blank each.
-use Rattle.std.specs.Prelude.{ℕ, List, [], ◌∷◌, ◌++◌, flat_map, codes, decimal}
+use Rattle.std.specs.Prelude.{ℕ, List, [], ◌∷◌, ◌++◌, codes, decimal}
 use Rattle.hex.specs.Hex.{encode_lower}
 use Rattle.npos_base.specs.declared.figures.Score.{Score}
 use Rattle.npos_base.specs.declared.limits.TheConstants.{MOST_TARGETS, MOST_VOTERS}
@@ -8,39 +8,37 @@ use Rattle.election_snapshot.specs.declared.fault.SnapshotFault.{SnapshotFault}
 use Rattle.election_snapshot.specs.declared.fault.SnapshotFault.TheVariants as faults
 use Rattle.election_check.specs.declared.verdict.Verdict.{Verdict}
 use Rattle.election_check.specs.declared.verdict.Verdict.TheVariants as verdicts
+use Rattle.election_check.specs.Number.{number_of}
 use Rattle.npos_base.specs.declared.account.AccountId.{AccountId}
-use Rattle.bundle_reports.specs.Texts.{newline, account_text}
+use Rattle.told_lines.specs.Texts.{newline, account_text, number_text, numbers_line}
 
-abbrev pub number_text : ℕ → List ℕ
-number_text number = codes " " ++ decimal number
+abbrev pub score_numbers : Score → List ℕ
+score_numbers score = score.minimal ∷ score.sum ∷ score.squares ∷ []
 
-abbrev pub numbers_line : List ℕ → List ℕ → List ℕ
-numbers_line words numbers = words ++ (flat_map number_text numbers ++ newline)
-
--- the number of the verdict, and what it tells besides
-abbrev pub verdict_numbers : Verdict → List ℕ
-verdict_numbers verdicts.Yes = 0 ∷ []
-verdict_numbers (verdicts.Undecodable at why) = 1 ∷ at ∷ reasons.number_of why ∷ []
-verdict_numbers (verdicts.NoVoter voter) = 2 ∷ voter ∷ []
-verdict_numbers (verdicts.NoTarget target) = 3 ∷ target ∷ []
-verdict_numbers (verdicts.VoterTwice voter) = 4 ∷ voter ∷ []
-verdict_numbers (verdicts.TargetTwice target) = 5 ∷ target ∷ []
-verdict_numbers (verdicts.NotNominated voter target) = 6 ∷ voter ∷ target ∷ []
-verdict_numbers (verdicts.BadShare voter) = 7 ∷ voter ∷ []
-verdict_numbers (verdicts.WrongSize found) = 8 ∷ found ∷ []
-verdict_numbers (verdicts.WrongScore actual) = 9 ∷ actual.minimal ∷ actual.sum ∷ actual.squares ∷ []
-verdict_numbers (verdicts.Outweighed target prescore) = 10 ∷ target ∷ prescore ∷ []
-verdict_numbers (verdicts.Overspent voter) = 11 ∷ voter ∷ []
+-- what a verdict tells besides its number
+abbrev pub verdict_details : Verdict → List ℕ
+verdict_details verdicts.Yes = []
+verdict_details (verdicts.Undecodable at why) = at ∷ reasons.number_of why ∷ []
+verdict_details (verdicts.NoVoter voter) = voter ∷ []
+verdict_details (verdicts.NoTarget target) = target ∷ []
+verdict_details (verdicts.VoterTwice voter) = voter ∷ []
+verdict_details (verdicts.TargetTwice target) = target ∷ []
+verdict_details (verdicts.NotNominated voter target) = voter ∷ target ∷ []
+verdict_details (verdicts.BadShare voter) = voter ∷ []
+verdict_details (verdicts.WrongSize found) = found ∷ []
+verdict_details (verdicts.WrongScore actual) = score_numbers actual
+verdict_details (verdicts.Outweighed target prescore) = target ∷ prescore ∷ []
+verdict_details (verdicts.Overspent voter) = voter ∷ []
 
 abbrev pub verdict_line : Verdict → List ℕ
-verdict_line verdict = numbers_line (codes "verdict") (verdict_numbers verdict)
+verdict_line verdict = numbers_line (codes "verdict") (number_of verdict ∷ verdict_details verdict)
 
 -- a member of a committee, with its support
 abbrev pub member_line : AccountId → ℕ → List ℕ
 member_line who support = codes "member " ++ (account_text who ++ (number_text support ++ newline))
 
 abbrev pub score_line : Score → List ℕ
-score_line score = numbers_line (codes "score") (score.minimal ∷ score.sum ∷ score.squares ∷ [])
+score_line score = numbers_line (codes "score") (score_numbers score)
 
 -- the bytes of a packed solution, each as two digits in hexadecimal, in lower case
 abbrev pub solution_line : List ℕ → List ℕ

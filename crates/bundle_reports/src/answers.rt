@@ -1,25 +1,26 @@
-//! What is answered on a bundle: a text and a status.
+//! What is answered on a bundle: a text and a ending.
 ghost use Rattle.std.specs.Prelude.{◌≡◌, ◌++◌, IfOk};
 ghost use Rattle.bundle_reports.specs.Texts.{fault_line};
 ghost use Rattle.bundle_reports.specs.Verdicts.{no_solution_line, long_line, snapshot_line};
-ghost use Rattle.bundle_reports.specs.Bundles.{faulty, told, verdict_status};
+ghost use Rattle.bundle_reports.specs.Bundles.{faulty, told, verdict_ending};
 ghost use Rattle.bundle_reports.specs.Mining.{lost_report};
 ghost use Rattle.bundle_reports.specs.Answer.{report_of};
 
-use crate::Status;
+use crate::Ending;
 use crate::numbers::{tell_lost, tell_snapshot_fault, tell_verdict};
-use crate::telling::{Piece, tell, tell_fault};
+use crate::telling::tell_fault;
 use election_check::Verdict;
 use election_snapshot::SnapshotFault;
 use npos_base::NoMemory;
 use scale_wire::fault::WireFault;
 use std::alloc::Global;
+use told_lines::{Piece, tell};
 
-/// A text, and the status that it is told with.
+/// A text, and the ending that it is told with.
 #[derive(Drop)]
 pub struct Answer {
     pub text: Vec<u8>,
-    pub status: Status,
+    pub ending: Ending,
 }
 
 /// The answer of a bundle that is too long.
@@ -30,7 +31,7 @@ pub fn long(alloc: Global) -> Result<Answer, NoMemory>
     tell(&mut text, &[Piece::Words("fault 16777216 long\n")])?;
     Ok(Answer {
         text,
-        status: Status::BadInput,
+        ending: Ending::BadInput,
     })
 }
 
@@ -42,7 +43,7 @@ pub fn refused(alloc: Global, fault: WireFault) -> Result<Answer, NoMemory>
     tell_fault(&mut text, fault.at, fault.why)?;
     Ok(Answer {
         text,
-        status: Status::BadInput,
+        ending: Ending::BadInput,
     })
 }
 
@@ -54,7 +55,7 @@ pub fn unelectable(alloc: Global, fault: SnapshotFault) -> Result<Answer, NoMemo
     tell_snapshot_fault(&mut text, fault)?;
     Ok(Answer {
         text,
-        status: Status::BadInput,
+        ending: Ending::BadInput,
     })
 }
 
@@ -73,7 +74,7 @@ pub fn unsolved(alloc: Global, at: u64) -> Result<Answer, NoMemory>
     )?;
     Ok(Answer {
         text,
-        status: Status::BadInput,
+        ending: Ending::BadInput,
     })
 }
 
@@ -85,7 +86,7 @@ pub fn lost(alloc: Global, member: u16) -> Result<Answer, NoMemory>
     tell_lost(&mut text, member)?;
     Ok(Answer {
         text,
-        status: Status::No,
+        ending: Ending::No,
     })
 }
 
@@ -97,15 +98,15 @@ pub fn told(lines: Vec<u8>, verdict: Verdict) -> Result<Answer, NoMemory>
     tell_verdict(&mut text, verdict)?;
     Ok(Answer {
         text,
-        status: verdict_status(verdict),
+        ending: verdict_ending(verdict),
     })
 }
 
-fn verdict_status(verdict: Verdict) -> Status
-    ensures { result ≡ verdict_status verdict }
+fn verdict_ending(verdict: Verdict) -> Ending
+    ensures { result ≡ verdict_ending verdict }
 {
     match verdict {
-        Verdict::Yes => Status::Done,
-        _ => Status::No,
+        Verdict::Yes => Ending::Done,
+        _ => Ending::No,
     }
 }

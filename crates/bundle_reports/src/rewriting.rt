@@ -6,17 +6,17 @@ ghost use Rattle.bundle_reports.specs.Answer.{report_of};
 ghost use Rattle.bundle_reports.specs.Bundles.{faulty};
 ghost use Rattle.bundle_reports.specs.Rewriting.{pack_report, show_report, rewritten, rewrite_report};
 
-use crate::Status;
+use crate::Ending;
 use crate::answers::{Answer, long, refused};
 use crate::asked::Rewriting;
 use crate::reading::MOST_BUNDLE;
-use crate::telling::{Piece, tell};
 use block_wire::Bundle;
 use bundle_json::{JsonFault, bundle_from_json, bundle_to_json};
 use npos_base::NoMemory;
 use scale_wire::fault::ReadFault;
 use scale_wire::{Pen, Wire, read_whole};
 use std::alloc::Global;
+use told_lines::{Piece, tell};
 
 /// The answer with the bundle's spelling.
 fn spelled(alloc: Global, bundle: &Bundle) -> Result<Answer, NoMemory>
@@ -27,7 +27,7 @@ fn spelled(alloc: Global, bundle: &Bundle) -> Result<Answer, NoMemory>
     bundle.write(&mut pen)?;
     Ok(Answer {
         text: pen.finish().into_vec(),
-        status: Status::Done,
+        ending: Ending::Done,
     })
 }
 
@@ -39,7 +39,7 @@ fn unread(alloc: Global, line: &str) -> Result<Answer, NoMemory>
     tell(&mut text, &[Piece::Words(line)])?;
     Ok(Answer {
         text,
-        status: Status::BadInput,
+        ending: Ending::BadInput,
     })
 }
 
@@ -63,7 +63,7 @@ fn shown(alloc: Global, bundle: &Bundle) -> Result<Answer, NoMemory>
     text.push(b'\n')?;
     Ok(Answer {
         text,
-        status: Status::Done,
+        ending: Ending::Done,
     })
 }
 

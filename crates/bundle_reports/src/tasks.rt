@@ -2,7 +2,7 @@
 ghost use Rattle.std.specs.Prelude.{◌≡◌, ◌≢◌, IfOk};
 ghost use Rattle.bundle_reports.specs.declared.asked.Task.TheVariants as tasks;
 ghost use Rattle.bundle_reports.specs.declared.asked.Miner.TheVariants as miners;
-ghost use Rattle.bundle_reports.specs.declared.status.Status.TheVariants as statuses;
+ghost use Rattle.bundle_reports.specs.declared.ending.Ending.TheVariants as endings;
 ghost use Rattle.bundle_reports.specs.Tasks.{IsTaskReport, IsBundleReport, IsSound, IsSoundElection};
 ghost use Rattle.bundle_reports.specs.Answer.{report_of};
 ghost use Rattle.bundle_reports.specs.Rounds.{TaskHasRounds};
@@ -36,10 +36,10 @@ fn answer_election(
 ) -> Result<Answer, NoMemory>
     requires { TaskHasRounds task }
     ensures report { IfOk result (λ answer. IsTaskReport task size election (report_of answer)) }
-    ensures sound { IfOk result (λ answer. answer.status ≡ statuses.Done
+    ensures sound { IfOk result (λ answer. answer.ending ≡ endings.Done
         → IsSoundElection task election) }
     ensures passes { task ≡ tasks.Mine miners.Fill
-        → IfOk result (λ answer. answer.status ≢ statuses.No) }
+        → IfOk result (λ answer. answer.ending ≢ endings.No) }
 {
     let _seats = election.snapshot.seats();
     report_on(alloc, election, task, size)
@@ -49,10 +49,10 @@ fn answer_election(
 pub fn answer_bytes(alloc: Global, bytes: Vec<u8>, task: Task) -> Result<Answer, NoMemory>
     requires { TaskHasRounds task }
     ensures report { IfOk result (λ answer. IsBundleReport task bytes.items (report_of answer)) }
-    ensures sound { IfOk result (λ answer. answer.status ≡ statuses.Done
+    ensures sound { IfOk result (λ answer. answer.ending ≡ endings.Done
         → IsSound task bytes.items) }
     ensures passes { task ≡ tasks.Mine miners.Fill
-        → IfOk result (λ answer. answer.status ≢ statuses.No) }
+        → IfOk result (λ answer. answer.ending ≢ endings.No) }
 {
     let size = bytes.len() as u64;
     match read_election(alloc, bytes)? {

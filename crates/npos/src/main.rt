@@ -3,8 +3,8 @@
 
 ghost use Rattle.std.specs.Prelude.{◌≡◌, map, IfOk, IfErr, string_bytes};
 ghost use Rattle.std.specs.Process.{exit_status};
-ghost use Rattle.bundle_reports.specs.declared.status.Status.{Status};
-ghost use Rattle.bundle_reports.specs.Status.{number_of};
+ghost use Rattle.npos_cli.specs.declared.status.Status.{Status};
+ghost use Rattle.npos_cli.specs.Status.{number_of};
 ghost use Rattle.npos_cli.specs.Report.{IsAnswer};
 ghost use Rattle.npos_cli.specs.Owed.{Answers};
 

@@ -9,8 +9,9 @@ use Rattle.block_wire.specs.declared.genesis.Genesis.{Genesis}
 use Rattle.npos_runtime.specs.declared.chain.Chain.{Chain}
 use Rattle.npos_cli.specs.declared.replaying.Stop.TheVariants.{More, Last}
 use Rattle.npos_cli.specs.declared.job.Job.TheVariants as jobs
-use Rattle.bundle_reports.specs.declared.status.Status.{Status}
-use Rattle.bundle_reports.specs.declared.status.Status.TheVariants as statuses
+use Rattle.npos_cli.specs.declared.status.Status.{Status}
+use Rattle.npos_cli.specs.declared.halt.Halt.{Halt}
+use Rattle.npos_cli.specs.declared.halt.Halt.TheVariants as halts
 use Rattle.npos_cli.specs.Replay.{Spot, Starts, Reaches, all_seated, Replayed, IsWhole, NoStart, IsFront}
 use Rattle.npos_cli.specs.Chain.{npos_machine}
 use Rattle.npos_cli.specs.Ahead.{HasSeen, FeedsMore, CutsGenesis, AwaitsGenesis, Begins}
@@ -83,9 +84,9 @@ awaits_keeps taken awaits = record {
   before = ([], refl);
 }
 
-pub genesis_halts : (left now : Option (List ℕ)) (told : Option Told) (taken : List ℕ) (status : Status) → LeftAfter left now taken → AwaitsGenesis taken → CutBy status taken []
-    → Halts left now told told status
-genesis_halts left now told taken status left_is awaits cut = record {
+pub genesis_halts : (left now : Option (List ℕ)) (told : Option Told) (taken : List ℕ) (halt : Halt) → LeftAfter left now taken → AwaitsGenesis taken → CutBy halt taken []
+    → Halts left now told told halt
+genesis_halts left now told taken halt left_is awaits cut = record {
   taken = taken;
   written = [];
   left_is = left_is;
@@ -100,25 +101,21 @@ pub awaits_none : AwaitsGenesis []
 awaits_none = ([], [], refl, omega arith, (0, inl (refl, refl)))
 
 -- memory ran out before anything was read
-pub begins_starved : (left : Option (List ℕ)) (told : Option Told) → Halts left left told told statuses.NoMemory
-begins_starved left told = genesis_halts left left told [] statuses.NoMemory (left_none left [] refl) awaits_none (inl refl)
+pub begins_starved : (left : Option (List ℕ)) (told : Option Told) → Halts left left told told halts.NoMemory
+begins_starved left told = genesis_halts left left told [] halts.NoMemory (left_none left [] refl) awaits_none (inl refl)
 
 -- the genesis was not read
-pub begins_cut : (left now : Option (List ℕ)) (told : Option Told) (place : Place) (status : Status) → Begins left now place (Err status) → Halts left now told told status
-begins_cut left now told place statuses.ReadFault begins =
-    genesis_halts left now told begins.0 statuses.ReadFault begins.1 begins.2
+pub begins_cut : (left now : Option (List ℕ)) (told : Option Told) (place : Place) (halt : Halt) → Begins left now place (Err halt) → Halts left now told told halt
+begins_cut left now told place halts.ReadFault begins =
+    genesis_halts left now told begins.0 halts.ReadFault begins.1 begins.2
     (NoStart (λ p start. unreadable npos_machine genesis_laws turn_laws begins.0 start.genesis p.rest begins.3.0 Short start.in_range start.whole begins.3.1) refl)
-begins_cut left now told place statuses.NoMemory begins = genesis_halts left now told begins.0 statuses.NoMemory begins.1 begins.2 (inl refl)
-begins_cut left now told place statuses.Done begins = absurd begins.3
-begins_cut left now told place statuses.No begins = absurd begins.3
-begins_cut left now told place statuses.Usage begins = absurd begins.3
-begins_cut left now told place statuses.BadInput begins = absurd begins.3
-begins_cut left now told place statuses.WriteFault begins = absurd begins.3
+begins_cut left now told place halts.NoMemory begins = genesis_halts left now told begins.0 halts.NoMemory begins.1 begins.2 (inl refl)
+begins_cut left now told place halts.WriteFault begins = absurd begins.3
 
 -- memory ran out behind the genesis
 pub begun_starved : (left now : Option (List ℕ)) (told : Option Told) (place : Place) (genesis : Result Genesis WireFault) → Begins left now place (Ok genesis)
-    → Halts left now told told statuses.NoMemory
-begun_starved left now told place genesis begins = genesis_halts left now told begins.0 statuses.NoMemory begins.1 begins.2 (inl refl)
+    → Halts left now told told halts.NoMemory
+begun_starved left now told place genesis begins = genesis_halts left now told begins.0 halts.NoMemory begins.1 begins.2 (inl refl)
 
 -- a replay whose one line was told
 pub finished_first : (left now : Option (List ℕ)) (told : Option Told) (taken line : List ℕ) (faulty : Bool) → LeftAfter left now taken → AwaitsGenesis taken
@@ -201,8 +198,8 @@ module _ (left mid : Option (List ℕ)) (old told : Option Told) (ended : Bool) 
       }
 
   -- a write failed, or memory ran out
-  pub course_cut : (status : Status) → WritesOn npos_machine ended p q told new line (Err status) → Halts left mid old new status
-  course_cut statuses.NoMemory writes =
+  pub course_cut : (halt : Halt) → WritesOn npos_machine ended p q told new line (Err halt) → Halts left mid old new halt
+  course_cut halts.NoMemory writes =
       let all = reaches_join course.start p writes.0 course.written writes.1 course.reaches writes.2 in
       let appends = appends_join old told new course.written writes.1 course.told writes.3 in
       record {
@@ -215,7 +212,7 @@ module _ (left mid : Option (List ℕ)) (old told : Option Told) (ended : Bool) 
             (front_itself (course.written ++ writes.1)) appends;
         cut = inr (course.start, writes.0, course.starts, all);
       }
-  course_cut statuses.WriteFault writes =
+  course_cut halts.WriteFault writes =
       let all = reaches_join course.start p writes.0 course.written writes.1 course.reaches writes.3 in
       let appends = appends_join old told new course.written writes.2 course.told writes.5 in
       record {
@@ -228,15 +225,11 @@ module _ (left mid : Option (List ℕ)) (old told : Option Told) (ended : Bool) 
             (writes.4.0, ap (λ (back : List ℕ). course.written ++ back) writes.4.1 ∙ sym (append_assoc course.written writes.2 writes.4.0)) appends;
         cut = tt;
       }
-  course_cut statuses.Done writes = absurd writes
-  course_cut statuses.No writes = absurd writes
-  course_cut statuses.Usage writes = absurd writes
-  course_cut statuses.BadInput writes = absurd writes
-  course_cut statuses.ReadFault writes = absurd writes
+  course_cut halts.ReadFault writes = absurd writes
 
-  unread : (now : Option (List ℕ)) (more : List ℕ) (status : Status) (writes : WritesOn npos_machine ended p q told new line (Ok More)) → LeftAfter mid now more → length more ≤ 65536
-      → CutBy status (course.taken ++ more) (course.written ++ writes.2.0) → Halts left now old new status
-  unread now more status writes left_is one_piece cut =
+  unread : (now : Option (List ℕ)) (more : List ℕ) (halt : Halt) (writes : WritesOn npos_machine ended p q told new line (Ok More)) → LeftAfter mid now more → length more ≤ 65536
+      → CutBy halt (course.taken ++ more) (course.written ++ writes.2.0) → Halts left now old new halt
+  unread now more halt writes left_is one_piece cut =
       let all = reaches_join course.start p q course.written writes.2.0 course.reaches writes.2.1 in
       let appends = appends_join old told new course.written writes.2.0 course.told writes.2.2 in
       let text = course.written ++ writes.2.0 in
@@ -261,28 +254,24 @@ module _ (left mid : Option (List ℕ)) (old told : Option Told) (ended : Bool) 
       }
 
   -- a read failed, or memory ran out in it
-  pub course_unread : (now : Option (List ℕ)) (here read : Place) (status : Status) → WritesOn npos_machine ended p q told new line (Ok More) → FeedsMore mid now here read (Err status)
-      → Halts left now old new status
-  course_unread now here read statuses.ReadFault writes feeds =
+  pub course_unread : (now : Option (List ℕ)) (here read : Place) (halt : Halt) → WritesOn npos_machine ended p q told new line (Ok More) → FeedsMore mid now here read (Err halt)
+      → Halts left now old new halt
+  course_unread now here read halts.ReadFault writes feeds =
       let all = reaches_join course.start p q course.written writes.2.0 course.reaches writes.2.1 in
       let same : course.taken ≡ course.taken ++ feeds.0 = sym (append-nil course.taken) ∙ ap (λ (back : List ℕ). course.taken ++ back) (sym feeds.3) in
-      unread now feeds.0 statuses.ReadFault writes feeds.1 feeds.2
+      unread now feeds.0 halts.ReadFault writes feeds.1 feeds.2
       (subst (λ (bytes : List ℕ). IsWhole npos_machine bytes (course.written ++ writes.2.0)) same
       (undecided_whole npos_machine genesis_laws turn_laws course.taken (course.written ++ writes.2.0) (Behind course.start q course.starts all writes.1)))
-  course_unread now here read statuses.NoMemory writes feeds =
+  course_unread now here read halts.NoMemory writes feeds =
       let all = reaches_join course.start p q course.written writes.2.0 course.reaches writes.2.1 in
-      unread now feeds.0 statuses.NoMemory writes feeds.1 feeds.2
+      unread now feeds.0 halts.NoMemory writes feeds.1 feeds.2
       (inr (
         grown feeds.0 course.start,
         grown feeds.0 q,
         start_grows npos_machine genesis_laws turn_laws feeds.0 course.taken course.start course.starts,
         reaches_grow feeds.0 course.start q (course.written ++ writes.2.0) all,
       ))
-  course_unread now here read statuses.Done writes feeds = absurd feeds.3
-  course_unread now here read statuses.No writes feeds = absurd feeds.3
-  course_unread now here read statuses.Usage writes feeds = absurd feeds.3
-  course_unread now here read statuses.BadInput writes feeds = absurd feeds.3
-  course_unread now here read statuses.WriteFault writes feeds = absurd feeds.3
+  course_unread now here read halts.WriteFault writes feeds = absurd feeds.3
 
 -- ## The last line
 
@@ -292,7 +281,7 @@ finds_for left now text faulty status finds is =
     (finds.0, finds.1, (record { text = text; faulty = faulty; seated = finds.2.0; last = finds.2.1 }, finds.2.2, refl, is))
 
 module _ (left now : Option (List ℕ)) (old told : Option Told) (line : List ℕ) (faulty : Bool) (done : Finished left now old told line faulty) where
-  halts_within : (new : Option Told) (put : List ℕ) → Appends told new put → IsFront put line → Halts left now old new statuses.WriteFault
+  halts_within : (new : Option Told) (put : List ℕ) → Appends told new put → IsFront put line → Halts left now old new halts.WriteFault
   halts_within new put appends front =
       let all = appends_join old told new done.written put done.told appends in
       record {
@@ -308,25 +297,17 @@ module _ (left now : Option (List ℕ)) (old told : Option Told) (line : List �
       }
 
   -- the line was not written whole
-  pub finished_cut : (new : Option Told) (status : Status) → Puts told new line (Err status) → Halts left now old new status
-  finished_cut new statuses.WriteFault puts = halts_within new (take puts.0 line) puts.1 (drop puts.0 line, sym (take-append-drop puts.0 line))
-  finished_cut new statuses.Done puts = absurd puts
-  finished_cut new statuses.No puts = absurd puts
-  finished_cut new statuses.Usage puts = absurd puts
-  finished_cut new statuses.BadInput puts = absurd puts
-  finished_cut new statuses.ReadFault puts = absurd puts
-  finished_cut new statuses.NoMemory puts = absurd puts
+  pub finished_cut : (new : Option Told) (halt : Halt) → Puts told new line (Err halt) → Halts left now old new halt
+  finished_cut new halts.WriteFault puts = halts_within new (take puts.0 line) puts.1 (drop puts.0 line, sym (take-append-drop puts.0 line))
+  finished_cut new halts.ReadFault puts = absurd puts
+  finished_cut new halts.NoMemory puts = absurd puts
 
   -- the line was written, and the flush failed
-  pub finished_unflushed : (mid new : Option Told) (status : Status) → Puts told mid line (Ok tt) → FlushesBy mid new (Err status) → Halts left now old new status
-  finished_unflushed mid new statuses.WriteFault puts flushes =
+  pub finished_unflushed : (mid new : Option Told) (halt : Halt) → Puts told mid line (Ok tt) → FlushesBy mid new (Err halt) → Halts left now old new halt
+  finished_unflushed mid new halts.WriteFault puts flushes =
       halts_within new line (subst (λ (t : List ℕ). Appends told new t) (append-nil line) (appends_join told mid new line [] puts flushes)) (front_itself line)
-  finished_unflushed mid new statuses.Done puts flushes = absurd flushes
-  finished_unflushed mid new statuses.No puts flushes = absurd flushes
-  finished_unflushed mid new statuses.Usage puts flushes = absurd flushes
-  finished_unflushed mid new statuses.BadInput puts flushes = absurd flushes
-  finished_unflushed mid new statuses.ReadFault puts flushes = absurd flushes
-  finished_unflushed mid new statuses.NoMemory puts flushes = absurd flushes
+  finished_unflushed mid new halts.ReadFault puts flushes = absurd flushes
+  finished_unflushed mid new halts.NoMemory puts flushes = absurd flushes
 
   pub finished_whole : (mid new : Option Told) (status : Status) → Puts told mid line (Ok tt) → FlushesBy mid new (Ok tt) → status ≡ replay_status faulty → Delivered left now old new status
   finished_whole mid new status puts flushes is = record {
@@ -357,18 +338,14 @@ has_written taken written keeps text whole =
     (front.0 ++ keeps.before.0, keeps.before.1 ∙ (ap (λ (t : List ℕ). t ++ keeps.before.0) front.1 ∙ append_assoc text front.0 keeps.before.0))
 
 -- the next piece of the genesis was not read
-pub begins_unread : (left mid now : Option (List ℕ)) (here read place : Place) (taken : List ℕ) (ended : Bool) (status : Status) → HasSeen left mid taken false ended → CutsGenesis taken
-    → FeedsMore mid now here read (Err status) → Begins left now place (Err status)
-begins_unread left mid now here read place taken ended statuses.ReadFault seen cut feeds = (
+pub begins_unread : (left mid now : Option (List ℕ)) (here read place : Place) (taken : List ℕ) (ended : Bool) (halt : Halt) → HasSeen left mid taken false ended → CutsGenesis taken
+    → FeedsMore mid now here read (Err halt) → Begins left now place (Err halt)
+begins_unread left mid now here read place taken ended halts.ReadFault seen cut feeds = (
   taken ++ feeds.0,
   left_join left mid now taken feeds.0 seen.taken feeds.1,
   (taken, feeds.0, refl, feeds.2, cut),
   subst CutsGenesis (sym (append-nil taken) ∙ ap (λ (back : List ℕ). taken ++ back) (sym feeds.3)) cut,
 )
-begins_unread left mid now here read place taken ended statuses.NoMemory seen cut feeds =
+begins_unread left mid now here read place taken ended halts.NoMemory seen cut feeds =
     (taken ++ feeds.0, left_join left mid now taken feeds.0 seen.taken feeds.1, (taken, feeds.0, refl, feeds.2, cut), tt)
-begins_unread left mid now here read place taken ended statuses.Done seen cut feeds = absurd feeds.3
-begins_unread left mid now here read place taken ended statuses.No seen cut feeds = absurd feeds.3
-begins_unread left mid now here read place taken ended statuses.Usage seen cut feeds = absurd feeds.3
-begins_unread left mid now here read place taken ended statuses.BadInput seen cut feeds = absurd feeds.3
-begins_unread left mid now here read place taken ended statuses.WriteFault seen cut feeds = absurd feeds.3
+begins_unread left mid now here read place taken ended halts.WriteFault seen cut feeds = absurd feeds.3

@@ -1,8 +1,8 @@
 -- How single reads add up to all that was left, and a write and a flush to a delivery.
-use Rattle.std.proofs.Common.{◌≡◌, ◌⊎◌, inl, inr, Bool, true, false, ℕ, List, [], ◌++◌, length, take, Option, Some, None, refl, sym, ◌∙◌, ap, subst, append_assoc, arith}
-use Rattle.std.proofs.lemmas.List.{append-nil, take_all, take_at}
-use Rattle.npos_base.specs.Outside.{Told, IsAtEnd, Appends, Flushes}
-use Rattle.npos_cli.specs.Owed.{LeftAfter, IsDrained, Delivers, DeliversFront, KeepsFlushed}
+use Rattle.std.proofs.Common.{◌≡◌, ◌⊎◌, inl, inr, Bool, true, false, ℕ, ◌+◌, ◌≤◌, List, [], ◌++◌, length, take, drop, Option, Some, None, refl, sym, ◌∙◌, ap, subst, append_assoc, arith, length-append}
+use Rattle.std.proofs.lemmas.List.{append-nil, take_all, take_at, take-append-drop, length-take-le}
+use Rattle.npos_base.specs.Outside.{Told, Takes, IsAtEnd, Appends, Flushes}
+use Rattle.npos_cli.specs.Owed.{LeftAfter, TakesAtMost, IsDrained, Delivers, DeliversFront, KeepsFlushed}
 use Rattle.npos_cli.specs.Replay.{IsFront}
 use Rattle.npos_cli.specs.Ahead.{HasSeen}
 
@@ -16,6 +16,34 @@ left_join (Some left) mid new bytes taken before more =
 pub left_none : (old : Option (List ℕ)) (bytes : List ℕ) → bytes ≡ [] → LeftAfter old old bytes
 left_none None bytes empty = tt
 left_none (Some left) bytes empty = (left, refl, ap (λ front. front ++ left) (sym empty))
+
+pub left_taken : (left now : Option (List ℕ)) (n : ℕ) (taken : List ℕ) → Takes left now n taken → LeftAfter left now taken
+left_taken None now n taken takes = tt
+left_taken (Some left) now n taken takes =
+    (drop n left, takes.2, sym (take-append-drop n left) ∙ ap (λ (front : List ℕ). front ++ drop n left) (sym takes.1))
+
+-- ## At most so many bytes
+
+-- nothing was read
+pub takes_none : (left : Option (List ℕ)) (most : ℕ) → TakesAtMost most left left
+takes_none left most = ([], left_none left [] refl, omega arith)
+
+-- a read failed
+pub takes_no_more : (left now : Option (List ℕ)) (most : ℕ) → Takes left now 0 [] → TakesAtMost most left now
+takes_no_more left now most takes = ([], left_taken left now 0 [] takes, omega arith)
+
+-- one read
+pub takes_some : (left now : Option (List ℕ)) (n most : ℕ) (buffer : List ℕ) → Takes left now n (take n buffer) → n ≤ length buffer → length buffer ≤ most → TakesAtMost most left now
+takes_some left now n most buffer takes within few = (take n buffer, left_taken left now n (take n buffer) takes, omega (arith, length-take-le n buffer within, few))
+
+-- what was read so far
+pub takes_so_far : (left now : Option (List ℕ)) (bytes : List ℕ) (most : ℕ) → LeftAfter left now bytes → length bytes ≤ most → TakesAtMost most left now
+takes_so_far left now bytes most taken few = (bytes, taken, few)
+
+-- and then more
+pub takes_more : (left mid now : Option (List ℕ)) (bytes : List ℕ) (room most : ℕ) → LeftAfter left mid bytes → TakesAtMost room mid now → length bytes + room ≤ most → TakesAtMost most left now
+takes_more left mid now bytes room most taken more few =
+    (bytes ++ more.0, left_join left mid now bytes more.0 taken more.1, omega (arith, more.2, few, length-append bytes more.0))
 
 -- what one read tells of what was seen
 pub seen_once : (old new : Option (List ℕ)) (taken : List ℕ) (ended : Bool) → LeftAfter old new taken → (ended ≡ true → (taken ≡ []) × IsAtEnd old) → HasSeen old new taken false ended

@@ -1,21 +1,15 @@
 -- What a read that feeds a reader comes to.
-use Rattle.std.proofs.Common.{◌≡◌, ◌≤◌, ◌<◌, ℕ, Bool, true, List, [], ◌++◌, length, take, drop, Option, Some, None, Ok, Err, refl, sym, ◌∙◌, ap, arith}
-use Rattle.std.proofs.lemmas.List.{take-append-drop, length-take-le}
+use Rattle.std.proofs.Common.{◌≡◌, ◌≤◌, ◌<◌, ℕ, Bool, true, List, [], ◌++◌, length, take, Option, Ok, Err, refl, ap, arith}
+use Rattle.std.proofs.lemmas.List.{length-take-le}
 use Rattle.npos_base.specs.Outside.{Takes, IsAtEnd}
 use Rattle.scale_wire.specs.Reading.{Place}
-use Rattle.bundle_reports.specs.declared.status.Status.TheVariants.{ReadFault, NoMemory}
-use Rattle.npos_cli.specs.Owed.{LeftAfter}
+use Rattle.npos_cli.specs.declared.halt.Halt.TheVariants.{ReadFault, NoMemory}
 use Rattle.npos_cli.specs.Ahead.{FeedsMore}
-use Rattle.npos_cli.proofs.EdgeLaws.{left_none}
+use Rattle.npos_cli.proofs.EdgeLaws.{left_none, left_taken}
 
 -- nothing was read
 pub feeds_nothing : (left : Option (List ℕ)) (old : Place) → FeedsMore left left old old (Err NoMemory)
 feeds_nothing left old = ([], left_none left [] refl, omega arith, tt)
-
-left_taken : (left now : Option (List ℕ)) (n : ℕ) (taken : List ℕ) → Takes left now n taken → LeftAfter left now taken
-left_taken None now n taken takes = tt
-left_taken (Some left) now n taken takes =
-    (drop n left, takes.2, sym (take-append-drop n left) ∙ ap (λ (front : List ℕ). front ++ drop n left) (sym takes.1))
 
 -- a failed read takes nothing
 pub feeds_none : (left now : Option (List ℕ)) (old new : Place) → Takes left now 0 [] → FeedsMore left now old new (Err ReadFault)

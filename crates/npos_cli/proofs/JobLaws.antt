@@ -1,236 +1,160 @@
--- What a run of each job says.
-use Rattle.std.proofs.Common.{◌≡◌, ◌≢◌, ◌⊎◌, inl, inr, ◌<◌, ◌+◌, ℕ, Bool, true, false, List, Option, Some, None, Ok, Err, IfSome, refl, sym, subst, arith}
+-- What a run of each job comes to.
+use Rattle.std.proofs.Common.{◌≡◌, ◌≢◌, ℕ, Bool, true, false, List, Option, Some, None, Result, Ok, Err, IfErr, IfSome, refl, sym, subst}
 use Rattle.std.proofs.lemmas.List.{append-nil}
-use Rattle.npos_base.specs.Outside.{Told, Rose}
+use Rattle.npos_base.specs.Outside.{Told}
 use Rattle.npos_cli.specs.declared.job.Job.{Job}
 use Rattle.npos_cli.specs.declared.job.Job.TheVariants as jobs
 use Rattle.bundle_reports.specs.declared.asked.Task.{Task}
 use Rattle.bundle_reports.specs.declared.asked.Task.TheVariants as tasks
-use Rattle.bundle_reports.specs.declared.asked.Rewriting.{Rewriting}
 use Rattle.bundle_reports.specs.declared.asked.Miner.TheVariants as miners
-use Rattle.bundle_reports.specs.declared.status.Status.{Status}
-use Rattle.bundle_reports.specs.declared.status.Status.TheVariants as statuses
-use Rattle.npos_cli.specs.Report.{IsAnswer, IsJudged, replay_status}
-use Rattle.bundle_reports.specs.declared.reading.TheConstants.{MOST_BUNDLE}
+use Rattle.npos_cli.specs.declared.status.Status.{Status}
+use Rattle.npos_cli.specs.declared.status.Status.TheVariants as statuses
+use Rattle.npos_cli.specs.declared.halt.Halt.{Halt}
+use Rattle.npos_cli.specs.declared.halt.Halt.TheVariants as halts
 use Rattle.bundle_reports.specs.Tasks.{IsSound}
-use Rattle.npos_cli.specs.Words.{usage_line}
-use Rattle.npos_cli.specs.Chain.{npos_machine}
-use Rattle.npos_cli.specs.Owed.{LeftAfter, FindsFor, AnswersFor, BeginsFor, IsDrained, TakesAtMost, DeliversFront, KeepsFlushed, HasRead, HasWrote, ReadsWell, WritesWell}
-use Rattle.npos_cli.specs.Turning.{KeepsUp}
-use Rattle.npos_cli.specs.Streaming.{Delivered, Halts, CutBy, ReplayEnds, ReadsWhile}
 use Rattle.bundle_reports.specs.Demo.{demo_report}
-use Rattle.npos_cli.specs.Ran.{Ran, UsageEnds, DemoEnds}
-use Rattle.npos_cli.proofs.EdgeLaws.{unflushed}
+use Rattle.npos_cli.specs.Words.{usage_line}
+use Rattle.npos_cli.specs.Report.{ReadsInput, ReadsBundle, IsJudged, replay_status}
+use Rattle.npos_cli.specs.Chain.{npos_machine}
+use Rattle.npos_cli.specs.Owed.{LeftAfter, FindsFor, BeginsFor, IsDrained, TakesAtMost, DeliversFront, KeepsFlushed, Counts, Ends}
+use Rattle.npos_cli.specs.Turning.{KeepsUp}
+use Rattle.npos_cli.specs.Streaming.{Halts, ReplayEnds, ReadsWhile}
+use Rattle.npos_cli.specs.Ran.{Traffic, HaltedBy, Ran, DemoEnds}
+use Rattle.npos_cli.proofs.EdgeLaws.{unflushed, takes_none}
 use Rattle.npos_cli.proofs.RunLaws.{found_unread, nothing_asked, front_found, front_delivered}
 use Rattle.npos_cli.proofs.CourseLaws.{finds_for, has_written, begins_starved}
 
--- ## Counts of faults
-
-read_rose : (before now : ℕ) (status : Status) → HasRead before now status → status ≡ statuses.ReadFault → Rose before now
-read_rose before now status has is = (subst (λ (s : Status). HasRead before now s) is has).0
-
-read_comes : (before now : ℕ) (status : Status) → HasRead before now status → before < now → status ≡ statuses.ReadFault
-read_comes before now statuses.ReadFault has rose = refl
-read_comes before now statuses.Done has rose = absurd (omega (arith, has, rose))
-read_comes before now statuses.No has rose = absurd (omega (arith, has, rose))
-read_comes before now statuses.Usage has rose = absurd (omega (arith, has, rose))
-read_comes before now statuses.BadInput has rose = absurd (omega (arith, has, rose))
-read_comes before now statuses.WriteFault has rose = absurd (omega (arith, has, rose))
-read_comes before now statuses.NoMemory has rose = absurd (omega (arith, has, rose))
-
-write_rose : (before now : ℕ) (status : Status) → HasWrote before now status → status ≡ statuses.WriteFault → Rose before now
-write_rose before now status has is = (subst (λ (s : Status). HasWrote before now s) is has).0
-
-write_comes : (before now : ℕ) (status : Status) → HasWrote before now status → before < now → status ≡ statuses.WriteFault
-write_comes before now statuses.WriteFault has rose = refl
-write_comes before now statuses.Done has rose = absurd (omega (arith, has, rose))
-write_comes before now statuses.No has rose = absurd (omega (arith, has, rose))
-write_comes before now statuses.Usage has rose = absurd (omega (arith, has, rose))
-write_comes before now statuses.BadInput has rose = absurd (omega (arith, has, rose))
-write_comes before now statuses.ReadFault has rose = absurd (omega (arith, has, rose))
-write_comes before now statuses.NoMemory has rose = absurd (omega (arith, has, rose))
-
--- ## The usage line
-
-pub usage_ran : (left : Option (List ℕ)) (old new : Option Told) (reads writes wrote : ℕ) (Unread Unwritten : Type 0) (status : Status) → Unread → UsageEnds old new status
-    → HasWrote writes wrote status → Ran None left left old new reads reads writes wrote Unread Unwritten status
-usage_ran left old new reads writes wrote Unread Unwritten statuses.Usage unread ends has = record {
-  answers = λ _. (usage_line, nothing_asked None left refl, ends);
-  front = front_delivered None left old new usage_line statuses.Usage (nothing_asked None left refl) ends;
-  read_fault = λ e. cc;
-  read_fault_comes = λ rose. absurd (omega (arith, rose));
-  write_fault = λ e. cc;
-  write_fault_comes = λ rose. absurd (omega (arith, has, rose));
-  unwritten = λ _ cut. elim cut [ inl e ↦ cc | inr e ↦ cc ];
-  unflushed = λ no. absurd (no tt);
-  unread = λ _. unread;
-  drained = λ judged. absurd judged;
-  few = λ reads. absurd reads;
-  accepted = λ task e. cc;
-  passes = λ e. cc;
-  halted_reading = λ e. cc;
-  halted_writing = λ e. cc;
-  starved = λ e. cc;
-  wary = λ e. cc;
-}
-usage_ran left old new reads writes wrote Unread Unwritten statuses.WriteFault unread ends has = record {
-  answers = λ answer. absurd answer;
-  front = front_found None left old new usage_line statuses.Usage (nothing_asked None left refl) ends.0;
-  read_fault = λ e. cc;
-  read_fault_comes = λ rose. absurd (omega (arith, rose));
-  write_fault = λ _. has.0;
-  write_fault_comes = λ _. refl;
-  unwritten = λ _ cut. elim cut [ inl e ↦ cc | inr e ↦ cc ];
-  unflushed = λ _. ends.1;
-  unread = λ _. unread;
-  drained = λ judged. absurd judged;
-  few = λ reads. absurd reads;
-  accepted = λ task e. cc;
-  passes = λ e. cc;
-  halted_reading = λ e. cc;
-  halted_writing = λ e. cc;
-  starved = λ e. cc;
-  wary = λ e. cc;
-}
-usage_ran left old new reads writes wrote Unread Unwritten statuses.Done unread ends has = absurd ends
-usage_ran left old new reads writes wrote Unread Unwritten statuses.No unread ends has = absurd ends
-usage_ran left old new reads writes wrote Unread Unwritten statuses.BadInput unread ends has = absurd ends
-usage_ran left old new reads writes wrote Unread Unwritten statuses.ReadFault unread ends has = absurd ends
-usage_ran left old new reads writes wrote Unread Unwritten statuses.NoMemory unread ends has = absurd ends
-
 -- nothing was delivered, which is a front of any text
-front_none : (now : Option Told) (text : List ℕ) → DeliversFront now now text
+pub front_none : (now : Option Told) (text : List ℕ) → DeliversFront now now text
 front_none None text = tt
 front_none (Some now) text = (now, 0, refl, sym (append-nil now.written))
 
+pub kept_flushed : (now : Option Told) → KeepsFlushed now now
+kept_flushed None = tt
+kept_flushed (Some now) = (now, refl, refl)
+
+-- ## Jobs that write at their end
+
+-- what holds of a run of such a job, however it ends
+pub record AtEnd (job : Option Job) (t : Traffic) : Type 0 where
+  pub other : job ≡ Some jobs.Replay → ⊥
+  pub few : ReadsBundle job → TakesAtMost 16777217 t.left t.left_now
+
+module _ (job : Option Job) (t : Traffic) (at_end : AtEnd job t) where
+  pub cut_ran : (halt : Halt) → BeginsFor job t.left t.told t.told_now → KeepsFlushed t.told t.told_now → (halt ≡ halts.ReadFault → ReadsInput job)
+      → Counts {T = Status} halts.ReadFault t.read_faults t.read_faults_now (Err halt) → Counts {T = Status} halts.WriteFault t.write_faults t.write_faults_now (Err halt)
+      → Ran job t (Err halt)
+  cut_ran halt front keeps reads read_faults write_faults = record {
+    answers = tt;
+    front = front;
+    read_faults = read_faults;
+    write_faults = write_faults;
+    reads = reads;
+    unflushed = keeps;
+    halted = λ e. absurd (at_end.other e);
+    wary = λ e. absurd (at_end.other e);
+    drained = tt;
+    few = at_end.few;
+    accepted = λ task e. tt;
+    passes = λ e. tt;
+  }
+
+  -- nothing was written
+  pub unwritten_ran : (halt : Halt) → t.told_now ≡ t.told → t.write_faults_now ≡ t.write_faults → (halt ≡ halts.ReadFault → ReadsInput job)
+      → Counts {T = Status} halts.ReadFault t.read_faults t.read_faults_now (Err halt) → halt ≢ halts.WriteFault → Ran job t (Err halt)
+  unwritten_ran halt same no_write reads read_faults other = by halt reads read_faults other where
+    front : BeginsFor job t.left t.told t.told_now
+    front text status owed = subst (λ (now : Option Told). DeliversFront t.told now text) (sym same) (front_none t.told text)
+
+    keeps : KeepsFlushed t.told t.told_now
+    keeps = subst (λ (now : Option Told). KeepsFlushed t.told now) (sym same) (kept_flushed t.told)
+
+    by : (h : Halt) → (h ≡ halts.ReadFault → ReadsInput job) → Counts {T = Status} halts.ReadFault t.read_faults t.read_faults_now (Err h) → h ≢ halts.WriteFault → Ran job t (Err h)
+    by halts.ReadFault reads read_faults other = cut_ran halts.ReadFault front keeps reads read_faults no_write
+    by halts.NoMemory reads read_faults other = cut_ran halts.NoMemory front keeps reads read_faults no_write
+    by halts.WriteFault reads read_faults other = absurd (other refl)
+
+  -- what is owed was delivered, or a front of it
+  pub ended_ran : (text : List ℕ) (due : Status) (result : Result Status Halt) → FindsFor job t.left text due → Ends text due t.told t.told_now result
+      → t.read_faults_now ≡ t.read_faults → Counts halts.WriteFault t.write_faults t.write_faults_now result
+      → (IsJudged due → ReadsInput job → IsDrained t.left t.left_now)
+      → ((task : Task) → job ≡ Some (jobs.OnBundle task) → due ≡ statuses.Done → IfSome t.left (IsSound task))
+      → (job ≡ Some (jobs.OnBundle (tasks.Mine miners.Fill)) → due ≢ statuses.No) → Ran job t result
+  ended_ran text due (Ok status) finds ends no_read write_faults drained accepted passes =
+      let found : FindsFor job t.left text status = subst (λ (s : Status). FindsFor job t.left text s) (sym ends.0) finds in
+      record {
+        answers = (text, found, ends.1);
+        front = front_delivered job t.left t.told t.told_now text status found ends.1;
+        read_faults = no_read;
+        write_faults = write_faults;
+        reads = tt;
+        unflushed = tt;
+        halted = λ e. tt;
+        wary = λ e. absurd (at_end.other e);
+        drained = subst (λ (s : Status). IsJudged s → ReadsInput job → IsDrained t.left t.left_now) (sym ends.0) drained;
+        few = at_end.few;
+        accepted = λ task e. subst (λ (s : Status). s ≡ statuses.Done → IfSome t.left (IsSound task)) (sym ends.0) (accepted task e);
+        passes = λ e. subst (λ (s : Status). s ≢ statuses.No) (sym ends.0) (passes e);
+      }
+  ended_ran text due (Err halts.WriteFault) finds ends no_read write_faults drained accepted passes =
+      cut_ran halts.WriteFault (front_found job t.left t.told t.told_now text due finds ends.0) ends.1 (λ e. absurd (let never : halts.WriteFault ≡ halts.ReadFault = e in cc)) no_read write_faults
+  ended_ran text due (Err halts.ReadFault) finds ends no_read write_faults drained accepted passes = absurd ends
+  ended_ran text due (Err halts.NoMemory) finds ends no_read write_faults drained accepted passes = absurd ends
+
+pub usage_ran : (t : Traffic) (result : Result Status Halt) → Ends usage_line statuses.Usage t.told t.told_now result → t.read_faults_now ≡ t.read_faults
+    → Counts halts.WriteFault t.write_faults t.write_faults_now result → Ran None t result
+usage_ran t result ends no_read write_faults =
+    ended_ran None t (record { other = λ e. cc; few = λ reads. absurd reads }) usage_line statuses.Usage result (nothing_asked None t.left refl) ends no_read write_faults
+    (λ judged. absurd judged) (λ task e. cc) (λ e. cc)
+
+-- the usage line takes no memory
+pub usage_never_starves : (old new : Option Told) (result : Result Status Halt) → Ends usage_line statuses.Usage old new result → result ≢ Err halts.NoMemory
+usage_never_starves old new (Ok status) ends = λ e. cc
+usage_never_starves old new (Err halts.WriteFault) ends = λ e. cc
+usage_never_starves old new (Err halts.ReadFault) ends = absurd ends
+usage_never_starves old new (Err halts.NoMemory) ends = absurd ends
+
+-- where a text was to be delivered, a write alone may have failed
+pub ends_unwritten : (Unwritten : Type 0) (text : List ℕ) (due : Status) (old new : Option Told) (result : Result Status Halt) → Ends text due old new result
+    → IfErr result (λ halt. halt ≢ halts.WriteFault → Unwritten)
+ends_unwritten Unwritten text due old new (Ok status) ends = tt
+ends_unwritten Unwritten text due old new (Err halts.WriteFault) ends = λ other. absurd (other refl)
+ends_unwritten Unwritten text due old new (Err halts.ReadFault) ends = absurd ends
+ends_unwritten Unwritten text due old new (Err halts.NoMemory) ends = absurd ends
+
 -- ## A generated election
 
-pub demo_ran : (seed voters seats : ℕ) (left : Option (List ℕ)) (old new : Option Told) (reads writes wrote : ℕ) (Unread Unwritten : Type 0) (status : Status) → Unread
-    → DemoEnds (demo_report seed voters seats).text old new Unwritten status → HasWrote writes wrote status
-    → Ran (Some (jobs.Demo seed voters seats)) left left old new reads reads writes wrote Unread Unwritten status
-demo_ran seed voters seats left old new reads writes wrote Unread Unwritten status unread ends has = record {
-  answers = at_answer status ends;
-  front = at_front status ends;
-  read_fault = λ e. absurd (no_read status ends e);
-  read_fault_comes = λ rose. absurd (omega (arith, rose));
-  write_fault = write_rose writes wrote status has;
-  write_fault_comes = write_comes writes wrote status has;
-  unwritten = λ _ cut. elim cut [ inl e ↦ absurd (no_read status ends e) | inr e ↦ (subst (λ (s : Status). DemoEnds text old new Unwritten s) e ends).0 ];
-  unflushed = at_flush status ends;
-  unread = λ _. unread;
-  drained = λ _ reads. absurd reads;
-  few = λ reads. absurd reads;
-  accepted = λ task e. cc;
-  passes = λ e. cc;
-  halted_reading = λ e. cc;
-  halted_writing = λ e. cc;
-  starved = λ e. cc;
-  wary = λ e. cc;
-} where
-  text : List ℕ
-  text = (demo_report seed voters seats).text
+pub demo_starved : (text : List ℕ) (now : Option Told) → DemoEnds text now now (Err halts.NoMemory)
+demo_starved text now = (front_none now text, kept_flushed now)
 
-  job : Option Job
-  job = Some (jobs.Demo seed voters seats)
+pub demo_ends : (text : List ℕ) (old new : Option Told) (result : Result Status Halt) → Ends text statuses.Done old new result → DemoEnds text old new result
+demo_ends text old new (Ok status) ends = ends
+demo_ends text old new (Err halts.WriteFault) ends = ends
+demo_ends text old new (Err halts.ReadFault) ends = absurd ends
+demo_ends text old new (Err halts.NoMemory) ends = absurd ends
 
-  owed : FindsFor job left text statuses.Done
-  owed = found_unread job left text statuses.Done (λ bytes. refl)
+module _ (seed voters seats : ℕ) (t : Traffic) where
+  asked : Option Job
+  asked = Some (jobs.Demo seed voters seats)
 
-  at_answer : (s : Status) → DemoEnds text old new Unwritten s → IsAnswer s → AnswersFor job left old new s
-  at_answer statuses.Done ends answer = (text, owed, ends)
-  at_answer statuses.WriteFault ends answer = absurd answer
-  at_answer statuses.NoMemory ends answer = absurd answer
-  at_answer statuses.ReadFault ends answer = absurd answer
-  at_answer statuses.No ends answer = absurd ends
-  at_answer statuses.Usage ends answer = absurd ends
-  at_answer statuses.BadInput ends answer = absurd ends
+  line : List ℕ
+  line = (demo_report seed voters seats).text
 
-  at_front : (s : Status) → DemoEnds text old new Unwritten s → BeginsFor job left old new
-  at_front statuses.Done ends = front_delivered job left old new text statuses.Done owed ends
-  at_front statuses.WriteFault ends = front_found job left old new text statuses.Done owed ends.0
-  at_front statuses.NoMemory ends =
-      front_found job left old new text statuses.Done owed (subst (λ (now : Option Told). DeliversFront old now text) (sym ends.1) (front_none old text))
-  at_front statuses.ReadFault ends = absurd ends
-  at_front statuses.No ends = absurd ends
-  at_front statuses.Usage ends = absurd ends
-  at_front statuses.BadInput ends = absurd ends
+  owed : FindsFor asked t.left line statuses.Done
+  owed = found_unread asked t.left line statuses.Done (λ bytes. record { text_is = refl; status_is = refl })
 
-  kept : (now : Option Told) → KeepsFlushed now now
-  kept None = tt
-  kept (Some now) = (now, refl, refl)
+  at_end : AtEnd asked t
+  at_end = record { other = λ e. cc; few = λ reads. absurd reads }
 
-  at_flush : (s : Status) → DemoEnds text old new Unwritten s → (IsAnswer s → ⊥) → KeepsFlushed old new
-  at_flush statuses.Done ends unanswered = absurd (unanswered tt)
-  at_flush statuses.WriteFault ends unanswered = ends.1
-  at_flush statuses.NoMemory ends unanswered = subst (λ (now : Option Told). KeepsFlushed old now) (sym ends.1) (kept old)
-  at_flush statuses.ReadFault ends unanswered = absurd ends
-  at_flush statuses.No ends unanswered = absurd (unanswered tt)
-  at_flush statuses.Usage ends unanswered = absurd (unanswered tt)
-  at_flush statuses.BadInput ends unanswered = absurd (unanswered tt)
-
-  no_read : (s : Status) → DemoEnds text old new Unwritten s → s ≡ statuses.ReadFault → ⊥
-  no_read statuses.ReadFault ends e = ends
-  no_read statuses.Done ends e = cc
-  no_read statuses.WriteFault ends e = cc
-  no_read statuses.NoMemory ends e = cc
-  no_read statuses.No ends e = cc
-  no_read statuses.Usage ends e = cc
-  no_read statuses.BadInput ends e = cc
-
--- ## A bundle
-
-pub report_ran : (task : Task) (left now : Option (List ℕ)) (old new : Option Told) (reads read writes wrote : ℕ) (Unread Unwritten : Type 0) (status : Status)
-    → (IsAnswer status → AnswersFor (Some (jobs.OnBundle task)) left old new status) → BeginsFor (Some (jobs.OnBundle task)) left old new
-    → HasRead reads read status → HasWrote writes wrote status → ((status ≡ statuses.ReadFault) ⊎ (status ≡ statuses.NoMemory) → Unwritten)
-    → ((IsAnswer status → ⊥) → KeepsFlushed old new) → (IsJudged status → IsDrained left now) → (IsAnswer status → TakesAtMost (MOST_BUNDLE + 1) left now)
-    → (status ≡ statuses.Done → IfSome left (IsSound task)) → (task ≡ tasks.Mine miners.Fill → status ≢ statuses.No)
-    → Ran (Some (jobs.OnBundle task)) left now old new reads read writes wrote Unread Unwritten status
-report_ran task left now old new reads read writes wrote Unread Unwritten status answers front has_read has_wrote unwritten keeps drained few accepted passes = record {
-  answers = answers;
-  front = front;
-  read_fault = λ is. (tt, read_rose reads read status has_read is);
-  read_fault_comes = read_comes reads read status has_read;
-  write_fault = write_rose writes wrote status has_wrote;
-  write_fault_comes = write_comes writes wrote status has_wrote;
-  unwritten = λ _. unwritten;
-  unflushed = keeps;
-  unread = λ no. absurd (no tt);
-  drained = λ judged _. drained judged;
-  few = λ _. few;
-  accepted = λ other e done. let same : task ≡ other = cc in subst (λ (t : Task). IfSome left (IsSound t)) same (accepted done);
-  passes = λ e. let same : task ≡ tasks.Mine miners.Fill = cc in passes same;
-  halted_reading = λ e. cc;
-  halted_writing = λ e. cc;
-  starved = λ e. cc;
-  wary = λ e. cc;
-}
-
--- ## A bundle in its other form
-
-pub rewrite_ran : (way : Rewriting) (left now : Option (List ℕ)) (old new : Option Told) (reads read writes wrote : ℕ) (Unread Unwritten : Type 0) (status : Status)
-    → (IsAnswer status → AnswersFor (Some (jobs.Rewrite way)) left old new status) → BeginsFor (Some (jobs.Rewrite way)) left old new
-    → HasRead reads read status → HasWrote writes wrote status → ((status ≡ statuses.ReadFault) ⊎ (status ≡ statuses.NoMemory) → Unwritten)
-    → ((IsAnswer status → ⊥) → KeepsFlushed old new) → (IsJudged status → IsDrained left now) → (IsAnswer status → TakesAtMost (MOST_BUNDLE + 1) left now)
-    → Ran (Some (jobs.Rewrite way)) left now old new reads read writes wrote Unread Unwritten status
-rewrite_ran way left now old new reads read writes wrote Unread Unwritten status answers front has_read has_wrote unwritten keeps drained few = record {
-  answers = answers;
-  front = front;
-  read_fault = λ is. (tt, read_rose reads read status has_read is);
-  read_fault_comes = read_comes reads read status has_read;
-  write_fault = write_rose writes wrote status has_wrote;
-  write_fault_comes = write_comes writes wrote status has_wrote;
-  unwritten = λ _. unwritten;
-  unflushed = keeps;
-  unread = λ no. absurd (no tt);
-  drained = λ judged _. drained judged;
-  few = λ _. few;
-  accepted = λ task e. cc;
-  passes = λ e. cc;
-  halted_reading = λ e. cc;
-  halted_writing = λ e. cc;
-  starved = λ e. cc;
-  wary = λ e. cc;
-}
+  pub demo_ran : (result : Result Status Halt) → DemoEnds line t.told t.told_now result → t.read_faults_now ≡ t.read_faults
+      → Counts halts.WriteFault t.write_faults t.write_faults_now result → Ran asked t result
+  demo_ran (Ok status) ends no_read write_faults =
+      ended_ran asked t at_end line statuses.Done (Ok status) owed ends no_read write_faults (λ judged reads. absurd reads) (λ task e. cc) (λ e. cc)
+  demo_ran (Err halts.WriteFault) ends no_read write_faults =
+      cut_ran asked t at_end halts.WriteFault (front_found asked t.left t.told t.told_now line statuses.Done owed ends.0) ends.1 (λ e. cc) no_read write_faults
+  demo_ran (Err halts.NoMemory) ends no_read write_faults =
+      cut_ran asked t at_end halts.NoMemory (front_found asked t.left t.told t.told_now line statuses.Done owed ends.0) ends.1 (λ e. cc) no_read write_faults
+  demo_ran (Err halts.ReadFault) ends no_read write_faults = absurd ends
 
 -- ## A replay
 
@@ -244,145 +168,76 @@ keeps_wary left now taken written left_is keeps = record {
   unsure = keeps.unsure;
 }
 
-replay_answers : (faulty : Bool) → IsAnswer (replay_status faulty)
-replay_answers true = tt
-replay_answers false = tt
-
 judged_sound : (faulty : Bool) → IsJudged (replay_status faulty) → faulty ≡ false
 judged_sound true judged = absurd judged
 judged_sound false judged = refl
 
-module _ (left now : Option (List ℕ)) (old new : Option Told) (reads read writes wrote : ℕ) (Unread Unwritten : Type 0) (status : Status) where
-  delivered_ran : Delivered left now old new status → read ≡ reads → wrote ≡ writes
-      → Ran (Some jobs.Replay) left now old new reads read writes wrote Unread Unwritten status
-  delivered_ran done no_read no_write =
-      let answers : IsAnswer status = subst (λ (s : Status). IsAnswer s) (sym done.status_is) (replay_answers done.faulty) in
-      let finds = finds_for left now done.text done.faulty status done.finds done.status_is in
-      record {
-        answers = λ _. (done.text, finds, done.delivers);
-        front = front_delivered (Some jobs.Replay) left old new done.text status finds done.delivers;
-        read_fault = λ is. absurd (subst (λ (s : Status). IsAnswer s) is answers);
-        read_fault_comes = λ rose. absurd (omega (arith, no_read, rose));
-        write_fault = λ is. absurd (subst (λ (s : Status). IsAnswer s) is answers);
-        write_fault_comes = λ rose. absurd (omega (arith, no_write, rose));
-        unwritten = λ other. absurd (other refl);
-        unflushed = λ no. absurd (no answers);
-        unread = λ no. absurd (no tt);
-        drained = λ judged _. done.finds.3 (judged_sound done.faulty (subst (λ (s : Status). IsJudged s) done.status_is judged));
-        few = λ bundle. absurd bundle;
-        accepted = λ task e. cc;
-        passes = λ e. cc;
-        halted_reading = λ _ is. absurd (subst (λ (s : Status). IsAnswer s) is answers);
-        halted_writing = λ _ is. absurd (subst (λ (s : Status). IsAnswer s) is answers);
-        starved = λ _ is. absurd (subst (λ (s : Status). IsAnswer s) is answers);
-        wary = λ _. keeps_wary left now done.taken done.written done.left_is done.keeps_up;
-      }
+-- what cut a replay off says what was taken and written
+halted_by : (t : Traffic) (halt : Halt) → Halts t.left t.left_now t.told t.told_now halt → HaltedBy halt t
+halted_by t halts.ReadFault h = (h.taken, h.left_is, h.written, h.told, h.cut)
+halted_by t halts.WriteFault h = (h.taken, h.left_is, h.written, h.told, has_written h.taken h.written h.keeps_up)
+halted_by t halts.NoMemory h = (h.taken, h.left_is, h.written, h.told, h.cut)
 
-  -- a status that cuts a replay off is one of three
-  module _ (halts : Halts left now old new status) where
-    no_answer : IsAnswer status → ⊥
-    no_answer = at status halts.cut where
-      at : (s : Status) → CutBy s halts.taken halts.written → IsAnswer s → ⊥
-      at statuses.ReadFault cut answer = answer
-      at statuses.WriteFault cut answer = answer
-      at statuses.NoMemory cut answer = answer
-      at statuses.Done cut answer = cut
-      at statuses.No cut answer = cut
-      at statuses.Usage cut answer = cut
-      at statuses.BadInput cut answer = cut
-
-    judged_answers : (s : Status) → IsJudged s → IsAnswer s
-    judged_answers statuses.Done judged = tt
-    judged_answers statuses.No judged = tt
-    judged_answers statuses.Usage judged = absurd judged
-    judged_answers statuses.BadInput judged = absurd judged
-    judged_answers statuses.ReadFault judged = absurd judged
-    judged_answers statuses.WriteFault judged = absurd judged
-    judged_answers statuses.NoMemory judged = absurd judged
-
-    halts_ran : HasRead reads read status → HasWrote writes wrote status → Ran (Some jobs.Replay) left now old new reads read writes wrote Unread Unwritten status
-    halts_ran has_read has_wrote = record {
-      answers = λ answer. absurd (no_answer answer);
-      front = halts.front;
-      read_fault = λ is. (tt, read_rose reads read status has_read is);
-      read_fault_comes = read_comes reads read status has_read;
-      write_fault = write_rose writes wrote status has_wrote;
-      write_fault_comes = write_comes writes wrote status has_wrote;
-      unwritten = λ other. absurd (other refl);
-      unflushed = λ _. unflushed old new halts.written halts.told;
-      unread = λ no. absurd (no tt);
-      drained = λ judged _. absurd (no_answer (judged_answers status judged));
+pub replay_ran : (t : Traffic) (result : Result Status Halt) → ReplayEnds t.left t.left_now t.told t.told_now result
+    → Counts halts.ReadFault t.read_faults t.read_faults_now result → Counts halts.WriteFault t.write_faults t.write_faults_now result → Ran (Some jobs.Replay) t result
+replay_ran t (Ok status) done read_faults write_faults =
+    let finds = finds_for t.left t.left_now done.text done.faulty status done.finds done.status_is in
+    record {
+      answers = (done.text, finds, done.delivers);
+      front = front_delivered (Some jobs.Replay) t.left t.told t.told_now done.text status finds done.delivers;
+      read_faults = read_faults;
+      write_faults = write_faults;
+      reads = tt;
+      unflushed = tt;
+      halted = λ e. tt;
+      wary = λ e. keeps_wary t.left t.left_now done.taken done.written done.left_is done.keeps_up;
+      drained = λ judged _. done.finds.3 (judged_sound done.faulty (subst (λ (s : Status). IsJudged s) done.status_is judged));
       few = λ bundle. absurd bundle;
       accepted = λ task e. cc;
       passes = λ e. cc;
-      halted_reading = λ _ is. (halts.taken, halts.left_is, halts.written, halts.told, subst (λ (s : Status). CutBy s halts.taken halts.written) is halts.cut);
-      halted_writing = λ _ is. (halts.taken, halts.left_is, halts.written, halts.told, has_written halts.taken halts.written halts.keeps_up);
-      starved = λ _ is. (halts.taken, halts.left_is, halts.written, halts.told, subst (λ (s : Status). CutBy s halts.taken halts.written) is halts.cut);
-      wary = λ _. keeps_wary left now halts.taken halts.written halts.left_is halts.keeps_up;
     }
-
--- what an Err says of the counts is what its status says
-err_read : (before now : ℕ) (status : Status) → ReadsWell {T = Status} before now (Err status) → HasRead before now status
-err_read before now statuses.ReadFault well = well
-err_read before now statuses.Done well = well
-err_read before now statuses.No well = well
-err_read before now statuses.Usage well = well
-err_read before now statuses.BadInput well = well
-err_read before now statuses.WriteFault well = well
-err_read before now statuses.NoMemory well = well
-
-err_wrote : (before now : ℕ) (status : Status) → WritesWell {T = Status} before now (Err status) → HasWrote before now status
-err_wrote before now statuses.WriteFault well = well
-err_wrote before now statuses.Done well = well
-err_wrote before now statuses.No well = well
-err_wrote before now statuses.Usage well = well
-err_wrote before now statuses.BadInput well = well
-err_wrote before now statuses.ReadFault well = well
-err_wrote before now statuses.NoMemory well = well
-
-pub replay_ran : (left now : Option (List ℕ)) (old new : Option Told) (reads read writes wrote : ℕ) (Unread Unwritten : Type 0) (status : Status) → ReplayEnds left now old new (Ok status)
-    → ReadsWell {T = Status} reads read (Ok status) → WritesWell {T = Status} writes wrote (Ok status) → Ran (Some jobs.Replay) left now old new reads read writes wrote Unread Unwritten status
-replay_ran left now old new reads read writes wrote Unread Unwritten status ends reads_well writes_well =
-    delivered_ran left now old new reads read writes wrote Unread Unwritten status ends reads_well writes_well
-
-pub replay_halted : (left now : Option (List ℕ)) (old new : Option Told) (reads read writes wrote : ℕ) (Unread Unwritten : Type 0) (status : Status) → ReplayEnds left now old new (Err status)
-    → ReadsWell {T = Status} reads read (Err status) → WritesWell {T = Status} writes wrote (Err status) → Ran (Some jobs.Replay) left now old new reads read writes wrote Unread Unwritten status
-replay_halted left now old new reads read writes wrote Unread Unwritten status ends reads_well writes_well =
-    halts_ran left now old new reads read writes wrote Unread Unwritten status ends (err_read reads read status reads_well) (err_wrote writes wrote status writes_well)
+replay_ran t (Err halt) cut read_faults write_faults = record {
+  answers = tt;
+  front = cut.front;
+  read_faults = read_faults;
+  write_faults = write_faults;
+  reads = λ e. tt;
+  unflushed = unflushed t.told t.told_now cut.written cut.told;
+  halted = λ e. halted_by t halt cut;
+  wary = λ e. keeps_wary t.left t.left_now cut.taken cut.written cut.left_is cut.keeps_up;
+  drained = tt;
+  few = λ bundle. absurd bundle;
+  accepted = λ task e. tt;
+  passes = λ e. tt;
+}
 
 -- ## No job yet
 
--- no status of the usage line is want of memory
-pub usage_never_starves : (old new : Option Told) (status : Status) → UsageEnds old new status → status ≢ statuses.NoMemory
-usage_never_starves old new statuses.Usage ends = λ e. cc
-usage_never_starves old new statuses.WriteFault ends = λ e. cc
-usage_never_starves old new statuses.Done ends = absurd ends
-usage_never_starves old new statuses.No ends = absurd ends
-usage_never_starves old new statuses.BadInput ends = absurd ends
-usage_never_starves old new statuses.ReadFault ends = absurd ends
-usage_never_starves old new statuses.NoMemory ends = absurd ends
-
 -- memory ran out before the job was known, and nothing was read or written
-pub starved_ran : (job : Option Job) (left : Option (List ℕ)) (old : Option Told) (reads writes : ℕ) (Unread Unwritten : Type 0) → Unread → Unwritten
-    → Ran job left left old old reads reads writes writes Unread Unwritten statuses.NoMemory
-starved_ran job left old reads writes Unread Unwritten unread unwritten =
-    let halts = begins_starved left old in
+pub starved_ran : (job : Option Job) (left : Option (List ℕ)) (told : Option Told) (read_faults write_faults : ℕ)
+    → Ran job (record {
+      left = left;
+      left_now = left;
+      told = told;
+      told_now = told;
+      read_faults = read_faults;
+      read_faults_now = read_faults;
+      write_faults = write_faults;
+      write_faults_now = write_faults;
+    }) (Err halts.NoMemory)
+starved_ran job left told read_faults write_faults =
+    let first = begins_starved left told in
     record {
-      answers = λ answer. absurd answer;
-      front = λ text status owed. front_none old text;
-      read_fault = λ e. cc;
-      read_fault_comes = λ rose. absurd (omega (arith, rose));
-      write_fault = λ e. cc;
-      write_fault_comes = λ rose. absurd (omega (arith, rose));
-      unwritten = λ _ _. unwritten;
-      unflushed = λ _. unflushed old old halts.written halts.told;
-      unread = λ _. unread;
-      drained = λ judged. absurd judged;
-      few = λ _ answer. absurd answer;
-      accepted = λ task e done. cc;
-      passes = λ _ e. cc;
-      halted_reading = λ _ e. cc;
-      halted_writing = λ _ e. cc;
-      starved = λ _ _. (halts.taken, halts.left_is, halts.written, halts.told, halts.cut);
-      wary = λ _. keeps_wary left left halts.taken halts.written halts.left_is halts.keeps_up;
+      answers = tt;
+      front = λ text status owed. front_none told text;
+      read_faults = refl;
+      write_faults = refl;
+      reads = λ e. cc;
+      unflushed = kept_flushed told;
+      halted = λ e. (first.taken, first.left_is, first.written, first.told, first.cut);
+      wary = λ e. keeps_wary left left first.taken first.written first.left_is first.keeps_up;
+      drained = tt;
+      few = λ bundle. takes_none left 16777217;
+      accepted = λ task e. tt;
+      passes = λ e. tt;
     }

@@ -16,6 +16,7 @@ pub mod CrowdingLaws
 pub mod FeedLaws
 pub mod CourseLaws
 pub mod JobLaws
+pub mod EndLaws
 pub mod RewriteLaws
 pub mod EraLaws
 pub mod StreamLaws

@@ -3,11 +3,11 @@ use Rattle.std.proofs.Common.{◌≡◌, ◌≢◌, ◌⊎◌, inl, inr, ℕ, Bo
 use Rattle.npos_base.specs.Outside.{Told}
 use Rattle.npos_cli.specs.declared.job.Job.{Job}
 use Rattle.npos_cli.specs.declared.job.Job.TheVariants as jobs
-use Rattle.bundle_reports.specs.declared.status.Status.{Status}
-use Rattle.bundle_reports.specs.declared.status.Status.TheVariants as statuses
-use Rattle.bundle_reports.specs.declared.asked.Task.{Task}
-use Rattle.bundle_reports.specs.Bundles.{Report, faulty}
-use Rattle.bundle_reports.specs.Tasks.{IsBundleReport}
+use Rattle.npos_cli.specs.declared.status.Status.{Status}
+use Rattle.npos_cli.specs.declared.status.Status.TheVariants as statuses
+use Rattle.bundle_reports.specs.declared.ending.Ending.{Ending}
+use Rattle.bundle_reports.specs.declared.ending.Ending.TheVariants as endings
+use Rattle.npos_cli.specs.Status.{status_of}
 use Rattle.npos_cli.specs.Words.{HasForm, job_of, usage_line}
 use Rattle.npos_cli.specs.Report.{JobOwes, replay_status, ReadsInput, IsAnswer, IsJudged}
 use Rattle.npos_cli.specs.Replay.{Outcome, IsReplay}
@@ -17,9 +17,7 @@ use Rattle.npos_cli.specs.Chain.{npos_machine}
 use Rattle.npos_cli.specs.Books.{BooksBalance}
 use Rattle.npos_cli.specs.Headline.{SeatsAreSound, IsPromised}
 use Rattle.npos_cli.specs.Owed.{IsDrained, Delivers, DeliversFront, DeliversReplay, DeliversReplayFront, Comes, ComesWith, Answers, IsOwed, BeginsToAnswer}
-use Rattle.npos_cli.proofs.RewriteLaws.{of_rewriting}
 use Rattle.npos_cli.proofs.RunLaws.{one_owed}
-use Rattle.bundle_reports.proofs.StatusLaws.{of_bundle}
 
 -- what an answer that is known to be this one says
 at_answer : (words : List (List ℕ)) (left : Option (List ℕ)) (old new : Option Told) (answer due : Status) → answer ≡ due → IsAnswer due
@@ -45,8 +43,10 @@ pub usage_front_of : (words : List (List ℕ)) (left : Option (List ℕ)) (old n
 usage_front_of words left old new begins unformed = begins usage_line statuses.Usage (usage_owed words left unformed)
 
 -- no report has the status Usage
-no_usage : (task : Task) (bytes : List ℕ) (report : Report) → IsBundleReport task bytes report → statuses.Usage ≡ report.status → ⊥
-no_usage task bytes report is = of_bundle (λ status. statuses.Usage ≡ status → ⊥) (λ e. cc) (λ e. cc) (λ e. cc) task bytes report is
+no_usage : (ending : Ending) → statuses.Usage ≡ status_of ending → ⊥
+no_usage endings.Done e = cc
+no_usage endings.No e = cc
+no_usage endings.BadInput e = cc
 
 -- no job owes the status Usage
 usage_by : (job : Option Job) (bytes text : List ℕ) → JobOwes job bytes text statuses.Usage → (IsSome job → ⊥) × (text ≡ usage_line)
@@ -55,10 +55,9 @@ usage_by (Some jobs.Replay) bytes text owes = absurd (not_usage owes.0.faulty ow
   not_usage : (faulty : Bool) → statuses.Usage ≡ replay_status faulty → ⊥
   not_usage true e = cc
   not_usage false e = cc
-usage_by (Some (jobs.OnBundle task)) bytes text owes = absurd (no_usage task bytes (record { text = text; status = statuses.Usage }) owes refl)
-usage_by (Some (jobs.Demo seed voters seats)) bytes text owes = absurd (let e : statuses.Usage ≡ statuses.Done = ap (λ (r : Report). r.status) owes in cc)
-usage_by (Some (jobs.Rewrite way)) bytes text owes =
-    absurd (of_rewriting (λ status. statuses.Usage ≡ status → ⊥) (λ e. cc) (λ e. cc) way bytes text statuses.Usage owes refl)
+usage_by (Some (jobs.OnBundle task)) bytes text owes = absurd (no_usage owes.0.ending owes.2.status_is)
+usage_by (Some (jobs.Demo seed voters seats)) bytes text owes = absurd (no_usage endings.Done owes.status_is)
+usage_by (Some (jobs.Rewrite way)) bytes text owes = absurd (no_usage _ owes.status_is)
 
 pub usage_due : (words : List (List ℕ)) (left : Option (List ℕ)) (old new : Option Told) (answer : Status)
     → (IsAnswer answer → Answers words left old new answer) → answer ≡ statuses.Usage → (HasForm words → ⊥) × Delivers old new usage_line

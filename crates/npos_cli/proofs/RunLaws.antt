@@ -1,22 +1,25 @@
 -- From what a run owes and what was delivered to the clauses of `run`.
-use Rattle.std.proofs.Common.{◌≡◌, inl, inr, ℕ, ◌+◌, ◌≤◌, List, [], ◌++◌, length, Option, Some, None, IfSome, refl, sym, ◌∙◌, ap, subst, arith, length-append}
+use Rattle.std.proofs.Common.{◌≡◌, ◌≢◌, inl, inr, ℕ, ◌+◌, ◌≤◌, List, [], ◌++◌, length, Option, Some, None, IfSome, refl, sym, ◌∙◌, ap, subst, arith, length-append}
 use Rattle.std.proofs.lemmas.List.{take_all, append-nil}
 use Rattle.std.proofs.lemmas.Bool.{cases_lt}
 use Rattle.npos_base.specs.Outside.{Told}
 use Rattle.scale_wire.specs.Form.{IsBytes}
 use Rattle.npos_cli.specs.declared.job.Job.{Job}
 use Rattle.npos_cli.specs.declared.job.Job.TheVariants as jobs
-use Rattle.bundle_reports.specs.declared.status.Status.{Status}
-use Rattle.bundle_reports.specs.declared.status.Status.TheVariants as statuses
+use Rattle.npos_cli.specs.declared.status.Status.{Status}
+use Rattle.npos_cli.specs.declared.status.Status.TheVariants as statuses
 use Rattle.npos_cli.specs.Words.{job_by, job_of, usage_line, KeepsBounds as JobKeepsBounds}
-use Rattle.npos_cli.specs.Report.{JobOwes, Owes, replay_status, IsJudged}
+use Rattle.bundle_reports.specs.declared.ending.Ending.{Ending}
+use Rattle.bundle_reports.specs.declared.ending.Ending.TheVariants as endings
+use Rattle.npos_cli.specs.Status.{status_of}
+use Rattle.npos_cli.specs.Report.{JobOwes, Owes, Tells, replay_status, IsJudged}
 use Rattle.npos_cli.specs.Replay.{Outcome}
 use Rattle.npos_runtime.specs.declared.chain.Chain.{Chain}
 use Rattle.npos_runtime.specs.Outcome.{Election}
 use Rattle.npos_cli.specs.Chain.{npos_machine}
-use Rattle.bundle_reports.specs.declared.reading.TheConstants.{MOST_BUNDLE}
 use Rattle.bundle_reports.specs.declared.asked.Task.{Task}
-use Rattle.bundle_reports.specs.Bundles.{Report}
+use Rattle.bundle_reports.specs.Bundles.{Report, faulty}
+use Rattle.bundle_reports.specs.Verdicts.{long_line}
 use Rattle.bundle_reports.specs.Demo.{demo_report}
 use Rattle.bundle_reports.specs.Rewriting.{rewrite_report}
 use Rattle.bundle_reports.specs.Tasks.{IsBundleReport, IsSound}
@@ -50,6 +53,17 @@ delivered_front old None text delivers = tt
 delivered_front old (Some now) text delivers =
     (delivers.0, length text, delivers.1, delivers.2 ∙ ap (λ all. delivers.0.written ++ all) (sym (take_all (length text) text (omega arith))))
 
+-- one report has one text and one status
+one_told : (one two : Report) (text other : List ℕ) (status end : Status) → one ≡ two → Tells one text status → Tells two other end → (text ≡ other) × (status ≡ end)
+one_told one two text other status end same first second = (
+  first.text_is ∙ (ap (λ (r : Report). r.text) same ∙ sym second.text_is),
+  first.status_is ∙ (ap (λ (r : Report). status_of r.ending) same ∙ sym second.status_is),
+)
+
+-- the text and the status of a report tell of it
+pub tells_itself : (report : Report) → Tells report report.text (status_of report.ending)
+tells_itself report = record { text_is = refl; status_is = refl }
+
 -- words and bytes owe one text and one status
 pub one_for : (job : Option Job) (bytes text other : List ℕ) (status end : Status) → JobOwes job bytes text status → JobOwes job bytes other end → (text ≡ other) × (status ≡ end)
 one_for None bytes text other status end first second = (first.0 ∙ sym second.0, first.1 ∙ sym second.1)
@@ -57,15 +71,11 @@ one_for (Some jobs.Replay) bytes text other status end first second =
     let same = one_replay npos_machine genesis_laws turn_laws bytes first.0 second.0 first.1 second.1 in
     (first.2 ∙ (ap (λ (o : Outcome Chain Election). o.text) same ∙ sym second.2), first.3 ∙ (ap (λ (o : Outcome Chain Election). replay_status o.faulty) same ∙ sym second.3))
 one_for (Some (jobs.OnBundle task)) bytes text other status end first second =
-    let same = one_report task bytes (record { text = text; status = status }) (record { text = other; status = end }) first second in
-    (ap (λ (r : Report). r.text) same, ap (λ (r : Report). r.status) same)
+    one_told first.0 second.0 text other status end (one_report task bytes first.0 second.0 first.1 second.1) first.2 second.2
 one_for (Some (jobs.Demo seed voters seats)) bytes text other status end first second =
-    let same = first ∙ sym second in (ap (λ (r : Report). r.text) same, ap (λ (r : Report). r.status) same)
+    one_told (demo_report seed voters seats) (demo_report seed voters seats) text other status end refl first second
 one_for (Some (jobs.Rewrite way)) bytes text other status end first second =
-    let one : Report = record { text = text; status = status } in
-    let two : Report = record { text = other; status = end } in
-    let same : one ≡ two = first ∙ sym second in
-    (ap (λ (r : Report). r.text) same, ap (λ (r : Report). r.status) same)
+    one_told (rewrite_report way bytes) (rewrite_report way bytes) text other status end refl first second
 
 pub one_owed : (words : List (List ℕ)) (bytes text other : List ℕ) (status end : Status) → Owes words bytes text status → Owes words bytes other end
     → (text ≡ other) × (status ≡ end)
@@ -108,55 +118,67 @@ any_owed words bytes are = by (job_of words) (job_has_rounds words) where
   by (Some jobs.Replay) some =
       let r = any_replay npos_machine genesis_laws turn_laws bytes are in
       (r.outcome.text, replay_status r.outcome.faulty, (r.outcome, r.is_replay, refl, refl))
-  by (Some (jobs.OnBundle task)) some = let r = any_report task some bytes in (r.0.text, r.0.status, r.1)
-  by (Some (jobs.Demo seed voters seats)) some = let r = demo_report seed voters seats in (r.text, r.status, refl)
-  by (Some (jobs.Rewrite way)) some = ((rewrite_report way bytes).text, (rewrite_report way bytes).status, refl)
+  by (Some (jobs.OnBundle task)) some = let r = any_report task some bytes in (r.0.text, status_of r.0.ending, (r.0, r.1, tells_itself r.0))
+  by (Some (jobs.Demo seed voters seats)) some = let r = demo_report seed voters seats in (r.text, status_of r.ending, tells_itself r)
+  by (Some (jobs.Rewrite way)) some = let r = rewrite_report way bytes in (r.text, status_of r.ending, tells_itself r)
 
 -- ## A bundle
 
 -- bytes within the limit are all that was left
-all_left : (most : ℕ) (left : List ℕ) (now : Option (List ℕ)) (bytes : List ℕ) → ReadsUpTo most (Some left) now bytes → length bytes ≤ most → bytes ≡ left
+pub all_left : (most : ℕ) (left : List ℕ) (now : Option (List ℕ)) (bytes : List ℕ) → ReadsUpTo most (Some left) now bytes → length bytes ≤ most → bytes ≡ left
 all_left most left now bytes reads within =
     let t = reads.taken in
     let empty : t.0 ≡ [] = let e : Some t.0 ≡ Some [] = sym t.1 ∙ reads.ended within in cc in
     sym (t.2 ∙ (ap (λ (rest : List ℕ). bytes ++ rest) empty ∙ append-nil bytes))
 
 -- what is reported of the bytes that were read is what is reported of all
-pub report_read : (task : Task) (left : List ℕ) (now : Option (List ℕ)) (bytes : List ℕ) (report : Report) → ReadsUpTo MOST_BUNDLE (Some left) now bytes
+pub report_read : (task : Task) (left : List ℕ) (now : Option (List ℕ)) (bytes : List ℕ) (report : Report) → ReadsUpTo 16777216 (Some left) now bytes
     → IsBundleReport task bytes report → IsBundleReport task left report
-report_read task left now bytes report reads is = elim (cases_lt MOST_BUNDLE (length bytes)) [
+report_read task left now bytes report reads is = elim (cases_lt 16777216 (length bytes)) [
   | inl over ↦
       long_reported task left report (let t = reads.taken in
       omega (arith, over, ap length t.2, length-append bytes t.0)) (long_report task bytes report over is)
-  | inr within ↦ subst (λ (b : List ℕ). IsBundleReport task b report) (all_left MOST_BUNDLE left now bytes reads within) is
+  | inr within ↦ subst (λ (b : List ℕ). IsBundleReport task b report) (all_left 16777216 left now bytes reads within) is
 ]
 
-pub bundle_found : (task : Task) (old now : Option (List ℕ)) (bytes text : List ℕ) (status : Status) → ReadsUpTo MOST_BUNDLE old now bytes
-    → IsBundleReport task bytes (record { text = text; status = status }) → FindsFor (Some (jobs.OnBundle task)) old text status
-bundle_found task None now bytes text status reads is = (bytes, tt, is)
-bundle_found task (Some left) now bytes text status reads is = (left, refl, report_read task left now bytes (record { text = text; status = status }) reads is)
+pub bundle_found : (task : Task) (old now : Option (List ℕ)) (bytes : List ℕ) (report : Report) → ReadsUpTo 16777216 old now bytes → IsBundleReport task bytes report
+    → FindsFor (Some (jobs.OnBundle task)) old report.text (status_of report.ending)
+bundle_found task None now bytes report reads is = (bytes, tt, (report, is, tells_itself report))
+bundle_found task (Some left) now bytes report reads is = (left, refl, (report, report_read task left now bytes report reads is, tells_itself report))
 
 -- an answer of Done or No comes of bytes within the limit
-pub bundle_within : (task : Task) (bytes text : List ℕ) (status : Status) → IsBundleReport task bytes (record { text = text; status = status }) → IsJudged status
-    → length bytes ≤ MOST_BUNDLE
-bundle_within task bytes text status is judged = elim (cases_lt MOST_BUNDLE (length bytes)) [
-  | inl over ↦
-      let faulty_is : status ≡ statuses.BadInput = ap (λ (r : Report). r.status) (long_report task bytes (record { text = text; status = status }) over is) in
-      absurd (subst (λ (s : Status). IsJudged s) faulty_is judged)
+bundle_within : (task : Task) (bytes : List ℕ) (report : Report) → IsBundleReport task bytes report → IsJudged (status_of report.ending) → length bytes ≤ 16777216
+bundle_within task bytes report is judged = elim (cases_lt 16777216 (length bytes)) [
+  | inl over ↦ absurd (subst (λ (r : Report). IsJudged (status_of r.ending)) (long_report task bytes report over is) judged)
   | inr within ↦ within
 ]
 
-pub bundle_drained : (task : Task) (old now : Option (List ℕ)) (bytes text : List ℕ) (status : Status) → ReadsUpTo MOST_BUNDLE old now bytes
-    → IsBundleReport task bytes (record { text = text; status = status }) → IsJudged status → IsDrained old now
-bundle_drained task old now bytes text status reads is judged = reads.ended (bundle_within task bytes text status is judged)
+pub bundle_drained : (task : Task) (old now : Option (List ℕ)) (bytes : List ℕ) (report : Report) → ReadsUpTo 16777216 old now bytes
+    → IsBundleReport task bytes report → IsJudged (status_of report.ending) → IsDrained old now
+bundle_drained task old now bytes report reads is judged = reads.ended (bundle_within task bytes report is judged)
 
-pub bundle_few : (old now : Option (List ℕ)) (bytes : List ℕ) → ReadsUpTo MOST_BUNDLE old now bytes → TakesAtMost (MOST_BUNDLE + 1) old now
+pub bundle_few : (old now : Option (List ℕ)) (bytes : List ℕ) → ReadsUpTo 16777216 old now bytes → TakesAtMost (16777217) old now
 bundle_few old now bytes reads = (bytes, reads.taken, reads.few)
 
-pub bundle_sound : (task : Task) (old now : Option (List ℕ)) (bytes text : List ℕ) (status : Status) → ReadsUpTo MOST_BUNDLE old now bytes
-    → IsBundleReport task bytes (record { text = text; status = status }) → (status ≡ statuses.Done → IsSound task bytes) → status ≡ statuses.Done
+-- a run is done where its report is, and answers No where that is one
+pub is_done : (ending : Ending) → status_of ending ≡ statuses.Done → ending ≡ endings.Done
+is_done endings.Done e = refl
+is_done endings.No e = absurd (cc)
+is_done endings.BadInput e = absurd (cc)
+
+is_no : (ending : Ending) → status_of ending ≡ statuses.No → ending ≡ endings.No
+is_no endings.No e = refl
+is_no endings.Done e = absurd (cc)
+is_no endings.BadInput e = absurd (cc)
+
+pub bundle_sound : (task : Task) (old now : Option (List ℕ)) (bytes : List ℕ) (report : Report) → ReadsUpTo 16777216 old now bytes
+    → IsBundleReport task bytes report → (report.ending ≡ endings.Done → IsSound task bytes) → status_of report.ending ≡ statuses.Done
     → IfSome old (IsSound task)
-bundle_sound task None now bytes text status reads is sound done = tt
-bundle_sound task (Some left) now bytes text status reads is sound done =
-    let judged : IsJudged status = subst (λ (s : Status). IsJudged s) (sym done) tt in
-    subst (λ (b : List ℕ). IsSound task b) (all_left MOST_BUNDLE left now bytes reads (bundle_within task bytes text status is judged)) (sound done)
+bundle_sound task None now bytes report reads is sound done = tt
+bundle_sound task (Some left) now bytes report reads is sound done =
+    let judged : IsJudged (status_of report.ending) = subst (λ (s : Status). IsJudged s) (sym done) tt in
+    subst (λ (b : List ℕ). IsSound task b) (all_left 16777216 left now bytes reads (bundle_within task bytes report is judged))
+    (sound (is_done report.ending done))
+
+pub bundle_passes : (ending : Ending) → ending ≢ endings.No → status_of ending ≢ statuses.No
+bundle_passes ending passes = λ no. passes (is_no ending no)

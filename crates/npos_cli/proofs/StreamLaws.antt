@@ -5,8 +5,8 @@ use Rattle.npos_runtime.specs.declared.chain.Chain.{Chain}
 use Rattle.npos_runtime.specs.Outcome.{Election}
 use Rattle.npos_cli.specs.declared.job.Job.{Job}
 use Rattle.npos_cli.specs.declared.job.Job.TheVariants as jobs
-use Rattle.bundle_reports.specs.declared.status.Status.{Status}
-use Rattle.bundle_reports.specs.declared.status.Status.TheVariants as statuses
+use Rattle.npos_cli.specs.declared.status.Status.{Status}
+use Rattle.npos_cli.specs.declared.status.Status.TheVariants as statuses
 use Rattle.npos_cli.specs.Replay.{all_seated, Outcome, IsReplay, Replayed, Ended}
 use Rattle.npos_cli.specs.Chain.{npos_machine}
 use Rattle.npos_cli.specs.Report.{ReadsInput, IsAnswer, replay_status}

@@ -14,8 +14,8 @@ use Rattle.npos_runtime.specs.Life.{Life, HasFault}
 use Rattle.npos_cli.specs.declared.replaying.Turn.TheVariants.{Taken, Stopped}
 use Rattle.npos_cli.specs.declared.replaying.Stop.{Stop}
 use Rattle.npos_cli.specs.declared.replaying.Stop.TheVariants.{More, Last}
-use Rattle.bundle_reports.specs.declared.status.Status.{Status}
-use Rattle.bundle_reports.specs.declared.status.Status.TheVariants as statuses
+use Rattle.npos_cli.specs.declared.halt.Halt.{Halt}
+use Rattle.npos_cli.specs.declared.halt.Halt.TheVariants as halts
 use Rattle.bundle_reports.specs.Texts.{fault_line}
 use Rattle.npos_cli.specs.Texts.{number_line}
 use Rattle.npos_cli.specs.Replay.{Spot, Reaches, Passes, behind, turn, Stops, Refused, OtherNumber, Followed, Ended}
@@ -117,9 +117,9 @@ writ_more p q r ended old mid new empty text writ none turns puts =
     )
 
 -- a write failed within the lines of a block
-pub writ_cut : (p q r s : Spot Chain) (ended : Bool) (old mid new : Option Told) (empty text line : List ℕ) (status : Status) → HasWrit p q old mid → empty ≡ [] → TakesTurn npos_machine ended q r empty text Taken
-    → Puts mid new text (Err status) → WritesOn npos_machine ended p s old new line (Err status)
-writ_cut p q r s ended old mid new empty text line statuses.WriteFault writ none turns puts =
+pub writ_cut : (p q r s : Spot Chain) (ended : Bool) (old mid new : Option Told) (empty text line : List ℕ) (halt : Halt) → HasWrit p q old mid → empty ≡ [] → TakesTurn npos_machine ended q r empty text Taken
+    → Puts mid new text (Err halt) → WritesOn npos_machine ended p s old new line (Err halt)
+writ_cut p q r s ended old mid new empty text line halts.WriteFault writ none turns puts =
     let is = turns.2 in
     let lines : text ≡ npos_machine.lines q.state is.0 = told_from empty text turns.0 none turns.1 ∙ is.3 in
     let all = npos_machine.lines q.state is.0 in
@@ -131,15 +131,11 @@ writ_cut p q r s ended old mid new empty text line statuses.WriteFault writ none
       (drop puts.0 all, ap (λ back. writ.0 ++ back) (sym (take-append-drop puts.0 all)) ∙ sym (append_assoc writ.0 (take puts.0 all) (drop puts.0 all))),
       appends_join old mid new writ.0 (take puts.0 all) writ.2 put,
     )
-writ_cut p q r s ended old mid new empty text line statuses.Done writ none turns puts = absurd puts
-writ_cut p q r s ended old mid new empty text line statuses.No writ none turns puts = absurd puts
-writ_cut p q r s ended old mid new empty text line statuses.Usage writ none turns puts = absurd puts
-writ_cut p q r s ended old mid new empty text line statuses.BadInput writ none turns puts = absurd puts
-writ_cut p q r s ended old mid new empty text line statuses.ReadFault writ none turns puts = absurd puts
-writ_cut p q r s ended old mid new empty text line statuses.NoMemory writ none turns puts = absurd puts
+writ_cut p q r s ended old mid new empty text line halts.ReadFault writ none turns puts = absurd puts
+writ_cut p q r s ended old mid new empty text line halts.NoMemory writ none turns puts = absurd puts
 
 -- memory ran out
-pub writ_starved : (p q s : Spot Chain) (ended : Bool) (old new : Option Told) (line : List ℕ) → HasWrit p q old new → WritesOn npos_machine ended p s old new line (Err statuses.NoMemory)
+pub writ_starved : (p q s : Spot Chain) (ended : Bool) (old new : Option Told) (line : List ℕ) → HasWrit p q old new → WritesOn npos_machine ended p s old new line (Err halts.NoMemory)
 writ_starved p q s ended old new line writ = (q, writ.0, writ.1, writ.2)
 
 -- the turns stop

@@ -1,6 +1,5 @@
 -- What was read of an input so far, while more of it may come.
 use Rattle.std.specs.Prelude.{◌≡◌, ◌⊎◌, ⊤, ℕ, ◌≤◌, Bool, true, false, List, [], ◌++◌, length, Option, Result, Ok, Err}
-use Rattle.npos_cli.specs.declared.pieces.TheConstants.{PIECE}
 use Rattle.npos_base.specs.Outside.{IsAtEnd}
 use Rattle.scale_wire.specs.declared.fault.WireFault.{WireFault}
 use Rattle.scale_wire.specs.declared.fault.Why.{Why}
@@ -9,8 +8,8 @@ use Rattle.scale_wire.specs.Form.{IsBytes}
 use Rattle.scale_wire.specs.Reading.{Place, IsRead, IsFault}
 use Rattle.block_wire.specs.declared.genesis.Genesis.{Genesis}
 use Rattle.block_wire.specs.Genesis.{genesis_form}
-use Rattle.bundle_reports.specs.declared.status.Status.{Status}
-use Rattle.bundle_reports.specs.declared.status.Status.TheVariants as statuses
+use Rattle.npos_cli.specs.declared.halt.Halt.{Halt}
+use Rattle.npos_cli.specs.declared.halt.Halt.TheVariants as halts
 use Rattle.npos_cli.specs.Owed.{LeftAfter, IsDrained}
 
 -- the first bytes of an input
@@ -33,17 +32,17 @@ abbrev pub IsSure : Bool → Why → Type 0
 IsSure ended why = why ≡ Short → ended ≡ true
 
 -- What a read came to. Its bytes stand behind those that are held; a failed read takes none.
-abbrev pub Feeds : Option (List ℕ) → List ℕ → Place → Place → Result Bool Status → Type 0
+abbrev pub Feeds : Option (List ℕ) → List ℕ → Place → Place → Result Bool Halt → Type 0
 Feeds left taken old new (Ok ended) =
     (new ≡ record { at = old.at; rest = old.rest ++ taken }) × (ended ≡ true → (taken ≡ []) × IsAtEnd left)
-Feeds left taken old new (Err statuses.ReadFault) = taken ≡ []
-Feeds left taken old new (Err statuses.NoMemory) = ⊤
+Feeds left taken old new (Err halts.ReadFault) = taken ≡ []
+Feeds left taken old new (Err halts.NoMemory) = ⊤
 Feeds left taken old new (Err other) = ⊥
 
 -- one read, of at most one piece
-abbrev pub FeedsMore : Option (List ℕ) → Option (List ℕ) → Place → Place → Result Bool Status → Type 0
+abbrev pub FeedsMore : Option (List ℕ) → Option (List ℕ) → Place → Place → Result Bool Halt → Type 0
 FeedsMore left now old new result =
-    (taken : List ℕ) × LeftAfter left now taken × (length taken ≤ PIECE) × Feeds left taken old new result
+    (taken : List ℕ) × LeftAfter left now taken × (length taken ≤ 65536) × Feeds left taken old new result
 
 -- a genesis is cut here: bytes of it are missing
 abbrev pub CutsGenesis : List ℕ → Type 0
@@ -51,23 +50,23 @@ CutsGenesis bytes = (at : ℕ) × genesis_form.bad bytes at Short
 
 -- without the last piece, bytes of the genesis are missing
 abbrev pub AwaitsGenesis : List ℕ → Type 0
-AwaitsGenesis taken = (earlier : List ℕ) × (last : List ℕ) × (taken ≡ earlier ++ last) × (length last ≤ PIECE)
+AwaitsGenesis taken = (earlier : List ℕ) × (last : List ℕ) × (taken ≡ earlier ++ last) × (length last ≤ 65536)
     × CutsGenesis earlier
 
 -- The genesis of an input was read, or is refused whatever may follow; or a read failed where it is
 -- cut, or memory ran out.
 abbrev pub BeginsBy : Option (List ℕ) → Option (List ℕ) → List ℕ → Place
-    → Result (Result Genesis WireFault) Status → Type 0
+    → Result (Result Genesis WireFault) Halt → Type 0
 BeginsBy left now taken place (Ok (Ok genesis)) = IsRead genesis_form (first_place taken) genesis place
 BeginsBy left now taken place (Ok (Err fault)) =
     (ended : Bool) × HasSeen left now taken false ended × IsBytes taken
     × IsFault genesis_form (first_place taken) fault (first_place taken)
     × IsSure ended fault.why
-BeginsBy left now taken place (Err statuses.ReadFault) = CutsGenesis taken
-BeginsBy left now taken place (Err statuses.NoMemory) = ⊤
+BeginsBy left now taken place (Err halts.ReadFault) = CutsGenesis taken
+BeginsBy left now taken place (Err halts.NoMemory) = ⊤
 BeginsBy left now taken place (Err other) = ⊥
 
-abbrev pub Begins : Option (List ℕ) → Option (List ℕ) → Place → Result (Result Genesis WireFault) Status
+abbrev pub Begins : Option (List ℕ) → Option (List ℕ) → Place → Result (Result Genesis WireFault) Halt
     → Type 0
 Begins left now place result =
     (taken : List ℕ) × LeftAfter left now taken × AwaitsGenesis taken × BeginsBy left now taken place result

@@ -15,7 +15,7 @@ use Rattle.npos_runtime.specs.Genesis.{genesis_fault, genesis_chain}
 use Rattle.chain_params.specs.Faults.{fault_numbers}
 use Rattle.npos_runtime.specs.Step.{step}
 use Rattle.npos_base.specs.declared.account.AccountId.{AccountId}
-use Rattle.bundle_reports.specs.Texts.{newline, account_text}
+use Rattle.told_lines.specs.Texts.{newline, account_text}
 use Rattle.bundle_reports.specs.Verdicts.{member_line, verdict_line}
 use Rattle.npos_cli.specs.Replay.{Machine}
 

@@ -2,11 +2,10 @@
 use Rattle.std.specs.Prelude.{◌≡◌, ◌≤◌, ℕ, true, List, ◌++◌, length, Some}
 use Rattle.scale_wire.specs.declared.fault.Why.TheVariants.{Short}
 use Rattle.scale_wire.specs.Form.{IsBytes}
-use Rattle.bundle_reports.specs.declared.status.Status.{Status}
-use Rattle.bundle_reports.specs.declared.status.Status.TheVariants as statuses
+use Rattle.npos_cli.specs.declared.status.Status.{Status}
+use Rattle.npos_cli.specs.declared.status.Status.TheVariants as statuses
 use Rattle.npos_cli.specs.declared.job.Job.TheVariants as jobs
 use Rattle.bundle_reports.specs.declared.asked.Rewriting.TheVariants as ways
-use Rattle.bundle_reports.specs.declared.reading.TheConstants.{MOST_BUNDLE}
 use Rattle.npos_cli.specs.Report.{JobOwes, Owes}
 use Rattle.npos_cli.specs.Replay.{Machine, Spot, turn, Starts, Reaches, Outcome, IsReplay, IsWhole, IsFront}
 
@@ -25,7 +24,7 @@ OwesAlways = (words : List (List ℕ)) (bytes : List ℕ) → IsBytes bytes
 -- for a bundle.
 abbrev pub PacksBack : Type 0
 PacksBack = (bytes text : List ℕ) → IsBytes bytes
-    → JobOwes (Some (jobs.Rewrite ways.Show)) bytes text statuses.Done → length text ≤ MOST_BUNDLE
+    → JobOwes (Some (jobs.Rewrite ways.Show)) bytes text statuses.Done → length text ≤ 16777216
     → JobOwes (Some (jobs.Rewrite ways.Pack)) text bytes statuses.Done
 
 -- each byte list has at most one replay

@@ -1,3 +1,4 @@
+pub mod Status
 pub mod Texts
 pub mod Replay
 pub mod Words

@@ -1,8 +1,10 @@
 -- How far a run goes with what it owes: which text reaches the sink, and what is left in the source.
 use Rattle.std.specs.Prelude.{◌≡◌, ◌⊎◌, ⊤, ℕ, ◌≤◌, ◌+◌, Bool, true, false, List, [], ◌++◌, length, take, Option, Some, None, Result, Ok, Err}
 use Rattle.npos_base.specs.Outside.{Told, Rose, IsAtEnd, Appends, Flushes}
-use Rattle.bundle_reports.specs.declared.status.Status.{Status}
-use Rattle.bundle_reports.specs.declared.status.Status.TheVariants as statuses
+use Rattle.npos_cli.specs.declared.halt.Halt.{Halt}
+use Rattle.npos_cli.specs.declared.halt.Halt.TheVariants as halts
+use Rattle.npos_cli.specs.declared.status.Status.{Status}
+use Rattle.npos_cli.specs.declared.status.Status.TheVariants as statuses
 use Rattle.npos_cli.specs.Replay.{Machine, Outcome, IsReplay}
 use Rattle.npos_cli.specs.declared.job.Job.{Job}
 use Rattle.npos_cli.specs.Words.{job_of}
@@ -58,46 +60,31 @@ abbrev pub ComesWith : {G B S E : Type 0} → Machine G B S E → List ℕ → B
 ComesWith {G} {B} {S} {E} m bytes faulty status answer rose =
     (out : Outcome S E) → IsReplay m bytes out → out.faulty ≡ faulty → Comes status answer rose
 
--- A part of a run that may end it over a source: an Ok and want of memory leave the count of faults, and a
--- failed read has a fault as its cause. No other status ends a run there.
-abbrev pub HaltsWell : {T : Type 0} → ℕ → ℕ → Result T Status → Type 0
-HaltsWell before now (Ok done) = now ≡ before
-HaltsWell before now (Err statuses.NoMemory) = now ≡ before
-HaltsWell before now (Err statuses.ReadFault) = Rose before now × (before ≤ now)
-HaltsWell before now (Err other) = ⊥
+-- The count of faults of a source or of a sink over a part of a run: it rose where the part was cut
+-- off by a fault of that kind, and stands else.
+abbrev pub Counts : {T : Type 0} → Halt → ℕ → ℕ → Result T Halt → Type 0
+Counts halts.ReadFault before now (Err halts.ReadFault) = Rose before now × (before ≤ now)
+Counts halts.WriteFault before now (Err halts.WriteFault) = Rose before now × (before ≤ now)
+Counts fault before now other = now ≡ before
 
--- A part of a run that may end it over a source: a failed read has a fault as its cause, and all
--- else leaves the count.
-abbrev pub ReadsWell : {T : Type 0} → ℕ → ℕ → Result T Status → Type 0
-ReadsWell before now (Err statuses.ReadFault) = Rose before now × (before ≤ now)
-ReadsWell before now other = now ≡ before
-
--- A part of a run that may end it over a sink: a failed write has a fault as its cause, and all
--- else leaves the count.
-abbrev pub WritesWell : {T : Type 0} → ℕ → ℕ → Result T Status → Type 0
-WritesWell before now (Err statuses.WriteFault) = Rose before now × (before ≤ now)
-WritesWell before now other = now ≡ before
+-- A text that ends a run with this status was delivered; or a front of it, and a write or the flush
+-- failed.
+abbrev pub Ends : List ℕ → Status → Option Told → Option Told → Result Status Halt → Type 0
+Ends text due old new (Ok status) = (status ≡ due) × Delivers old new text
+Ends text due old new (Err halts.WriteFault) = DeliversFront old new text × KeepsFlushed old new
+Ends text due old new (Err other) = ⊥
 
 -- The text was appended whole, or a front of it where a write failed.
-abbrev pub Puts : Option Told → Option Told → List ℕ → Result (Unit {0}) Status → Type 0
+abbrev pub Puts : Option Told → Option Told → List ℕ → Result (Unit {0}) Halt → Type 0
 Puts old new text (Ok done) = Appends old new text
-Puts old new text (Err statuses.WriteFault) = (n : ℕ) × Appends old new (take n text)
+Puts old new text (Err halts.WriteFault) = (n : ℕ) × Appends old new (take n text)
 Puts old new text (Err other) = ⊥
 
 -- All that was written was flushed, or nothing where the flush failed.
-abbrev pub FlushesBy : Option Told → Option Told → Result (Unit {0}) Status → Type 0
+abbrev pub FlushesBy : Option Told → Option Told → Result (Unit {0}) Halt → Type 0
 FlushesBy old new (Ok done) = Flushes old new
-FlushesBy old new (Err statuses.WriteFault) = Appends old new []
+FlushesBy old new (Err halts.WriteFault) = Appends old new []
 FlushesBy old new (Err other) = ⊥
-
--- the same of a run, by its status
-abbrev pub HasRead : ℕ → ℕ → Status → Type 0
-HasRead before now statuses.ReadFault = Rose before now × (before ≤ now)
-HasRead before now other = now ≡ before
-
-abbrev pub HasWrote : ℕ → ℕ → Status → Type 0
-HasWrote before now statuses.WriteFault = Rose before now × (before ≤ now)
-HasWrote before now other = now ≡ before
 
 -- these bytes were taken from the front of what was left
 abbrev pub LeftAfter : Option (List ℕ) → Option (List ℕ) → List ℕ → Type 0

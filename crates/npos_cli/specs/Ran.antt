@@ -1,54 +1,68 @@
--- What a run of one job does: all that is said of it, for each status.
-use Rattle.std.specs.Prelude.{◌≡◌, ◌≢◌, ◌⊎◌, ◌<◌, ◌+◌, ℕ, List, Option, Some, IfSome}
-use Rattle.npos_base.specs.Outside.{Told, Rose}
+-- What a run of one job comes to: an answer, or what cut it off.
+use Rattle.std.specs.Prelude.{◌≡◌, ◌≢◌, ◌<◌, ℕ, List, Option, Some, Result, Ok, Err, IfOk, IfErr, OnErr, IfSome}
+use Rattle.npos_base.specs.Outside.{Told}
 use Rattle.npos_cli.specs.declared.job.Job.{Job}
 use Rattle.npos_cli.specs.declared.job.Job.TheVariants as jobs
 use Rattle.bundle_reports.specs.declared.asked.Task.{Task}
 use Rattle.bundle_reports.specs.declared.asked.Task.TheVariants as tasks
 use Rattle.bundle_reports.specs.declared.asked.Miner.TheVariants as miners
-use Rattle.bundle_reports.specs.declared.status.Status.{Status}
-use Rattle.bundle_reports.specs.declared.status.Status.TheVariants as statuses
-use Rattle.npos_cli.specs.Report.{ReadsInput, ReadsBundle, IsAnswer, IsJudged}
-use Rattle.bundle_reports.specs.declared.reading.TheConstants.{MOST_BUNDLE}
+use Rattle.npos_cli.specs.declared.status.Status.{Status}
+use Rattle.npos_cli.specs.declared.status.Status.TheVariants as statuses
+use Rattle.npos_cli.specs.declared.halt.Halt.{Halt}
+use Rattle.npos_cli.specs.declared.halt.Halt.TheVariants as halts
+use Rattle.npos_cli.specs.Report.{ReadsInput, ReadsBundle, IsJudged}
 use Rattle.bundle_reports.specs.Tasks.{IsSound}
-use Rattle.npos_cli.specs.Owed.{AnswersFor, BeginsFor, IsDrained, TakesAtMost, Delivers, DeliversFront, KeepsFlushed}
-use Rattle.npos_cli.specs.Words.{usage_line}
+use Rattle.npos_cli.specs.Owed.{AnswersFor, BeginsFor, IsDrained, TakesAtMost, Delivers, DeliversFront, KeepsFlushed, Counts}
 use Rattle.npos_cli.specs.Streaming.{HaltedReading, HaltedWriting, HaltedStarving, ReadsWhile}
 
--- `reads` and `writes` are the counts of faults before, `read` and `wrote` those after; `Unread`
--- and `Unwritten` say that the source and the sink are as they were.
-pub record Ran (job : Option Job) (left now : Option (List ℕ)) (old new : Option Told)
-    (reads read writes wrote : ℕ)
-    (Unread Unwritten : Type 0) (status : Status) : Type 0 where
-  pub answers : IsAnswer status → AnswersFor job left old new status
-  pub front : BeginsFor job left old new
-  pub read_fault : status ≡ statuses.ReadFault → ReadsInput job × Rose reads read
-  pub read_fault_comes : reads < read → status ≡ statuses.ReadFault
-  pub write_fault : status ≡ statuses.WriteFault → Rose writes wrote
-  pub write_fault_comes : writes < wrote → status ≡ statuses.WriteFault
-  pub unwritten : (job ≡ Some jobs.Replay → ⊥) → (status ≡ statuses.ReadFault) ⊎ (status ≡ statuses.NoMemory)
-      → Unwritten
-  pub unflushed : (IsAnswer status → ⊥) → KeepsFlushed old new
-  pub unread : (ReadsInput job → ⊥) → Unread
-  pub drained : IsJudged status → ReadsInput job → IsDrained left now
-  pub few : ReadsBundle job → IsAnswer status → TakesAtMost (MOST_BUNDLE + 1) left now
-  pub accepted : (task : Task) → job ≡ Some (jobs.OnBundle task) → status ≡ statuses.Done
-      → IfSome left (IsSound task)
-  pub passes : job ≡ Some (jobs.OnBundle (tasks.Mine miners.Fill)) → status ≢ statuses.No
-  pub halted_reading : job ≡ Some jobs.Replay → status ≡ statuses.ReadFault → HaltedReading left now old new
-  pub halted_writing : job ≡ Some jobs.Replay → status ≡ statuses.WriteFault → HaltedWriting left now old new
-  pub starved : job ≡ Some jobs.Replay → status ≡ statuses.NoMemory → HaltedStarving left now old new
-  pub wary : job ≡ Some jobs.Replay → ReadsWhile left now
+-- What is told of source and sink before and after a part of a run: the bytes that are left, those
+-- that were written, and how many faults each has had.
+pub record Traffic : Type 0 where
+  pub left : Option (List ℕ)
+  pub left_now : Option (List ℕ)
+  pub told : Option Told
+  pub told_now : Option Told
+  pub read_faults : ℕ
+  pub read_faults_now : ℕ
+  pub write_faults : ℕ
+  pub write_faults_now : ℕ
 
--- The text of a demo was delivered, or a front of it, or memory ran out before anything was written.
-abbrev pub DemoEnds : List ℕ → Option Told → Option Told → Type 0 → Status → Type 0
-DemoEnds text old new Unwritten statuses.Done = Delivers old new text
-DemoEnds text old new Unwritten statuses.WriteFault = DeliversFront old new text × KeepsFlushed old new
-DemoEnds text old new Unwritten statuses.NoMemory = Unwritten × (new ≡ old)
-DemoEnds text old new Unwritten _ = ⊥
+abbrev pub traffic : {S K : Type 0} → (S → Option (List ℕ)) → (K → Option Told) → (S → ℕ) → (K → ℕ) → S → S → K
+    → K → Traffic
+traffic left told read_faults write_faults source source_now sink sink_now = record {
+  left = left source;
+  left_now = left source_now;
+  told = told sink;
+  told_now = told sink_now;
+  read_faults = read_faults source;
+  read_faults_now = read_faults source_now;
+  write_faults = write_faults sink;
+  write_faults_now = write_faults sink_now;
+}
 
--- the usage line was delivered, or a front of it
-abbrev pub UsageEnds : Option Told → Option Told → Status → Type 0
-UsageEnds old new statuses.Usage = Delivers old new usage_line
-UsageEnds old new statuses.WriteFault = DeliversFront old new usage_line × KeepsFlushed old new
-UsageEnds old new _ = ⊥
+-- what was taken and written of a replay that was cut off
+abbrev pub HaltedBy : Halt → Traffic → Type 0
+HaltedBy halts.ReadFault t = HaltedReading t.left t.left_now t.told t.told_now
+HaltedBy halts.WriteFault t = HaltedWriting t.left t.left_now t.told t.told_now
+HaltedBy halts.NoMemory t = HaltedStarving t.left t.left_now t.told t.told_now
+
+pub record Ran (job : Option Job) (t : Traffic) (result : Result Status Halt) : Type 0 where
+  pub answers : IfOk result (AnswersFor job t.left t.told t.told_now)
+  pub front : BeginsFor job t.left t.told t.told_now
+  pub read_faults : Counts halts.ReadFault t.read_faults t.read_faults_now result
+  pub write_faults : Counts halts.WriteFault t.write_faults t.write_faults_now result
+  pub reads : IfErr result (λ halt. halt ≡ halts.ReadFault → ReadsInput job)
+  pub unflushed : OnErr result (KeepsFlushed t.told t.told_now)
+  pub halted : job ≡ Some jobs.Replay → IfErr result (λ halt. HaltedBy halt t)
+  pub wary : job ≡ Some jobs.Replay → ReadsWhile t.left t.left_now
+  pub drained : IfOk result (λ status. IsJudged status → ReadsInput job → IsDrained t.left t.left_now)
+  pub few : ReadsBundle job → TakesAtMost 16777217 t.left t.left_now
+  pub accepted : (task : Task) → job ≡ Some (jobs.OnBundle task)
+      → IfOk result (λ status. status ≡ statuses.Done → IfSome t.left (IsSound task))
+  pub passes : job ≡ Some (jobs.OnBundle (tasks.Mine miners.Fill)) → IfOk result (λ status. status ≢ statuses.No)
+
+-- The text of a demo was delivered; or a front of it, and a write failed or memory ran out.
+abbrev pub DemoEnds : List ℕ → Option Told → Option Told → Result Status Halt → Type 0
+DemoEnds text old new (Ok status) = (status ≡ statuses.Done) × Delivers old new text
+DemoEnds text old new (Err halts.ReadFault) = ⊥
+DemoEnds text old new (Err other) = DeliversFront old new text × KeepsFlushed old new

@@ -4,11 +4,13 @@ use Rattle.npos_runtime.specs.declared.chain.Chain.{Chain}
 use Rattle.npos_runtime.specs.Outcome.{Election}
 use Rattle.npos_cli.specs.declared.job.Job.{Job}
 use Rattle.npos_cli.specs.declared.job.Job.TheVariants as jobs
-use Rattle.bundle_reports.specs.declared.status.Status.{Status}
-use Rattle.bundle_reports.specs.declared.status.Status.TheVariants as statuses
+use Rattle.npos_cli.specs.declared.status.Status.{Status}
+use Rattle.npos_cli.specs.declared.status.Status.TheVariants as statuses
+use Rattle.npos_cli.specs.Status.{status_of}
 use Rattle.npos_cli.specs.Words.{job_of, usage_line}
 use Rattle.npos_cli.specs.Replay.{Outcome, IsReplay}
 use Rattle.npos_cli.specs.Chain.{npos_machine}
+use Rattle.bundle_reports.specs.Bundles.{Report}
 use Rattle.bundle_reports.specs.Tasks.{IsBundleReport}
 use Rattle.bundle_reports.specs.Demo.{demo_report}
 use Rattle.bundle_reports.specs.Rewriting.{rewrite_report}
@@ -18,6 +20,11 @@ abbrev pub replay_status : Bool → Status
 replay_status true = statuses.BadInput
 replay_status false = statuses.Done
 
+-- this text and this status tell of the report
+pub record Tells (report : Report) (text : List ℕ) (status : Status) : Type 0 where
+  pub text_is : text ≡ report.text
+  pub status_is : status ≡ status_of report.ending
+
 -- A row a job: what is owed for these bytes. Words that ask for no job owe the usage line, whatever
 -- the bytes are.
 abbrev pub JobOwes : Option Job → List ℕ → List ℕ → Status → Type 0
@@ -25,12 +32,11 @@ JobOwes None bytes text status = (text ≡ usage_line) × (status ≡ statuses.U
 JobOwes (Some jobs.Replay) bytes text status =
     (out : Outcome Chain Election) × IsReplay npos_machine bytes out × (text ≡ out.text)
     × (status ≡ replay_status out.faulty)
-JobOwes (Some (jobs.OnBundle task)) bytes text status = IsBundleReport task bytes
-    (record { text = text; status = status })
-JobOwes (Some (jobs.Demo seed voters seats)) bytes text status = record { text = text; status = status }
-    ≡ demo_report seed voters seats
-JobOwes (Some (jobs.Rewrite way)) bytes text status = record { text = text; status = status }
-    ≡ rewrite_report way bytes
+JobOwes (Some (jobs.OnBundle task)) bytes text status =
+    (report : Report) × IsBundleReport task bytes report × Tells report text status
+JobOwes (Some (jobs.Demo seed voters seats)) bytes text status =
+    Tells (demo_report seed voters seats) text status
+JobOwes (Some (jobs.Rewrite way)) bytes text status = Tells (rewrite_report way bytes) text status
 
 abbrev pub Owes : List (List ℕ) → List ℕ → List ℕ → Status → Type 0
 Owes words = JobOwes (job_of words)

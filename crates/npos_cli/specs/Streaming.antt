@@ -1,11 +1,11 @@
 -- How far a replay has come that reads piece by piece and writes block by block, and how it ends.
 use Rattle.std.specs.Prelude.{◌≡◌, ◌⊎◌, ⊤, ℕ, ◌-◌, ◌≤◌, Bool, false, List, [], ◌++◌, length, take, Option, Some, Result, Ok, Err}
-use Rattle.npos_cli.specs.declared.pieces.TheConstants.{PIECE}
 use Rattle.npos_base.specs.Outside.{Told, Appends}
 use Rattle.npos_runtime.specs.declared.chain.Chain.{Chain}
 use Rattle.npos_cli.specs.declared.job.Job.TheVariants as jobs
-use Rattle.bundle_reports.specs.declared.status.Status.{Status}
-use Rattle.bundle_reports.specs.declared.status.Status.TheVariants as statuses
+use Rattle.npos_cli.specs.declared.status.Status.{Status}
+use Rattle.npos_cli.specs.declared.halt.Halt.{Halt}
+use Rattle.npos_cli.specs.declared.halt.Halt.TheVariants as halts
 use Rattle.npos_cli.specs.Replay.{Spot, Starts, Reaches, IsWhole, IsFront}
 use Rattle.npos_cli.specs.Chain.{npos_machine}
 use Rattle.npos_cli.specs.Ahead.{HasSeen}
@@ -41,32 +41,31 @@ WritesBlocks taken written =
     (written ≡ []) ⊎ ((start : Spot Chain) × (place : Spot Chain) × Starts npos_machine taken start
     × Reaches npos_machine start place written)
 
--- what a status that cuts a replay off says of the bytes taken and the text written
-abbrev pub CutBy : Status → List ℕ → List ℕ → Type 0
-CutBy statuses.ReadFault taken written = IsWhole npos_machine taken written
-CutBy statuses.WriteFault taken written = ⊤
-CutBy statuses.NoMemory taken written = WritesBlocks taken written
-CutBy _ taken written = ⊥
+-- what cuts a replay off says of the bytes taken and the text written
+abbrev pub CutBy : Halt → List ℕ → List ℕ → Type 0
+CutBy halts.ReadFault taken written = IsWhole npos_machine taken written
+CutBy halts.WriteFault taken written = ⊤
+CutBy halts.NoMemory taken written = WritesBlocks taken written
 
 -- A replay was cut off: what was taken and what was written, of which nothing was flushed.
-pub record Halts (left now : Option (List ℕ)) (old new : Option Told) (status : Status) : Type 0 where
+pub record Halts (left now : Option (List ℕ)) (old new : Option Told) (halt : Halt) : Type 0 where
   pub taken : List ℕ
   pub written : List ℕ
   pub left_is : LeftAfter left now taken
   pub told : Appends old new written
   pub keeps_up : KeepsUp npos_machine taken written
   pub front : BeginsFor (Some jobs.Replay) left old new
-  pub cut : CutBy status taken written
+  pub cut : CutBy halt taken written
 
 -- a replay that was told to its last line, or cut off
-abbrev pub Runs : Option (List ℕ) → Option (List ℕ) → Option Told → Option Told → List ℕ → Result Bool Status
+abbrev pub Runs : Option (List ℕ) → Option (List ℕ) → Option Told → Option Told → List ℕ → Result Bool Halt
     → Type 0
 Runs left now old new line (Ok faulty) = Finished left now old new line faulty
-Runs left now old new line (Err status) = Halts left now old new status
+Runs left now old new line (Err halt) = Halts left now old new halt
 
 -- whatever led to a place goes on from there to an end
 abbrev pub RunsOn : Option (List ℕ) → Option (List ℕ) → Option Told → Option Told → Spot Chain → List ℕ
-    → Result Bool Status → Type 0
+    → Result Bool Halt → Type 0
 RunsOn mid now told new here line result =
     (left : Option (List ℕ)) (old : Option Told) → Course left mid old told false here
     → Runs left now old new line result
@@ -84,10 +83,10 @@ pub record Delivered (left now : Option (List ℕ)) (old new : Option Told) (sta
   pub status_is : status ≡ replay_status faulty
   pub delivers : Delivers old new text
 
-abbrev pub ReplayEnds : Option (List ℕ) → Option (List ℕ) → Option Told → Option Told → Result Status Status
+abbrev pub ReplayEnds : Option (List ℕ) → Option (List ℕ) → Option Told → Option Told → Result Status Halt
     → Type 0
 ReplayEnds left now old new (Ok status) = Delivered left now old new status
-ReplayEnds left now old new (Err status) = Halts left now old new status
+ReplayEnds left now old new (Err halt) = Halts left now old new halt
 
 -- ## What a run says of a replay that was cut off
 
@@ -100,7 +99,7 @@ HaltedReading left now old new =
 -- what was written begins with the text of the whole blocks of all these bytes but the last 65,536
 abbrev pub HasWritten : List ℕ → List ℕ → Type 0
 HasWritten taken written =
-    (text : List ℕ) → IsWhole npos_machine (take (length taken - PIECE) taken) text → IsFront text written
+    (text : List ℕ) → IsWhole npos_machine (take (length taken - 65536) taken) text → IsFront text written
 
 -- a write or the flush failed
 abbrev pub HaltedWriting : Option (List ℕ) → Option (List ℕ) → Option Told → Option Told → Type 0
@@ -121,5 +120,5 @@ pub record ReadsWhile (left now : Option (List ℕ)) : Type 0 where
   pub last : List ℕ
   pub text : List ℕ
   pub taken : LeftAfter left now (earlier ++ last)
-  pub one_piece : length last ≤ PIECE
+  pub one_piece : length last ≤ 65536
   pub unsure : IsUndecided npos_machine earlier text

@@ -1,6 +1,6 @@
 -- The lines of faults that a replay alone has.
 use Rattle.std.specs.Prelude.{ℕ, List, ◌++◌, codes, decimal}
-use Rattle.bundle_reports.specs.Texts.{newline}
+use Rattle.told_lines.specs.Texts.{newline}
 
 -- at this place stands the number of a block that is not the due one
 abbrev pub number_line : ℕ → ℕ → ℕ → List ℕ

@@ -1,6 +1,5 @@
 -- What the reader of a stream does at one place, and until the end.
 use Rattle.std.specs.Prelude.{◌≡◌, ◌⊎◌, ◌<◌, ⊤, ℕ, ◌+◌, ◌*◌, ◌^◌, ◌≤◌, Bool, true, false, List, [], ◌++◌, length, Option, None, Result, Ok, Err}
-use Rattle.npos_cli.specs.declared.pieces.TheConstants.{PIECE}
 use Rattle.scale_wire.specs.declared.fault.Why.TheVariants.{Short, Trailing}
 use Rattle.npos_base.specs.Outside.{Told, Appends}
 use Rattle.scale_wire.specs.Reading.{Place}
@@ -12,8 +11,8 @@ use Rattle.npos_cli.specs.declared.replaying.Stop.{Stop}
 use Rattle.npos_cli.specs.declared.replaying.Stop.TheVariants.{More, Last}
 use Rattle.bundle_reports.specs.Texts.{fault_line}
 use Rattle.npos_cli.specs.Chain.{end_line}
-use Rattle.bundle_reports.specs.declared.status.Status.{Status}
-use Rattle.bundle_reports.specs.declared.status.Status.TheVariants as statuses
+use Rattle.npos_cli.specs.declared.halt.Halt.{Halt}
+use Rattle.npos_cli.specs.declared.halt.Halt.TheVariants as halts
 use Rattle.npos_cli.specs.Ahead.{MayFollow}
 use Rattle.npos_cli.specs.Replay.{Machine, Spot, turn, IsTurn, behind, Starts, Reaches, Stops, IsFront}
 
@@ -58,16 +57,16 @@ TakesTurn m ended p q old new turn = (told : List ℕ) × (new ≡ old ++ told) 
 -- that may still come, or the replay ends with a line that was not written yet; or memory ran out,
 -- or a write failed within what the blocks write.
 abbrev pub WritesOn : {G B S E : Type 0} → Machine G B S E → Bool → Spot S → Spot S → Option Told
-    → Option Told → List ℕ → Result Stop Status → Type 0
+    → Option Told → List ℕ → Result Stop Halt → Type 0
 WritesOn m ended p q old new line (Ok More) =
     (ended ≡ false) × IsCutHere m q × ((written : List ℕ) × Reaches m p q written × Appends old new written)
 WritesOn {G} {B} {S} {E} m ended p q old new line (Ok (Last faulty)) =
     (r : Spot S) × (written : List ℕ) × Reaches m p r written × StopsSurely m ended r line faulty
     × (faulty ≡ false → ended ≡ true)
     × Appends old new written
-WritesOn {G} {B} {S} {E} m ended p q old new line (Err statuses.NoMemory) =
+WritesOn {G} {B} {S} {E} m ended p q old new line (Err halts.NoMemory) =
     (r : Spot S) × (written : List ℕ) × Reaches m p r written × Appends old new written
-WritesOn {G} {B} {S} {E} m ended p q old new line (Err statuses.WriteFault) =
+WritesOn {G} {B} {S} {E} m ended p q old new line (Err halts.WriteFault) =
     (r : Spot S) × (written : List ℕ) × (put : List ℕ) × Reaches m p r written × IsFront put written
     × Appends old new put
 WritesOn m ended p q old new line (Err other) = ⊥
@@ -98,6 +97,6 @@ pub record KeepsUp {G B S E : Type 0} (m : Machine G B S E) (taken written : Lis
   pub last : List ℕ
   pub text : List ℕ
   pub split : taken ≡ earlier ++ last
-  pub one_piece : length last ≤ PIECE
+  pub one_piece : length last ≤ 65536
   pub unsure : IsUndecided m earlier text
   pub before : IsFront text written

@@ -13,7 +13,7 @@ use Rattle.bundle_reports.specs.declared.asked.Miner.{Miner}
 use Rattle.bundle_reports.specs.declared.asked.Miner.TheVariants as miners
 use Rattle.bundle_reports.specs.declared.asked.Rewriting.TheVariants as ways
 use Rattle.bundle_reports.specs.Rounds.{TaskHasRounds}
-use Rattle.bundle_reports.specs.Texts.{newline}
+use Rattle.told_lines.specs.Texts.{newline}
 
 -- the miner that a command names; the rounds are those of PHRAGMMS alone
 abbrev pub miner_by : named_miner → ℕ → Miner

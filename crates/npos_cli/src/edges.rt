@@ -1,45 +1,45 @@
 //! The edge of a run at which its text goes out.
 ghost use Rattle.std.specs.Prelude.{◌≡◌, MatchResult, IfErr, OnErr};
-ghost use Rattle.npos_base.specs.Outside.{HasCause};
-ghost use Rattle.npos_cli.specs.Owed.{Delivers, DeliversFront, KeepsFlushed, Puts, FlushesBy, WritesWell};
+ghost use Rattle.npos_cli.specs.declared.halt.Halt.TheVariants as halts;
+ghost use Rattle.npos_cli.specs.Owed.{Counts, Ends, Puts, FlushesBy};
 
 use crate::Status;
+use crate::halt::Halt;
 use npos_base::{Failed, Sink, put_all};
 
-/// Writes the text. The status of an Err is WriteFault.
-pub fn put<K: Sink>(sink: &mut K, text: &[u8]) -> Result<(), Status>
+/// Writes the text.
+pub fn put<K: Sink>(sink: &mut K, text: &[u8]) -> Result<(), Halt>
     ensures puts { Puts (K.told sink.old) (K.told sink.new) text.now result }
-    ensures faults { WritesWell (K.faults sink.old) (K.faults sink.new) result }
+    ensures faults { Counts halts.WriteFault (K.faults sink.old) (K.faults sink.new) result }
 {
     match put_all(sink, text) {
         Ok(()) => Ok(()),
-        Err(_) => Err(Status::WriteFault),
+        Err(_) => Err(Halt::WriteFault),
     }
 }
 
-/// Flushes the sink. The status of an Err is WriteFault.
-pub fn flush<K: Sink>(sink: &mut K) -> Result<(), Status>
+/// Flushes the sink.
+pub fn flush<K: Sink>(sink: &mut K) -> Result<(), Halt>
     ensures flushes { FlushesBy (K.told sink.old) (K.told sink.new) result }
-    ensures faults { WritesWell (K.faults sink.old) (K.faults sink.new) result }
+    ensures faults { Counts halts.WriteFault (K.faults sink.old) (K.faults sink.new) result }
 {
     match sink.flush() {
         Ok(()) => Ok(()),
-        Err(Failed) => Err(Status::WriteFault),
+        Err(Failed) => Err(Halt::WriteFault),
     }
 }
 
-/// Writes the text and flushes the sink. The status of an Err is WriteFault.
+/// Writes a text that ends a run with this status, and flushes the sink.
 #[tactic(auto, using(crate::proofs::EdgeLaws::delivered, crate::proofs::EdgeLaws::not_flushed, crate::proofs::EdgeLaws::front_put, crate::proofs::EdgeLaws::put_unflushed, crate::proofs::EdgeLaws::still_unflushed))]
-pub fn deliver<K: Sink>(sink: &mut K, text: &[u8]) -> Result<(), Failed>
-    ensures delivered { MatchResult result
-        (λ _. Delivers (K.told sink.old) (K.told sink.new) text.now)
-        (λ _. DeliversFront (K.told sink.old) (K.told sink.new) text.now) }
-    ensures unflushed { IfErr result (λ _. KeepsFlushed (K.told sink.old) (K.told sink.new)) }
-    ensures cause { HasCause (K.faults sink.old) (K.faults sink.new) result }
+pub fn deliver<K: Sink>(sink: &mut K, text: &[u8], status: Status) -> Result<Status, Halt>
+    ensures ends { Ends text.now status (K.told sink.old) (K.told sink.new) result }
+    ensures faults { Counts halts.WriteFault (K.faults sink.old) (K.faults sink.new) result }
 {
     if put_all(sink, text).is_err() {
-        return Err(Failed);
+        return Err(Halt::WriteFault);
     }
-    sink.flush()?;
-    Ok(())
+    match sink.flush() {
+        Ok(()) => Ok(status),
+        Err(Failed) => Err(Halt::WriteFault),
+    }
 }

@@ -1,19 +1,23 @@
 //! An input that is read whole, up to a limit.
-ghost use Rattle.std.specs.Prelude.{◌≡◌, ◌+◌, ◌<◌, ◌≤◌, ◌^◌, true, false, [], length, vec_len, IfOk};
-ghost use Rattle.npos_cli.specs.Owed.{HaltsWell, LeftAfter, IsDrained, TakesMore, ReadsUpTo};
+ghost use Rattle.std.specs.Prelude.{◌≡◌, ◌≢◌, ◌+◌, ◌<◌, ◌≤◌, ◌^◌, true, false, [], length, vec_len, IfOk, IfErr};
+ghost use Rattle.npos_cli.specs.declared.halt.Halt.TheVariants as halts;
+ghost use Rattle.npos_cli.specs.Owed.{Counts, LeftAfter, IsDrained, TakesMore, TakesAtMost, ReadsUpTo};
 
-use crate::Status;
+use crate::halt::Halt;
 use crate::pieces::{PIECE, blank_piece, read_more};
 use npos_base::Source;
 use std::alloc::Global;
 
 /// Reads on until the input has ended or more than `most` bytes were read, but never more than one
-/// byte beyond. The status of an Err is ReadFault or NoMemory.
-pub fn read_up_to<S: Source>(alloc: Global, source: &mut S, most: usize) -> Result<Vec<u8>, Status>
+/// byte beyond.
+#[tactic(auto, using(crate::proofs::EdgeLaws::takes_none, crate::proofs::EdgeLaws::takes_so_far, crate::proofs::EdgeLaws::takes_more))]
+pub fn read_up_to<S: Source>(alloc: Global, source: &mut S, most: usize) -> Result<Vec<u8>, Halt>
     requires { most < 2 ^ 32 }
     ensures read { IfOk result
         (λ bytes. ReadsUpTo most (S.left source.old) (S.left source.new) bytes.items) }
-    ensures halts { HaltsWell (S.faults source.old) (S.faults source.new) result }
+    ensures few { TakesAtMost (most + 1) (S.left source.old) (S.left source.new) }
+    ensures faults { Counts halts.ReadFault (S.faults source.old) (S.faults source.new) result }
+    ensures unwritten { IfErr result (λ halt. halt ≢ halts.WriteFault) }
 {
     let mut bytes = Vec::new(alloc);
     let mut piece = blank_piece(alloc, PIECE)?;

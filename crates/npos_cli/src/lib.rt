@@ -2,6 +2,7 @@
 #![tactic(auto)]
 
 mod edges;
+mod halt;
 mod input;
 mod job;
 pub mod laws;
@@ -9,8 +10,12 @@ mod pieces;
 pub mod promises;
 mod replaying;
 mod rewriting;
+mod status;
 mod telling;
 mod top;
 
-pub use bundle_reports::Status;
+pub use bundle_reports::{Miner, Rewriting, Task};
+pub use job::Job;
+pub use pieces::PIECE;
+pub use status::Status;
 pub use top::run;

@@ -1,10 +1,10 @@
 //! An input that is read by pieces.
-ghost use Rattle.std.specs.Prelude.{◌≡◌, ◌+◌, ◌<◌, ◌≤◌, ◌^◌, false, length, vec_len, IfOk};
-ghost use Rattle.npos_cli.specs.declared.pieces.TheConstants.{PIECE};
-ghost use Rattle.npos_cli.specs.Owed.{HaltsWell, TakesMore};
+ghost use Rattle.std.specs.Prelude.{◌≡◌, ◌≢◌, ◌+◌, ◌<◌, ◌≤◌, ◌^◌, false, length, vec_len, IfOk, IfErr};
+ghost use Rattle.npos_cli.specs.declared.halt.Halt.TheVariants as halts;
+ghost use Rattle.npos_cli.specs.Owed.{Counts, TakesMore, TakesAtMost};
 ghost use Rattle.npos_cli.specs.Ahead.{FeedsMore};
 
-use crate::Status;
+use crate::halt::Halt;
 use block_wire::StreamReader;
 use npos_base::{Failed, NoMemory, Source};
 use std::alloc::Global;
@@ -20,52 +20,53 @@ pub fn blank_piece(alloc: Global, size: usize) -> Result<Vec<u8>, NoMemory>
     Ok(piece)
 }
 
-/// Appends what one read gives, and answers whether the input has ended. The status of an Err is
-/// ReadFault or NoMemory.
+/// Appends what one read gives, and answers whether the input has ended.
+#[tactic(auto, using(crate::proofs::EdgeLaws::takes_some, crate::proofs::EdgeLaws::takes_no_more))]
 pub fn read_more<S: Source>(
     source: &mut S,
     piece: &mut [u8],
     bytes: &mut Vec<u8>,
-) -> Result<bool, Status>
+) -> Result<bool, Halt>
     requires { 0 < length piece.old }
     ensures taken { IfOk result
         (λ ended. TakesMore (S.left source.old)
         (S.left source.new) bytes.old.items bytes.new.items ended) }
     ensures longer { IfOk result (λ ended. ended ≡ false → vec_len bytes.old < vec_len bytes.new) }
     ensures within { vec_len bytes.new ≤ vec_len bytes.old + length piece.old }
-    ensures halts { HaltsWell (S.faults source.old) (S.faults source.new) result }
+    ensures few { TakesAtMost (length piece.old) (S.left source.old) (S.left source.new) }
+    ensures faults { Counts halts.ReadFault (S.faults source.old) (S.faults source.new) result }
+    ensures unwritten { IfErr result (λ halt. halt ≢ halts.WriteFault) }
 {
     let count = match source.read(piece) {
         Ok(count) => count,
-        Err(Failed) => return Err(Status::ReadFault),
+        Err(Failed) => return Err(Halt::ReadFault),
     };
     match bytes.extend_from_slice(&piece[..count]) {
         Ok(()) => Ok(count == 0),
-        Err(_) => Err(Status::NoMemory),
+        Err(_) => Err(Halt::NoMemory),
     }
 }
 
-/// Reads once and feeds what came to the reader, and answers whether the input has ended. The
-/// status of an Err is ReadFault or NoMemory.
+/// Reads once and feeds what came to the reader, and answers whether the input has ended.
 #[tactic(auto, using(crate::proofs::FeedLaws::feeds_nothing, crate::proofs::FeedLaws::feeds_none, crate::proofs::FeedLaws::feeds_some, crate::proofs::FeedLaws::feeds_lost))]
 pub fn read_piece<S: Source>(
     source: &mut S,
     piece: &mut [u8],
     reader: &mut StreamReader,
-) -> Result<bool, Status>
+) -> Result<bool, Halt>
     requires some { 0 < length piece.old }
-    requires one_piece { length piece.old ≤ PIECE }
-    requires room { reader.old.at + length reader.old.rest + PIECE < 2 ^ 64 }
+    requires one_piece { length piece.old ≤ 65536 }
+    requires room { reader.old.at + length reader.old.rest + 65536 < 2 ^ 64 }
     ensures feeds { FeedsMore (S.left source.old) (S.left source.new) reader.old reader.new result }
     ensures further { IfOk result (λ ended. ended ≡ false
         → length reader.old.rest < length reader.new.rest) }
-    ensures halts { HaltsWell (S.faults source.old) (S.faults source.new) result }
+    ensures faults { Counts halts.ReadFault (S.faults source.old) (S.faults source.new) result }
 {
     let Ok(count) = source.read(piece) else {
-        return Err(Status::ReadFault);
+        return Err(Halt::ReadFault);
     };
     match reader.feed(&piece[..count]) {
         Ok(()) => Ok(count == 0),
-        Err(NoMemory) => Err(Status::NoMemory),
+        Err(NoMemory) => Err(Halt::NoMemory),
     }
 }

@@ -2,7 +2,7 @@
 ghost use Rattle.std.specs.Prelude.{◌≡◌, ◌≢◌, ◌⊎◌, ℕ, List, Some, [], map, true, false, IfSome, string_bytes};
 ghost use Rattle.npos_base.specs.Outside.{Rose};
 ghost use Rattle.npos_cli.specs.declared.job.Job.TheVariants as jobs;
-ghost use Rattle.bundle_reports.specs.declared.status.Status.{Status as status};
+ghost use Rattle.npos_cli.specs.declared.status.Status.{Status as status};
 ghost use Rattle.npos_cli.specs.Words.{HasForm, job_of, usage_line};
 ghost use Rattle.npos_cli.specs.Chain.{npos_machine};
 ghost use Rattle.npos_cli.specs.Headline.{IsPromised};

@@ -1,20 +1,20 @@
 //! The replay of a stream: a genesis, and then a turn for each block until one is the last. It
 //! reads piece by piece, and writes the lines of each block before it reads again.
 ghost use Rattle.std.specs.Prelude.{◌≡◌, ◌+◌, ◌<◌, ◌≤◌, ℕ, List, Some, Ok, [], ◌∷◌, true, false, length, IfOk, IsTrue, ◌↔◌};
-ghost use Rattle.npos_cli.specs.declared.pieces.TheConstants.{PIECE};
 ghost use Rattle.stake_ledger.specs.Ledger.{totals_of};
 ghost use Rattle.npos_base.specs.Outside.{Appends};
-ghost use Rattle.npos_cli.specs.declared.job.Job.TheVariants as jobs;
+ghost use Rattle.npos_cli.specs.declared.halt.Halt.TheVariants as halts;
 ghost use Rattle.npos_cli.specs.declared.replaying.Stop.TheVariants as stops;
 ghost use Rattle.npos_cli.specs.Chain.{npos_machine};
 ghost use Rattle.npos_cli.specs.Ahead.{Begins, first_place};
-ghost use Rattle.npos_cli.specs.Owed.{HaltsWell, ReadsWell, WritesWell};
+ghost use Rattle.npos_cli.specs.Owed.{Counts};
 ghost use Rattle.npos_cli.specs.Report.{replay_status};
 ghost use Rattle.npos_cli.specs.Streaming.{Runs, RunsOn, ReplayEnds};
 ghost use Rattle.npos_cli.specs.Turning.{spot, IsNear, IsGoing, TakesTurn, WritesOn, StopsHere};
 
 use crate::Status;
 use crate::edges::{flush, put};
+use crate::halt::Halt;
 use crate::pieces::{PIECE, blank_piece, read_piece};
 use crate::telling::{tell_end, tell_genesis_fault, tell_lines, tell_other_number};
 use block_wire::{Genesis, Next, StreamReader};
@@ -99,20 +99,20 @@ fn take_turn(
 }
 
 /// Takes turns and writes what each block writes, until bytes are missing or the replay ends with
-/// the line that is then the text. The status of an Err is WriteFault or NoMemory.
+/// the line that is then the text.
 fn take_turns<K: Sink>(
     ended: bool,
     reader: &mut StreamReader,
     runtime: &mut Runtime,
     text: &mut Vec<u8>,
     sink: &mut K,
-) -> Result<Stop, Status>
+) -> Result<Stop, Halt>
     requires unspent { runtime.old.spent ≡ false }
     ensures writes { WritesOn npos_machine ended (spot reader.old runtime.old.state)
         (spot reader.new runtime.new.state) (K.told sink.old) (K.told sink.new)
         text.new.items result }
     ensures unspent { IfOk result (λ stop. stop ≡ stops.More → runtime.new.spent ≡ false) }
-    ensures faults { WritesWell (K.faults sink.old) (K.faults sink.new) result }
+    ensures faults { Counts halts.WriteFault (K.faults sink.old) (K.faults sink.new) result }
 {
     'turns: loop {
         text.clear();
@@ -124,7 +124,7 @@ fn take_turns<K: Sink>(
 }
 
 /// Takes what is read until the replay ends, with a fault line or not. All but that line is then
-/// written. The status of an Err is ReadFault, WriteFault or NoMemory.
+/// written.
 fn take_all<S: Source, K: Sink>(
     source: &mut S,
     reader: &mut StreamReader,
@@ -132,15 +132,15 @@ fn take_all<S: Source, K: Sink>(
     runtime: &mut Runtime,
     text: &mut Vec<u8>,
     sink: &mut K,
-) -> Result<bool, Status>
+) -> Result<bool, Halt>
     requires unspent { runtime.old.spent ≡ false }
     requires some { 0 < length piece.old }
-    requires one_piece { length piece.old ≤ PIECE }
+    requires one_piece { length piece.old ≤ 65536 }
     requires near { IsNear (spot reader.old runtime.old.state) }
     ensures runs { RunsOn (S.left source.old) (S.left source.new) (K.told sink.old)
         (K.told sink.new) (spot reader.old runtime.old.state) text.new.items result }
-    ensures reads { ReadsWell (S.faults source.old) (S.faults source.new) result }
-    ensures writes { WritesWell (K.faults sink.old) (K.faults sink.new) result }
+    ensures reads { Counts halts.ReadFault (S.faults source.old) (S.faults source.new) result }
+    ensures writes { Counts halts.WriteFault (K.faults sink.old) (K.faults sink.new) result }
 {
     let mut ended = false;
     'pieces: loop {
@@ -151,17 +151,17 @@ fn take_all<S: Source, K: Sink>(
     }
 }
 
-/// Reads the genesis, piece by piece. The status of an Err is ReadFault or NoMemory.
+/// Reads the genesis, piece by piece.
 fn take_genesis<S: Source>(
     source: &mut S,
     reader: &mut StreamReader,
     piece: &mut [u8],
-) -> Result<Result<Genesis, WireFault>, Status>
+) -> Result<Result<Genesis, WireFault>, Halt>
     requires fresh { reader.old ≡ first_place [] }
     requires some { 0 < length piece.old }
-    requires one_piece { length piece.old ≤ PIECE }
+    requires one_piece { length piece.old ≤ 65536 }
     ensures begins { Begins (S.left source.old) (S.left source.new) reader.new result }
-    ensures halts { HaltsWell (S.faults source.old) (S.faults source.new) result }
+    ensures faults { Counts halts.ReadFault (S.faults source.old) (S.faults source.new) result }
 {
     let mut ended = false;
     'pieces: loop {
@@ -169,24 +169,24 @@ fn take_genesis<S: Source>(
             Ok(Some(genesis)) => return Ok(Ok(genesis)),
             Ok(None) => ended = read_piece(source, piece, reader)?,
             Err(ReadFault::Wire(fault)) => return Ok(Err(fault)),
-            Err(ReadFault::NoMemory) => return Err(Status::NoMemory),
+            Err(ReadFault::NoMemory) => return Err(Halt::NoMemory),
         }
     }
 }
 
 /// Replays what is left in the source, and writes all but the last line, which is then the text.
-/// Answers whether that is a fault line. The status of an Err is ReadFault, WriteFault or NoMemory.
+/// Answers whether that is a fault line.
 fn tell_replay<S: Source, K: Sink>(
     alloc: Global,
     source: &mut S,
     text: &mut Vec<u8>,
     sink: &mut K,
-) -> Result<bool, Status>
+) -> Result<bool, Halt>
     requires empty { text.old.items ≡ [] }
     ensures runs { Runs (S.left source.old) (S.left source.new) (K.told sink.old) (K.told sink.new)
         text.new.items result }
-    ensures reads { ReadsWell (S.faults source.old) (S.faults source.new) result }
-    ensures writes { WritesWell (K.faults sink.old) (K.faults sink.new) result }
+    ensures reads { Counts halts.ReadFault (S.faults source.old) (S.faults source.new) result }
+    ensures writes { Counts halts.WriteFault (K.faults sink.old) (K.faults sink.new) result }
 {
     let mut piece = blank_piece(alloc, PIECE)?;
     let mut reader = StreamReader::new(alloc);
@@ -230,11 +230,11 @@ pub fn replay<S: Source, K: Sink>(
     alloc: Global,
     source: &mut S,
     sink: &mut K,
-) -> Result<Status, Status>
+) -> Result<Status, Halt>
     ensures ends { ReplayEnds (S.left source.old) (S.left source.new) (K.told sink.old)
         (K.told sink.new) result }
-    ensures reads { ReadsWell (S.faults source.old) (S.faults source.new) result }
-    ensures writes { WritesWell (K.faults sink.old) (K.faults sink.new) result }
+    ensures reads { Counts halts.ReadFault (S.faults source.old) (S.faults source.new) result }
+    ensures writes { Counts halts.WriteFault (K.faults sink.old) (K.faults sink.new) result }
 {
     let mut text = Vec::new(alloc);
     let faulty = tell_replay(alloc, source, &mut text, sink)?;

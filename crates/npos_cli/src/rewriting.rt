@@ -1,32 +1,32 @@
 //! Bundles that are read from a source and written to a sink in their other form.
-ghost use Rattle.std.specs.Prelude.{◌≡◌, ◌⊎◌, ◌+◌, Some, IfOk};
+ghost use Rattle.std.specs.Prelude.{◌≡◌, ◌≢◌, ◌+◌, Some, IfOk, IfErr};
 ghost use Rattle.npos_cli.specs.declared.job.Job.TheVariants as jobs;
-ghost use Rattle.npos_cli.specs.Owed.{FindsFor, AnswersFor, BeginsFor, IsDrained, TakesAtMost, HaltsWell, HasRead, HasWrote, KeepsFlushed};
-ghost use Rattle.npos_cli.specs.Report.{IsAnswer, IsJudged};
-ghost use Rattle.bundle_reports.specs.declared.reading.TheConstants.{MOST_BUNDLE};
+ghost use Rattle.npos_cli.specs.declared.halt.Halt.TheVariants as halts;
+ghost use Rattle.npos_cli.specs.Owed.{FindsFor, IsDrained, TakesAtMost, Counts};
+ghost use Rattle.npos_cli.specs.Ran.{Ran, traffic};
+ghost use Rattle.npos_cli.specs.Status.{status_of};
+ghost use Rattle.npos_cli.specs.Report.{IsJudged};
 
 use crate::Status;
 use crate::edges::deliver;
+use crate::halt::Halt;
 use crate::input::read_up_to;
+use crate::status::status_of;
 use bundle_reports::{Answer, MOST_BUNDLE, Rewriting, rewrite_bytes};
-use npos_base::{Failed, Sink, Source};
+use npos_base::{Sink, Source};
 use std::alloc::Global;
 
 /// Reads the bundle that is left in the source, no more than one byte beyond the limit, and answers
-/// with its other form. The status of an Err is ReadFault or NoMemory.
-#[tactic(auto, using(crate::proofs::RewriteLaws::rewrite_drained, crate::proofs::RunLaws::bundle_few))]
-fn rewrite_answer<S: Source>(
-    alloc: Global,
-    source: &mut S,
-    way: Rewriting,
-) -> Result<Answer, Status>
+/// with its other form.
+#[tactic(auto, using(crate::proofs::RewriteLaws::rewrite_drained))]
+fn rewrite_answer<S: Source>(alloc: Global, source: &mut S, way: Rewriting) -> Result<Answer, Halt>
     ensures due { IfOk result (λ answer. FindsFor (Some (jobs.Rewrite way)) (S.left source.old)
-        answer.text.items answer.status) }
-    ensures drained { IfOk result (λ answer. IsJudged answer.status
+        answer.text.items (status_of answer.ending)) }
+    ensures drained { IfOk result (λ answer. IsJudged (status_of answer.ending)
         → IsDrained (S.left source.old) (S.left source.new)) }
-    ensures few { IfOk result
-        (λ _. TakesAtMost (MOST_BUNDLE + 1) (S.left source.old) (S.left source.new)) }
-    ensures halts { HaltsWell (S.faults source.old) (S.faults source.new) result }
+    ensures few { TakesAtMost 16777217 (S.left source.old) (S.left source.new) }
+    ensures faults { Counts halts.ReadFault (S.faults source.old) (S.faults source.new) result }
+    ensures unwritten { IfErr result (λ halt. halt ≢ halts.WriteFault) }
 {
     let bytes = read_up_to(alloc, source, MOST_BUNDLE)?;
     let answer = rewrite_bytes(alloc, bytes, way)?;
@@ -39,27 +39,11 @@ pub fn rewrite<S: Source, K: Sink>(
     source: &mut S,
     sink: &mut K,
     way: Rewriting,
-) -> Status
-    ensures answers { IsAnswer result → AnswersFor (Some (jobs.Rewrite way)) (S.left source.old)
-        (K.told sink.old) (K.told sink.new) result }
-    ensures front { BeginsFor (Some (jobs.Rewrite way)) (S.left source.old)
-        (K.told sink.old) (K.told sink.new) }
-    ensures reads { HasRead (S.faults source.old) (S.faults source.new) result }
-    ensures writes { HasWrote (K.faults sink.old) (K.faults sink.new) result }
-    ensures unwritten { (result ≡ Status.ReadFault) ⊎ (result ≡ Status.NoMemory)
-        → sink.new ≡ sink.old }
-    ensures unflushed { (IsAnswer result → ⊥)
-        → KeepsFlushed (K.told sink.old) (K.told sink.new) }
-    ensures drained { IsJudged result → IsDrained (S.left source.old) (S.left source.new) }
-    ensures few { IsAnswer result
-        → TakesAtMost (MOST_BUNDLE + 1) (S.left source.old) (S.left source.new) }
+) -> Result<Status, Halt>
+    ensures ran { Ran (Some (jobs.Rewrite way)) (traffic S.left K.told S.faults K.faults
+        source.old source.new sink.old sink.new) result }
+    ensures unwritten { IfErr result (λ halt. halt ≢ halts.WriteFault → sink.new ≡ sink.old) }
 {
-    let Answer { text, status } = match rewrite_answer(alloc, source, way) {
-        Ok(answer) => answer,
-        Err(status) => return status,
-    };
-    match deliver(sink, text.as_slice()) {
-        Ok(()) => status,
-        Err(Failed) => Status::WriteFault,
-    }
+    let answer = rewrite_answer(alloc, source, way)?;
+    deliver(sink, answer.text.as_slice(), status_of(answer.ending))
 }

@@ -1,19 +1,20 @@
 //! The lines of blocks, of their faults, and the end line.
 ghost use Rattle.std.specs.Prelude.{◌≡◌, ◌≢◌, ◌++◌, flat_map, decimal, OnOk};
-ghost use Rattle.bundle_reports.specs.Texts.{fault_line, word_of, account_text, newline};
+ghost use Rattle.told_lines.specs.Texts.{account_text, newline};
+ghost use Rattle.bundle_reports.specs.Texts.{fault_line, word_of};
 ghost use Rattle.npos_cli.specs.Texts.{number_line, genesis_line};
 ghost use Rattle.block_receipts.specs.declared.line.Line.TheVariants as lines;
 ghost use Rattle.chain_params.specs.Faults.{fault_numbers};
 ghost use Rattle.chain_params.specs.declared.fault.GenesisFault.TheVariants as faults;
-ghost use Rattle.bundle_reports.specs.Pieces.{piece_text};
+ghost use Rattle.told_lines.specs.Pieces.{piece_text};
 ghost use Rattle.npos_cli.specs.Chain.{amount_line, end_line, line_text};
 
-use bundle_reports::{Piece, tell, tell_account, tell_member, tell_verdict};
+use bundle_reports::{tell_member, tell_verdict};
 use election_check::Verdict;
-use itoa::{Buffer, write_digits};
 use npos_base::{AccountId, NoMemory};
 use npos_runtime::{GenesisFault, Line};
 use stake_ledger::Totals;
+use told_lines::{Piece, tell};
 
 /// Appends the line of a block whose number is not the due one.
 pub fn tell_other_number(text: &mut Vec<u8>, at: u64, due: u64, found: u32) -> Result<(), NoMemory>
@@ -56,30 +57,47 @@ pub fn tell_genesis_fault(text: &mut Vec<u8>, fault: GenesisFault) -> Result<(),
     )
 }
 
-/// Appends a number in decimal, between these words.
-fn tell_counted(text: &mut Vec<u8>, words: &str, number: u64, end: &str) -> Result<(), NoMemory>
+/// Appends the line of a number between these words.
+fn tell_counted(
+    text: &mut Vec<u8>,
+    words: &'static str,
+    number: u64,
+    end: &'static str,
+) -> Result<(), NoMemory>
     ensures { OnOk result
         (text.new.items ≡ text.old.items ++ (words.now ++ (decimal number ++ end.now))) }
 {
-    text.extend_from_slice(words.as_bytes())?;
-    text.extend_from_slice(Buffer::new().format(number).as_bytes())?;
-    text.extend_from_slice(end.as_bytes())?;
-    Ok(())
+    tell(
+        text,
+        &[
+            Piece::Words(words),
+            Piece::Number(number),
+            Piece::Words(end),
+        ],
+    )
 }
 
 /// Appends the line of two numbers, each behind some words.
 fn tell_two(
     text: &mut Vec<u8>,
-    words: &str,
+    words: &'static str,
     first: u64,
-    between: &str,
+    between: &'static str,
     second: u64,
 ) -> Result<(), NoMemory>
     ensures { OnOk result (text.new.items ≡ text.old.items
         ++ (words.now ++ (decimal first ++ (between.now ++ (decimal second ++ newline))))) }
 {
-    tell_counted(text, words, first, between)?;
-    tell_counted(text, "", second, "\n")
+    tell(
+        text,
+        &[
+            Piece::Words(words),
+            Piece::Number(first),
+            Piece::Words(between),
+            Piece::Number(second),
+            Piece::Words("\n"),
+        ],
+    )
 }
 
 /// Appends the line of a snapshot.
@@ -119,24 +137,38 @@ fn tell_forfeit(
     ensures { OnOk result
         (text.new.items ≡ text.old.items ++ line_text (lines.Forfeit number deposit verdict)) }
 {
-    tell_counted(text, "forfeit ", number, " ")?;
-    tell_counted(text, "", deposit, " ")?;
+    tell(
+        text,
+        &[
+            Piece::Words("forfeit "),
+            Piece::Number(number),
+            Piece::Words(" "),
+            Piece::Number(deposit),
+            Piece::Words(" "),
+        ],
+    )?;
     tell_verdict(text, verdict)
 }
 
-/// Appends the line of an account and an amount, behind some words. The digits of the amount are
-/// made first, since digits that were only just written are slow to read.
-fn tell_amount(text: &mut Vec<u8>, words: &str, who: AccountId, amount: u64) -> Result<(), NoMemory>
+/// Appends the line of an account and an amount, behind some words.
+fn tell_amount(
+    text: &mut Vec<u8>,
+    words: &'static str,
+    who: AccountId,
+    amount: u64,
+) -> Result<(), NoMemory>
     ensures { OnOk result
         (text.new.items ≡ text.old.items ++ amount_line words.now who amount) }
 {
-    let mut ending = [b'\n'; 22];
-    let start = write_digits(amount, &mut ending, 21) - 1;
-    ending[start] = b' ';
-    text.extend_from_slice(words.as_bytes())?;
-    tell_account(text, who)?;
-    text.extend_from_slice(&ending[start..])?;
-    Ok(())
+    tell(
+        text,
+        &[
+            Piece::Words(words),
+            Piece::Account(who),
+            Piece::Detail(u128::from(amount)),
+            Piece::Words("\n"),
+        ],
+    )
 }
 
 /// Appends one line of a receipt. Each kind of line has a function, since a function clears the

@@ -1,11 +1,12 @@
 //! The top call.
-ghost use Rattle.std.specs.Prelude.{◌≡◌, ◌≢◌, ◌⊎◌, ◌<◌, ◌+◌, false, None, Some, map, IfOk, IfSome, string_bytes};
+ghost use Rattle.std.specs.Prelude.{◌≡◌, ◌≢◌, ◌⊎◌, ◌<◌, false, None, Some, Err, map, IfOk, IfErr, IfSome, string_bytes};
 ghost use Rattle.npos_base.specs.Outside.{Rose};
 ghost use Rattle.npos_cli.specs.declared.job.Job.TheVariants as jobs;
 ghost use Rattle.bundle_reports.specs.declared.asked.Task.{Task as task_kind};
 ghost use Rattle.bundle_reports.specs.declared.asked.Task.TheVariants as tasks;
 ghost use Rattle.bundle_reports.specs.declared.asked.Miner.TheVariants as miners;
 ghost use Rattle.npos_words.specs.Words.{has_verb};
+ghost use Rattle.npos_cli.specs.Status.{status_of};
 ghost use Rattle.npos_cli.specs.Words.{job_of, KeepsBounds};
 ghost use Rattle.bundle_reports.specs.Rounds.{TaskHasRounds};
 ghost use Rattle.npos_cli.specs.Report.{ReadsInput, ReadsBundle, IsAnswer, IsJudged};
@@ -15,16 +16,17 @@ ghost use Rattle.npos_cli.specs.Chain.{npos_machine};
 ghost use Rattle.npos_cli.specs.Crowding.{NoneIsCrowdedOut};
 ghost use Rattle.npos_cli.specs.Eras.{ErasAreKept};
 ghost use Rattle.npos_cli.specs.Streams.{LeavesStream};
-ghost use Rattle.bundle_reports.specs.declared.reading.TheConstants.{MOST_BUNDLE};
 ghost use Rattle.bundle_reports.specs.Tasks.{IsSound};
-ghost use Rattle.bundle_reports.specs.declared.status.Status.TheVariants as statuses;
-ghost use Rattle.npos_cli.specs.Owed.{FindsFor, AnswersFor, Answers, BeginsFor, BeginsToAnswer, IsDrained, TakesAtMost, HaltsWell, HasRead, HasWrote, KeepsFlushed};
+ghost use Rattle.npos_cli.specs.declared.status.Status.TheVariants as statuses;
+ghost use Rattle.npos_cli.specs.declared.halt.Halt.TheVariants as halts;
+ghost use Rattle.npos_cli.specs.Owed.{FindsFor, Answers, BeginsToAnswer, IsDrained, TakesAtMost, Counts, KeepsFlushed};
 ghost use Rattle.npos_cli.specs.Streaming.{HaltedReading, HaltedWriting, HaltedStarving, ReadsWhile};
 ghost use Rattle.bundle_reports.specs.Demo.{demo_report};
-ghost use Rattle.npos_cli.specs.Ran.{Ran, UsageEnds, DemoEnds};
+ghost use Rattle.npos_cli.specs.Ran.{Ran, traffic, DemoEnds};
 
 use crate::Status;
 use crate::edges::deliver;
+use crate::halt::{Halt, end_of};
 use crate::input::read_up_to;
 use crate::job::{Job, job_of};
 use crate::laws::{
@@ -32,8 +34,9 @@ use crate::laws::{
 };
 use crate::replaying::replay;
 use crate::rewriting::rewrite;
+use crate::status::status_of;
 use bundle_reports::{Answer, MOST_BUNDLE, Task, answer_bytes, demo_text};
-use npos_base::{Failed, NoMemory, Sink, Source};
+use npos_base::{Sink, Source};
 use npos_words::command_of;
 use std::alloc::Global;
 
@@ -41,21 +44,21 @@ use std::alloc::Global;
 const USAGE: &str = "usage: npos replay|check|mine|pack|show|demo\n";
 
 /// Reads the bundle that is left in the source, no more than one byte beyond the limit, and reports
-/// on it. The status of an Err is ReadFault or NoMemory.
-#[tactic(auto, using(crate::proofs::RunLaws::bundle_found, crate::proofs::RunLaws::bundle_drained, crate::proofs::RunLaws::bundle_few, crate::proofs::RunLaws::bundle_sound))]
-fn bundle_answer<S: Source>(alloc: Global, source: &mut S, task: Task) -> Result<Answer, Status>
+/// on it.
+#[tactic(auto, using(crate::proofs::RunLaws::bundle_found, crate::proofs::RunLaws::bundle_drained, crate::proofs::RunLaws::bundle_sound, crate::proofs::RunLaws::bundle_passes))]
+fn bundle_answer<S: Source>(alloc: Global, source: &mut S, task: Task) -> Result<Answer, Halt>
     requires { TaskHasRounds task }
     ensures due { IfOk result (λ answer. FindsFor (Some (jobs.OnBundle task)) (S.left source.old)
-        answer.text.items answer.status) }
-    ensures drained { IfOk result (λ answer. IsJudged answer.status
+        answer.text.items (status_of answer.ending)) }
+    ensures drained { IfOk result (λ answer. IsJudged (status_of answer.ending)
         → IsDrained (S.left source.old) (S.left source.new)) }
-    ensures few { IfOk result
-        (λ _. TakesAtMost (MOST_BUNDLE + 1) (S.left source.old) (S.left source.new)) }
-    ensures sound { IfOk result (λ answer. answer.status ≡ statuses.Done
+    ensures few { TakesAtMost 16777217 (S.left source.old) (S.left source.new) }
+    ensures sound { IfOk result (λ answer. status_of answer.ending ≡ statuses.Done
         → IfSome (S.left source.old) (IsSound task)) }
     ensures passes { task ≡ tasks.Mine miners.Fill
-        → IfOk result (λ answer. answer.status ≢ statuses.No) }
-    ensures halts { HaltsWell (S.faults source.old) (S.faults source.new) result }
+        → IfOk result (λ answer. status_of answer.ending ≢ statuses.No) }
+    ensures faults { Counts halts.ReadFault (S.faults source.old) (S.faults source.new) result }
+    ensures unwritten { IfErr result (λ halt. halt ≢ halts.WriteFault) }
 {
     let bytes = read_up_to(alloc, source, MOST_BUNDLE)?;
     let answer = answer_bytes(alloc, bytes, task)?;
@@ -63,60 +66,37 @@ fn bundle_answer<S: Source>(alloc: Global, source: &mut S, task: Task) -> Result
 }
 
 /// Reports on the bundle that is left in the source, and flushes the report.
-fn report<S: Source, K: Sink>(alloc: Global, source: &mut S, sink: &mut K, task: Task) -> Status
+fn report<S: Source, K: Sink>(
+    alloc: Global,
+    source: &mut S,
+    sink: &mut K,
+    task: Task,
+) -> Result<Status, Halt>
     requires { TaskHasRounds task }
-    ensures answers { IsAnswer result → AnswersFor (Some (jobs.OnBundle task)) (S.left source.old)
-        (K.told sink.old) (K.told sink.new) result }
-    ensures front { BeginsFor (Some (jobs.OnBundle task)) (S.left source.old)
-        (K.told sink.old) (K.told sink.new) }
-    ensures reads { HasRead (S.faults source.old) (S.faults source.new) result }
-    ensures writes { HasWrote (K.faults sink.old) (K.faults sink.new) result }
-    ensures unwritten { (result ≡ Status.ReadFault) ⊎ (result ≡ Status.NoMemory)
-        → sink.new ≡ sink.old }
-    ensures unflushed { (IsAnswer result → ⊥)
-        → KeepsFlushed (K.told sink.old) (K.told sink.new) }
-    ensures drained { IsJudged result → IsDrained (S.left source.old) (S.left source.new) }
-    ensures few { IsAnswer result
-        → TakesAtMost (MOST_BUNDLE + 1) (S.left source.old) (S.left source.new) }
-    ensures accepted { result ≡ Status.Done → IfSome (S.left source.old) (IsSound task) }
-    ensures passes { task ≡ tasks.Mine miners.Fill → result ≢ Status.No }
+    ensures ran { Ran (Some (jobs.OnBundle task)) (traffic S.left K.told S.faults K.faults
+        source.old source.new sink.old sink.new) result }
+    ensures unwritten { IfErr result (λ halt. halt ≢ halts.WriteFault → sink.new ≡ sink.old) }
 {
-    let Answer { text, status } = match bundle_answer(alloc, source, task) {
-        Ok(answer) => answer,
-        Err(status) => return status,
-    };
-    match deliver(sink, text.as_slice()) {
-        Ok(()) => status,
-        Err(Failed) => Status::WriteFault,
-    }
-}
-
-/// Writes the usage line.
-fn tell_usage<K: Sink>(sink: &mut K) -> Status
-    ensures ends { UsageEnds (K.told sink.old) (K.told sink.new) result }
-    ensures writes { HasWrote (K.faults sink.old) (K.faults sink.new) result }
-{
-    match deliver(sink, USAGE.as_bytes()) {
-        Ok(()) => Status::Usage,
-        Err(Failed) => Status::WriteFault,
-    }
+    let answer = bundle_answer(alloc, source, task)?;
+    deliver(sink, answer.text.as_slice(), status_of(answer.ending))
 }
 
 /// Reports on the election that the seed generates.
-fn tell_demo<K: Sink>(alloc: Global, sink: &mut K, seed: u64, voters: u32, seats: u32) -> Status
+fn demo<K: Sink>(
+    alloc: Global,
+    sink: &mut K,
+    seed: u64,
+    voters: u32,
+    seats: u32,
+) -> Result<Status, Halt>
     requires bounds { KeepsBounds (Some (jobs.Demo seed voters seats)) }
     ensures ends { DemoEnds (demo_report seed voters seats).text (K.told sink.old)
-        (K.told sink.new) (sink.new ≡ sink.old) result }
-    ensures writes { HasWrote (K.faults sink.old) (K.faults sink.new) result }
+        (K.told sink.new) result }
+    ensures faults { Counts halts.WriteFault (K.faults sink.old) (K.faults sink.new) result }
+    ensures unwritten { IfErr result (λ halt. halt ≢ halts.WriteFault → sink.new ≡ sink.old) }
 {
-    let text = match demo_text(alloc, seed, voters, seats) {
-        Ok(text) => text,
-        Err(NoMemory) => return Status::NoMemory,
-    };
-    match deliver(sink, text.as_slice()) {
-        Ok(()) => Status::Done,
-        Err(Failed) => Status::WriteFault,
-    }
+    let text = demo_text(alloc, seed, voters, seats)?;
+    deliver(sink, text.as_slice(), Status::Done)
 }
 
 /// Does the job, or writes the usage line where there is none.
@@ -125,19 +105,18 @@ fn run_job<S: Source, K: Sink>(
     job: Option<Job>,
     source: &mut S,
     sink: &mut K,
-) -> Status
+) -> Result<Status, Halt>
     requires { KeepsBounds job }
-    ensures ran { Ran job (S.left source.old) (S.left source.new) (K.told sink.old)
-        (K.told sink.new) (S.faults source.old) (S.faults source.new) (K.faults sink.old)
-        (K.faults sink.new) (source.new ≡ source.old) (sink.new ≡ sink.old) result }
-    ensures usage_memory { job ≡ None → result ≢ Status.NoMemory }
+    ensures ran { Ran job (traffic S.left K.told S.faults K.faults
+        source.old source.new sink.old sink.new) result }
+    ensures unread { (ReadsInput job → ⊥) → source.new ≡ source.old }
+    ensures unwritten { (job ≡ Some jobs.Replay → ⊥)
+        → IfErr result (λ halt. halt ≢ halts.WriteFault → sink.new ≡ sink.old) }
+    ensures usage_memory { job ≡ None → result ≢ Err halts.NoMemory }
 {
     match job {
-        None => tell_usage(sink),
-        Some(Job::Replay) => match replay(alloc, source, sink) {
-            Ok(status) => status,
-            Err(status) => status,
-        },
+        None => deliver(sink, USAGE.as_bytes(), Status::Usage),
+        Some(Job::Replay) => replay(alloc, source, sink),
         Some(Job::OnBundle(task)) => report(alloc, source, sink, task),
         Some(Job::Rewrite(way)) => rewrite(alloc, source, sink, way),
         Some(
@@ -146,7 +125,7 @@ fn run_job<S: Source, K: Sink>(
                 voters,
                 seats,
             },
-        ) => tell_demo(alloc, sink, seed, voters, seats),
+        ) => demo(alloc, sink, seed, voters, seats),
     }
 }
 
@@ -157,18 +136,18 @@ fn run_words<S: Source, K: Sink>(
     words: &[String],
     source: &mut S,
     sink: &mut K,
-) -> Status
-    ensures ran { Ran (job_of (map string_bytes words.now)) (S.left source.old)
-        (S.left source.new) (K.told sink.old) (K.told sink.new) (S.faults source.old)
-        (S.faults source.new) (K.faults sink.old) (K.faults sink.new)
-        (source.new ≡ source.old) (sink.new ≡ sink.old) result }
+) -> Result<Status, Halt>
+    ensures ran { Ran (job_of (map string_bytes words.now)) (traffic S.left K.told S.faults K.faults
+        source.old source.new sink.old sink.new) result }
+    ensures unread { (ReadsInput (job_of (map string_bytes words.now)) → ⊥)
+        → source.new ≡ source.old }
+    ensures unwritten { (job_of (map string_bytes words.now) ≡ Some jobs.Replay → ⊥)
+        → IfErr result (λ halt. halt ≢ halts.WriteFault → sink.new ≡ sink.old) }
     ensures usage_memory { has_verb (map string_bytes words.now) ≡ false
-        → result ≢ Status.NoMemory }
+        → result ≢ Err halts.NoMemory }
 {
-    match command_of(alloc, words) {
-        Ok(command) => run_job(alloc, command.map(job_of), source, sink),
-        Err(NoMemory) => Status::NoMemory,
-    }
+    let command = command_of(alloc, words)?;
+    run_job(alloc, command.map(job_of), source, sink)
 }
 
 /// Does all that the program does: finds the job that the words ask for, reads its input from the
@@ -224,8 +203,8 @@ pub fn run<S: Source, K: Sink>(
     ensures committees { IfSome (S.left source.old) SeatsAreSound }
     ensures crowding { IfSome (S.left source.old) NoneIsCrowdedOut }
     ensures eras { IfSome (S.left source.old) ErasAreKept }
-    ensures few { ReadsBundle (job_of (map string_bytes words.now)) → IsAnswer result
-        → TakesAtMost (MOST_BUNDLE + 1) (S.left source.old) (S.left source.new) }
+    ensures few { ReadsBundle (job_of (map string_bytes words.now))
+        → TakesAtMost 16777217 (S.left source.old) (S.left source.new) }
     ensures accepted { (task : task_kind)
         → job_of (map string_bytes words.now) ≡ Some (jobs.OnBundle task)
         → result ≡ Status.Done → IfSome (S.left source.old) (IsSound task) }
@@ -236,5 +215,5 @@ pub fn run<S: Source, K: Sink>(
     replays_seat_sound_committees();
     replays_crowd_nothing_out();
     replays_keep_the_bounds_of_eras();
-    run_words(alloc, words, source, sink)
+    end_of(run_words(alloc, words, source, sink))
 }

@@ -64,7 +64,7 @@ pieces-preserved g c =
       near =
           let near = reaches_near (spot c.pieces.reader c.pieces.runtime.state) (spot c.take_turns.new.reader c.take_turns.new.runtime.state) writes.2.0 writes.2.1 c.pieces.invariant.near in
           (near.0, omega (arith, near.1, ap (λ (p : Place). p.at) c.in_ok-ended-in-More.ensures.feeds.3.0));
-      reads = c.in_ok-ended-in-More.ensures.halts ∙ c.pieces.invariant.reads;
+      reads = c.in_ok-ended-in-More.ensures.faults ∙ c.pieces.invariant.reads;
       writes = c.in_ok-faulty.ensures.faults ∙ c.pieces.invariant.writes;
       course = λ left old course. course_on left (g.S.Source.left c.pieces.source) old (g.K.Sink.told c.pieces.sink) c.pieces.ended (spot c.pieces.reader c.pieces.runtime.state)
           (spot c.take_turns.new.reader c.take_turns.new.runtime.state) (g.K.Sink.told c.take_turns.new.sink) c.take_turns.new.text.items (c.pieces.invariant.course left old course)

@@ -1,6 +1,7 @@
+use Rattle.bundle_reports.specs.Answer.{report_of}
 use Rattle.npos_cli.proofs.RunLaws.{bundle_found}
 use Rattle.npos_cli.proofs.top.bundle_answer.Goals as goal
 
 pub returns-clause-due : goal.returns-clause-due
 returns-clause-due g c = bundle_found c.args.task (g.S.Source.left c.args.source.now) (g.S.Source.left c.read_up_to.new.source) c.in_ok-bytes.bytes.items
-    c.in_ok-answer.answer.text.items c.in_ok-answer.answer.status c.in_ok-bytes.ensures.read c.in_ok-answer.ensures.report
+    (report_of c.in_ok-answer.answer) c.in_ok-bytes.ensures.read c.in_ok-answer.ensures.report

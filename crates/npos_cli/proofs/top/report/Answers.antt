@@ -1,24 +1,35 @@
-use Rattle.std.proofs.Common.{Some, rules}
+use Rattle.std.proofs.Common.{◌≡◌, Some, IfSome, refl, subst}
+use Rattle.std.proofs.lemmas.Result.{err_from_is_err_and}
 use Rattle.npos_cli.specs.declared.job.Job.TheVariants as jobs
-use Rattle.npos_cli.specs.Owed.{Delivers, DeliversFront}
-use Rattle.npos_cli.proofs.StatusLaws.{found_answers}
-use Rattle.npos_cli.proofs.RunLaws.{front_delivered, front_found}
+use Rattle.bundle_reports.specs.declared.asked.Task.{Task}
+use Rattle.bundle_reports.specs.declared.asked.Task.TheVariants as tasks
+use Rattle.bundle_reports.specs.declared.asked.Miner.TheVariants as miners
+use Rattle.bundle_reports.specs.Tasks.{IsSound}
+use Rattle.npos_cli.specs.Status.{status_of}
+use Rattle.npos_cli.specs.Owed.{Ends}
+use Rattle.npos_cli.specs.Ran.{traffic}
+use Rattle.npos_cli.proofs.JobLaws.{unwritten_ran, ended_ran, ends_unwritten}
 use Rattle.npos_cli.proofs.top.report.Goals as goal
 
--- what is due has a status that answers
-pub returns-in-Ok-deliver-clause-unflushed : goal.returns-in-Ok-deliver-clause-unflushed
-returns-in-Ok-deliver-clause-unflushed g c = λ no. absurd (no (found_answers (Some (jobs.OnBundle c.args.task)) (g.S.Source.left c.args.source.now) c.in-Ok.answer.text.items c.in-Ok.answer.status
-    c.in-Ok.ensures.due))
+-- the bundle was not read whole, or memory ran out
+pub returns-in_err-answer-clause-ran : goal.returns-in_err-answer-clause-ran
+returns-in_err-answer-clause-ran g c =
+    let p = err_from_is_err_and c.from_residual.result c.from_residual.ensures.1 in
+    rw (p.1, p.2) (unwritten_ran (Some (jobs.OnBundle c.args.task)) (traffic g.S.Source.left g.K.Sink.told g.S.Source.faults g.K.Sink.faults c.args.source.now c.bundle_answer.new.source c.args.sink.now c.args.sink.now)
+    (record { other = λ e. cc; few = λ _. c.in_err-answer.ensures.few }) c.in_err-answer.field-0.0 refl refl (λ e. tt) c.in_err-answer.ensures.faults c.in_err-answer.ensures.unwritten)
 
--- the report was delivered, or a front of it
-pub returns-in-Ok-deliver-clause-front : goal.returns-in-Ok-deliver-clause-front
-returns-in-Ok-deliver-clause-front g c =
-    let told : Delivers (g.K.Sink.told c.args.sink.now) (g.K.Sink.told c.deliver.new.sink) c.in-Ok.answer.text.items = search rules in
-    front_delivered (Some (jobs.OnBundle c.args.task)) (g.S.Source.left c.args.source.now) (g.K.Sink.told c.args.sink.now) (g.K.Sink.told c.deliver.new.sink)
-    c.in-Ok.answer.text.items c.in-Ok.answer.status c.in-Ok.ensures.due told
+-- what is owed was delivered, or a front of it
+pub returns-clause-ran : goal.returns-clause-ran
+returns-clause-ran g c =
+    let answer = c.in_ok-answer.answer in
+    let ends : Ends answer.text.items (status_of answer.ending) (g.K.Sink.told c.args.sink.now) (g.K.Sink.told c.deliver.new.sink) c.deliver.result =
+    rw (c.as_slice.ensures.value, c.status_of.ensures) at c.deliver.ensures.ends in
+    ended_ran (Some (jobs.OnBundle c.args.task)) (traffic g.S.Source.left g.K.Sink.told g.S.Source.faults g.K.Sink.faults c.args.source.now c.bundle_answer.new.source c.args.sink.now c.deliver.new.sink)
+    (record { other = λ e. cc; few = λ _. c.in_ok-answer.ensures.few }) answer.text.items (status_of answer.ending) c.deliver.result c.in_ok-answer.ensures.due ends refl
+    c.deliver.ensures.faults (λ judged _. c.in_ok-answer.ensures.drained judged)
+    (λ task e done. let same : c.args.task ≡ task = cc in subst (λ (t : Task). IfSome (g.S.Source.left c.args.source.now) (IsSound t)) same (c.in_ok-answer.ensures.sound done))
+    (λ e. let same : c.args.task ≡ tasks.Mine miners.Fill = cc in c.in_ok-answer.ensures.passes same)
 
-pub returns-clause-front : goal.returns-clause-front
-returns-clause-front g c =
-    let told : DeliversFront (g.K.Sink.told c.args.sink.now) (g.K.Sink.told c.deliver.new.sink) c.in-Ok.answer.text.items = search rules in
-    front_found (Some (jobs.OnBundle c.args.task)) (g.S.Source.left c.args.source.now) (g.K.Sink.told c.args.sink.now) (g.K.Sink.told c.deliver.new.sink)
-    c.in-Ok.answer.text.items c.in-Ok.answer.status c.in-Ok.ensures.due told
+pub returns-clause-unwritten : goal.returns-clause-unwritten
+returns-clause-unwritten g c =
+    ends_unwritten (c.deliver.new.sink ≡ c.args.sink.now) _ _ (g.K.Sink.told c.args.sink.now) (g.K.Sink.told c.deliver.new.sink) c.deliver.result c.deliver.ensures.ends

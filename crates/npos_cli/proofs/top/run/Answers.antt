@@ -1,12 +1,91 @@
+use Rattle.std.proofs.Common.{◌≡◌, map, string_bytes}
+use Rattle.npos_cli.specs.Status.{end_of}
+use Rattle.npos_cli.specs.Words.{job_of}
+use Rattle.npos_cli.specs.Ran.{traffic}
+use Rattle.npos_cli.proofs.EndLaws.{answered, read_failed, read_fails, write_failed, write_fails, not_flushed, halted_reading, halted_writing, starved, drained, accepted, passes, nothing_written, never_starves}
 use Rattle.npos_cli.proofs.StreamLaws.{stream_done}
 use Rattle.npos_cli.proofs.top.run.Goals as goal
+
+-- each clause, by what the run came to
+pub returns-clause-answers : goal.returns-clause-answers
+returns-clause-answers g c =
+    rw c.end_of.ensures (answered (job_of (map string_bytes c.args.words.now)) (traffic g.S.Source.left g.K.Sink.told g.S.Source.faults g.K.Sink.faults c.args.source.now c.run_words.new.source c.args.sink.now c.run_words.new.sink)
+    c.run_words.result c.run_words.ensures.ran)
+
+pub returns-clause-read_fault : goal.returns-clause-read_fault
+returns-clause-read_fault g c =
+    rw c.end_of.ensures (read_failed (job_of (map string_bytes c.args.words.now)) (traffic g.S.Source.left g.K.Sink.told g.S.Source.faults g.K.Sink.faults c.args.source.now c.run_words.new.source c.args.sink.now c.run_words.new.sink)
+    c.run_words.result c.run_words.ensures.ran)
+
+pub returns-clause-read_fault_comes : goal.returns-clause-read_fault_comes
+returns-clause-read_fault_comes g c =
+    rw c.end_of.ensures (read_fails (job_of (map string_bytes c.args.words.now)) (traffic g.S.Source.left g.K.Sink.told g.S.Source.faults g.K.Sink.faults c.args.source.now c.run_words.new.source c.args.sink.now c.run_words.new.sink)
+    c.run_words.result c.run_words.ensures.ran)
+
+pub returns-clause-write_fault : goal.returns-clause-write_fault
+returns-clause-write_fault g c =
+    rw c.end_of.ensures (write_failed (job_of (map string_bytes c.args.words.now)) (traffic g.S.Source.left g.K.Sink.told g.S.Source.faults g.K.Sink.faults c.args.source.now c.run_words.new.source c.args.sink.now c.run_words.new.sink)
+    c.run_words.result c.run_words.ensures.ran)
+
+pub returns-clause-write_fault_comes : goal.returns-clause-write_fault_comes
+returns-clause-write_fault_comes g c =
+    rw c.end_of.ensures (write_fails (job_of (map string_bytes c.args.words.now)) (traffic g.S.Source.left g.K.Sink.told g.S.Source.faults g.K.Sink.faults c.args.source.now c.run_words.new.source c.args.sink.now c.run_words.new.sink)
+    c.run_words.result c.run_words.ensures.ran)
+
+pub returns-clause-unflushed : goal.returns-clause-unflushed
+returns-clause-unflushed g c =
+    rw c.end_of.ensures (not_flushed (job_of (map string_bytes c.args.words.now)) (traffic g.S.Source.left g.K.Sink.told g.S.Source.faults g.K.Sink.faults c.args.source.now c.run_words.new.source c.args.sink.now c.run_words.new.sink)
+    c.run_words.result c.run_words.ensures.ran)
+
+pub returns-clause-halted_reading : goal.returns-clause-halted_reading
+returns-clause-halted_reading g c =
+    rw c.end_of.ensures (halted_reading (job_of (map string_bytes c.args.words.now)) (traffic g.S.Source.left g.K.Sink.told g.S.Source.faults g.K.Sink.faults c.args.source.now c.run_words.new.source c.args.sink.now c.run_words.new.sink)
+    c.run_words.result c.run_words.ensures.ran)
+
+pub returns-clause-halted_writing : goal.returns-clause-halted_writing
+returns-clause-halted_writing g c =
+    rw c.end_of.ensures (halted_writing (job_of (map string_bytes c.args.words.now)) (traffic g.S.Source.left g.K.Sink.told g.S.Source.faults g.K.Sink.faults c.args.source.now c.run_words.new.source c.args.sink.now c.run_words.new.sink)
+    c.run_words.result c.run_words.ensures.ran)
+
+pub returns-clause-starved : goal.returns-clause-starved
+returns-clause-starved g c =
+    rw c.end_of.ensures (starved (job_of (map string_bytes c.args.words.now)) (traffic g.S.Source.left g.K.Sink.told g.S.Source.faults g.K.Sink.faults c.args.source.now c.run_words.new.source c.args.sink.now c.run_words.new.sink)
+    c.run_words.result c.run_words.ensures.ran)
+
+pub returns-clause-drained : goal.returns-clause-drained
+returns-clause-drained g c =
+    rw c.end_of.ensures (drained (job_of (map string_bytes c.args.words.now)) (traffic g.S.Source.left g.K.Sink.told g.S.Source.faults g.K.Sink.faults c.args.source.now c.run_words.new.source c.args.sink.now c.run_words.new.sink)
+    c.run_words.result c.run_words.ensures.ran)
+
+pub returns-clause-accepted : goal.returns-clause-accepted
+returns-clause-accepted g c =
+    rw c.end_of.ensures (accepted (job_of (map string_bytes c.args.words.now)) (traffic g.S.Source.left g.K.Sink.told g.S.Source.faults g.K.Sink.faults c.args.source.now c.run_words.new.source c.args.sink.now c.run_words.new.sink)
+    c.run_words.result c.run_words.ensures.ran)
+
+pub returns-clause-passes : goal.returns-clause-passes
+returns-clause-passes g c =
+    rw c.end_of.ensures (passes (job_of (map string_bytes c.args.words.now)) (traffic g.S.Source.left g.K.Sink.told g.S.Source.faults g.K.Sink.faults c.args.source.now c.run_words.new.source c.args.sink.now c.run_words.new.sink)
+    c.run_words.result c.run_words.ensures.ran)
 
 pub returns-clause-front : goal.returns-clause-front
 returns-clause-front g c = c.run_words.ensures.ran.front
 
+pub returns-clause-unwritten : goal.returns-clause-unwritten
+returns-clause-unwritten g c =
+    rw c.end_of.ensures (λ other. nothing_written (job_of (map string_bytes c.args.words.now)) (traffic g.S.Source.left g.K.Sink.told g.S.Source.faults g.K.Sink.faults c.args.source.now c.run_words.new.source c.args.sink.now c.run_words.new.sink)
+    (c.run_words.new.sink ≡ c.args.sink.now) c.run_words.result c.run_words.ensures.ran (c.run_words.ensures.unwritten other))
+
+pub returns-clause-usage_memory : goal.returns-clause-usage_memory
+returns-clause-usage_memory g c =
+    rw c.end_of.ensures (λ none. never_starves (job_of (map string_bytes c.args.words.now)) (traffic g.S.Source.left g.K.Sink.told g.S.Source.faults g.K.Sink.faults c.args.source.now c.run_words.new.source c.args.sink.now c.run_words.new.sink)
+    c.run_words.result c.run_words.ensures.ran (c.run_words.ensures.usage_memory none))
+
 pub returns-clause-whole : goal.returns-clause-whole
-returns-clause-whole g c replays stream no_read no_write =
+returns-clause-whole g c =
+    let t = (traffic g.S.Source.left g.K.Sink.told g.S.Source.faults g.K.Sink.faults c.args.source.now c.run_words.new.source c.args.sink.now c.run_words.new.sink) in
     let ran = c.run_words.ensures.ran in
-    stream_done _ (g.S.Source.left c.args.source.now) (g.K.Sink.told c.args.sink.now) (g.K.Sink.told c.run_words.new.sink)
-    (g.S.Source.faults c.args.source.now) (g.S.Source.faults c.run_words.new.source) (g.K.Sink.faults c.args.sink.now) (g.K.Sink.faults c.run_words.new.sink)
-    c.run_words.result replays stream no_read no_write ran.answers ran.read_fault ran.write_fault
+    let end = c.run_words.result in
+    rw c.end_of.ensures (λ replays stream no_read no_write.
+    stream_done (job_of (map string_bytes c.args.words.now)) t.left t.told t.told_now t.read_faults t.read_faults_now t.write_faults t.write_faults_now
+    (end_of end) replays stream no_read no_write (answered (job_of (map string_bytes c.args.words.now)) t end ran)
+    (read_failed (job_of (map string_bytes c.args.words.now)) t end ran) (write_failed (job_of (map string_bytes c.args.words.now)) t end ran))

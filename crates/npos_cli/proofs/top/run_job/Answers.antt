@@ -1,46 +1,31 @@
 use Rattle.std.proofs.Common.{rules, ◌≡◌, Some, refl}
 use Rattle.npos_cli.specs.declared.job.Job.TheVariants as jobs
-use Rattle.npos_cli.proofs.JobLaws.{usage_ran, demo_ran, report_ran, rewrite_ran, replay_ran, replay_halted}
+use Rattle.npos_cli.specs.declared.status.Status.TheVariants as statuses
+use Rattle.npos_cli.specs.Words.{usage_line}
+use Rattle.npos_cli.specs.Owed.{Ends}
+use Rattle.npos_cli.specs.Ran.{traffic}
+use Rattle.npos_cli.proofs.JobLaws.{usage_ran, usage_never_starves, demo_ran, replay_ran}
 use Rattle.npos_cli.proofs.top.run_job.Goals as goal
 
 pub returns-in-None-clause-ran : goal.returns-in-None-clause-ran
-returns-in-None-clause-ran g c = rw c.in-None.is (usage_ran (g.S.Source.left c.args.source.now) (g.K.Sink.told c.args.sink.now) (g.K.Sink.told c.tell_usage.new.sink) (g.S.Source.faults c.args.source.now)
-    (g.K.Sink.faults c.args.sink.now) (g.K.Sink.faults c.tell_usage.new.sink) (c.args.source.now ≡ c.args.source.now) (c.tell_usage.new.sink ≡ c.args.sink.now) c.tell_usage.result refl
-    c.tell_usage.ensures.ends c.tell_usage.ensures.writes)
+returns-in-None-clause-ran g c =
+    let ends : Ends usage_line statuses.Usage (g.K.Sink.told c.args.sink.now) (g.K.Sink.told c.deliver.new.sink) c.deliver.result = search rules in
+    rw c.in-None.is (usage_ran (traffic g.S.Source.left g.K.Sink.told g.S.Source.faults g.K.Sink.faults c.args.source.now c.args.source.now c.args.sink.now c.deliver.new.sink)
+    c.deliver.result ends refl c.deliver.ensures.faults)
 
-pub returns-in-Ok-clause-ran : goal.returns-in-Ok-clause-ran
-returns-in-Ok-clause-ran g c =
+pub returns-in-None-clause-usage_memory : goal.returns-in-None-clause-usage_memory
+returns-in-None-clause-usage_memory g c =
+    let ends : Ends usage_line statuses.Usage (g.K.Sink.told c.args.sink.now) (g.K.Sink.told c.deliver.new.sink) c.deliver.result = search rules in
+    λ none. usage_never_starves (g.K.Sink.told c.args.sink.now) (g.K.Sink.told c.deliver.new.sink) c.deliver.result ends
+
+pub returns-in-Some-Replay-clause-ran : goal.returns-in-Some-Replay-clause-ran
+returns-in-Some-Replay-clause-ran g c =
     let job : c.args.job ≡ Some jobs.Replay = search rules in
-    rw job (replay_ran (g.S.Source.left c.args.source.now) (g.S.Source.left c.replay.new.source) (g.K.Sink.told c.args.sink.now) (g.K.Sink.told c.replay.new.sink) (g.S.Source.faults c.args.source.now)
-    (g.S.Source.faults c.replay.new.source) (g.K.Sink.faults c.args.sink.now) (g.K.Sink.faults c.replay.new.sink) (c.replay.new.source ≡ c.args.source.now) (c.replay.new.sink ≡ c.args.sink.now) c.in-Ok.status
-    c.in-Ok.ensures.ends c.in-Ok.ensures.reads c.in-Ok.ensures.writes)
-
-pub returns-in-Err-clause-ran : goal.returns-in-Err-clause-ran
-returns-in-Err-clause-ran g c =
-    let job : c.args.job ≡ Some jobs.Replay = search rules in
-    rw job (replay_halted (g.S.Source.left c.args.source.now) (g.S.Source.left c.replay.new.source) (g.K.Sink.told c.args.sink.now) (g.K.Sink.told c.replay.new.sink) (g.S.Source.faults c.args.source.now)
-    (g.S.Source.faults c.replay.new.source) (g.K.Sink.faults c.args.sink.now) (g.K.Sink.faults c.replay.new.sink) (c.replay.new.source ≡ c.args.source.now) (c.replay.new.sink ≡ c.args.sink.now) c.in-Err.status
-    c.in-Err.ensures.ends c.in-Err.ensures.reads c.in-Err.ensures.writes)
-
-pub returns-in-Some-OnBundle-clause-ran : goal.returns-in-Some-OnBundle-clause-ran
-returns-in-Some-OnBundle-clause-ran g c =
-    let job : c.args.job ≡ Some (jobs.OnBundle c.in-Some-OnBundle.task) = search rules in
-    rw job (report_ran c.in-Some-OnBundle.task (g.S.Source.left c.args.source.now) (g.S.Source.left c.report.new.source) (g.K.Sink.told c.args.sink.now) (g.K.Sink.told c.report.new.sink)
-    (g.S.Source.faults c.args.source.now) (g.S.Source.faults c.report.new.source) (g.K.Sink.faults c.args.sink.now) (g.K.Sink.faults c.report.new.sink) (c.report.new.source ≡ c.args.source.now)
-    (c.report.new.sink ≡ c.args.sink.now) c.report.result c.report.ensures.answers c.report.ensures.front c.report.ensures.reads c.report.ensures.writes c.report.ensures.unwritten c.report.ensures.unflushed
-    c.report.ensures.drained c.report.ensures.few c.report.ensures.accepted c.report.ensures.passes)
+    rw job (replay_ran (traffic g.S.Source.left g.K.Sink.told g.S.Source.faults g.K.Sink.faults c.args.source.now c.replay.new.source c.args.sink.now c.replay.new.sink)
+    c.replay.result c.replay.ensures.ends c.replay.ensures.reads c.replay.ensures.writes)
 
 pub returns-in-Some-Demo-clause-ran : goal.returns-in-Some-Demo-clause-ran
 returns-in-Some-Demo-clause-ran g c =
     let job : c.args.job ≡ Some (jobs.Demo c.in-Some-Demo.seed c.in-Some-Demo.voters c.in-Some-Demo.seats) = search rules in
-    rw job (demo_ran c.in-Some-Demo.seed c.in-Some-Demo.voters c.in-Some-Demo.seats (g.S.Source.left c.args.source.now) (g.K.Sink.told c.args.sink.now) (g.K.Sink.told c.tell_demo.new.sink)
-    (g.S.Source.faults c.args.source.now) (g.K.Sink.faults c.args.sink.now) (g.K.Sink.faults c.tell_demo.new.sink) (c.args.source.now ≡ c.args.source.now) (c.tell_demo.new.sink ≡ c.args.sink.now)
-    c.tell_demo.result refl c.tell_demo.ensures.ends c.tell_demo.ensures.writes)
-
-pub returns-in-Some-Rewrite-clause-ran : goal.returns-in-Some-Rewrite-clause-ran
-returns-in-Some-Rewrite-clause-ran g c =
-    let job : c.args.job ≡ Some (jobs.Rewrite c.in-Some-Rewrite.way) = search rules in
-    rw job (rewrite_ran c.in-Some-Rewrite.way (g.S.Source.left c.args.source.now) (g.S.Source.left c.rewrite.new.source) (g.K.Sink.told c.args.sink.now) (g.K.Sink.told c.rewrite.new.sink)
-    (g.S.Source.faults c.args.source.now) (g.S.Source.faults c.rewrite.new.source) (g.K.Sink.faults c.args.sink.now) (g.K.Sink.faults c.rewrite.new.sink) (c.rewrite.new.source ≡ c.args.source.now)
-    (c.rewrite.new.sink ≡ c.args.sink.now) c.rewrite.result c.rewrite.ensures.answers c.rewrite.ensures.front c.rewrite.ensures.reads c.rewrite.ensures.writes c.rewrite.ensures.unwritten
-    c.rewrite.ensures.unflushed c.rewrite.ensures.drained c.rewrite.ensures.few)
+    rw job (demo_ran c.in-Some-Demo.seed c.in-Some-Demo.voters c.in-Some-Demo.seats (traffic g.S.Source.left g.K.Sink.told g.S.Source.faults g.K.Sink.faults c.args.source.now c.args.source.now c.args.sink.now c.demo.new.sink)
+    c.demo.result c.demo.ensures.ends refl c.demo.ensures.faults)

@@ -1,8 +1,9 @@
 //! How a run ends.
 ghost use Rattle.std.specs.Prelude.{◌≡◌};
-ghost use Rattle.bundle_reports.specs.Status.{number_of};
-ghost use Rattle.bundle_reports.specs.declared.status.Status.TheVariants as statuses;
+ghost use Rattle.npos_cli.specs.Status.{number_of, status_of};
+ghost use Rattle.npos_cli.specs.declared.status.Status.TheVariants as statuses;
 
+use bundle_reports::Ending;
 use npos_base::NoMemory;
 
 /// How a run ended. Its number is the exit status of the program.
@@ -46,5 +47,16 @@ impl From<NoMemory> for Status {
 
     fn from(_memory: NoMemory) -> Status {
         Status::NoMemory
+    }
+}
+
+/// The status of a run whose report ends so.
+pub fn status_of(ending: Ending) -> Status
+    ensures { result ≡ status_of ending }
+{
+    match ending {
+        Ending::Done => Status::Done,
+        Ending::No => Status::No,
+        Ending::BadInput => Status::BadInput,
     }
 }

@@ -1,7 +1,7 @@
 use Rattle.std.proofs.Common.{◌≡◌, ◌++◌, take}
 use Rattle.std.specs.List.{flat_map}
-use Rattle.bundle_reports.specs.Pieces.{piece_text}
-use Rattle.bundle_reports.proofs.telling.tell.Given as goal
+use Rattle.told_lines.specs.Pieces.{piece_text}
+use Rattle.told_lines.proofs.pieces.tell.Given as goal
 
 abbrev pub invariant-loop-piece : goal.invariant-loop-piece
 invariant-loop-piece l = l.text.items ≡ l.fn.text.items ++ flat_map piece_text (take l.piece-index l.pieces)

@@ -1,0 +1,35 @@
+-- The statuses of runs: their numbers, and what they tell.
+use Rattle.std.specs.Prelude.{ℕ, Result, Ok, Err}
+use Rattle.bundle_reports.specs.declared.ending.Ending.{Ending}
+use Rattle.bundle_reports.specs.declared.ending.Ending.TheVariants as endings
+use Rattle.npos_cli.specs.declared.halt.Halt.{Halt}
+use Rattle.npos_cli.specs.declared.halt.Halt.TheVariants as halts
+use Rattle.npos_cli.specs.declared.status.Status.{Status}
+use Rattle.npos_cli.specs.declared.status.Status.TheVariants.{Done, No, Usage, BadInput, ReadFault, WriteFault, NoMemory}
+
+-- the number of a status is the exit status of the program
+abbrev pub number_of : Status → ℕ
+number_of Done = 0
+number_of No = 1
+number_of Usage = 2
+number_of BadInput = 3
+number_of ReadFault = 4
+number_of WriteFault = 5
+number_of NoMemory = 6
+
+-- how a run ends that is cut off
+abbrev pub halted_by : Halt → Status
+halted_by halts.ReadFault = ReadFault
+halted_by halts.WriteFault = WriteFault
+halted_by halts.NoMemory = NoMemory
+
+-- how a run ends that has this answer, or is cut off
+abbrev pub end_of : Result Status Halt → Status
+end_of (Ok status) = status
+end_of (Err halt) = halted_by halt
+
+-- how a run ends whose report ends so
+abbrev pub status_of : Ending → Status
+status_of endings.Done = Done
+status_of endings.No = No
+status_of endings.BadInput = BadInput

@@ -1,0 +1,20 @@
+-- The words and numbers of lines. Numbers are decimal, and every line ends with a newline.
+use Rattle.std.specs.Prelude.{ℕ, List, [], ◌∷◌, ◌++◌, flat_map, codes, decimal}
+use Rattle.hex.specs.Hex.{encode_lower}
+use Rattle.npos_base.specs.declared.account.AccountId.{AccountId}
+use Rattle.npos_base.specs.Account.{account_bytes}
+
+abbrev pub newline : List ℕ
+newline = 10 ∷ []
+
+-- the bytes of an account, each as two digits in hexadecimal, in lower case
+abbrev pub account_text : AccountId → List ℕ
+account_text who = encode_lower (account_bytes who)
+
+-- a number behind a blank
+abbrev pub number_text : ℕ → List ℕ
+number_text number = codes " " ++ decimal number
+
+-- words, and then numbers behind a blank each
+abbrev pub numbers_line : List ℕ → List ℕ → List ℕ
+numbers_line words numbers = words ++ (flat_map number_text numbers ++ newline)

@@ -1,0 +1,63 @@
+//! The pieces of lines.
+ghost use Rattle.std.specs.Prelude.{◌≡◌, ◌++◌, flat_map, OnOk};
+ghost use Rattle.told_lines.specs.Texts.{account_text, number_text};
+ghost use Rattle.told_lines.specs.Pieces.{piece_text};
+
+use hex::encode_to_slice;
+use itoa::Buffer;
+use npos_base::{AccountId, NoMemory};
+
+/// A piece of a line.
+#[derive(Clone, Copy)]
+pub enum Piece<'a> {
+    /// Words, as they are. A line ends with a newline, which is among the words.
+    Words(&'a str),
+    /// A number, in decimal.
+    Number(u64),
+    /// A number in decimal, behind a blank.
+    Detail(u128),
+    /// An account: its 32 bytes, each as two digits in hexadecimal, in lower case.
+    Account(AccountId),
+}
+
+/// Appends an account.
+fn tell_account(text: &mut Vec<u8>, who: AccountId) -> Result<(), NoMemory>
+    ensures { OnOk result (text.new.items ≡ text.old.items ++ account_text who) }
+{
+    let mut digits = [0; 64];
+    encode_to_slice(who.to_bytes(), &mut digits).unwrap();
+    text.extend_from_slice(&digits)?;
+    Ok(())
+}
+
+/// Appends a number behind a blank.
+fn tell_detail(text: &mut Vec<u8>, number: u128) -> Result<(), NoMemory>
+    ensures { OnOk result (text.new.items ≡ text.old.items ++ number_text number) }
+{
+    text.extend_from_slice(b" ")?;
+    text.extend_from_slice(Buffer::new().format(number).as_bytes())?;
+    Ok(())
+}
+
+/// Appends one piece.
+fn tell_piece(text: &mut Vec<u8>, piece: &Piece<'_>) -> Result<(), NoMemory>
+    ensures { OnOk result (text.new.items ≡ text.old.items ++ piece_text piece.now) }
+{
+    match piece {
+        Piece::Words(words) => text.extend_from_slice(words.as_bytes())?,
+        Piece::Number(number) => text.extend_from_slice(Buffer::new().format(*number).as_bytes())?,
+        Piece::Detail(number) => tell_detail(text, *number)?,
+        Piece::Account(who) => tell_account(text, *who)?,
+    }
+    Ok(())
+}
+
+/// Appends the pieces in order. Where memory is refused, the text may end behind any of them.
+pub fn tell(text: &mut Vec<u8>, pieces: &[Piece<'_>]) -> Result<(), NoMemory>
+    ensures { OnOk result (text.new.items ≡ text.old.items ++ flat_map piece_text pieces.now) }
+{
+    for piece in pieces {
+        tell_piece(text, piece)?;
+    }
+    Ok(())
+}
