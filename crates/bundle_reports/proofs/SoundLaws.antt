@@ -108,7 +108,7 @@ sound_mine (miners.Mms rounds) election report well (own, mined, is) done =
     sound_packed (miners.Mms rounds) election own (packed_of election.snapshot own) report well refl (mms_gives rounds election.snapshot own mined)
     (λ weights expands. (own, mined, expands)) is done
 
-sound_task : (task : Task) (size : ℕ) (election : Election) (report : Report) → IsWellFormed election.snapshot → IsTaskReport task size election report
+pub sound_task : (task : Task) (size : ℕ) (election : Election) (report : Report) → IsWellFormed election.snapshot → IsTaskReport task size election report
     → report.ending ≡ endings.Done → IsSoundElection task election
 sound_task tasks.Check size election report well is done = sound_check size election.snapshot election.work report well is done
 sound_task (tasks.Mine miner) size election report well is done = sound_mine miner election report well is done

@@ -64,7 +64,7 @@ pub fn checker_of(alloc: Global, snapshot: Snapshot) -> Result<Checker, NoMemory
 }
 
 /// The verdict on a committee and edges.
-fn plain_verdict(
+pub fn plain_verdict(
     alloc: Global,
     snapshot: Snapshot,
     committee: &[u16],
@@ -79,7 +79,7 @@ fn plain_verdict(
 }
 
 /// The verdict on bytes with a claimed score.
-fn packed_verdict(
+pub fn packed_verdict(
     alloc: Global,
     snapshot: Snapshot,
     claim: &Score,

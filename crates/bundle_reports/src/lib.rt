@@ -17,8 +17,11 @@ mod telling;
 
 pub use answers::Answer;
 pub use asked::{Miner, Rewriting, Task};
+pub use checking::{checker_of, packed_verdict, plain_verdict};
 pub use demo::demo_text;
+pub use election::snapshot_of;
 pub use ending::Ending;
+pub use mining::{Judged, judge, packed_weights};
 pub use numbers::{tell_member, tell_verdict};
 pub use reading::{Election, MOST_BUNDLE};
 pub use rewriting::rewrite_bytes;

@@ -1,0 +1,5 @@
+pub mod Buffers
+pub mod Findings
+pub mod Asked
+pub mod Answers
+pub mod Mining

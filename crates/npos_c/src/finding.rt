@@ -1,0 +1,145 @@
+//! What is found of a bundle, and the numbers that it is told by.
+ghost use Rattle.std.specs.Prelude.{◌≡◌, ◌/◌, ◌%◌, ◌^◌, [], ◌∷◌};
+ghost use Rattle.election_check.specs.Number.{number_of};
+ghost use Rattle.bundle_reports.specs.Verdicts.{verdict_details, fault_numbers};
+ghost use Rattle.npos_c.specs.Findings.{figures, told_as};
+
+use bundle_reports::MOST_BUNDLE;
+use election_check::Verdict;
+use election_snapshot::SnapshotFault;
+use npos_base::{MOST_TARGETS, MOST_VOTERS};
+use scale_wire::fault::WireFault;
+
+/// What is found of the bytes of a bundle.
+#[derive(Clone, Copy, Debug)]
+pub enum Finding {
+    /// The verdict on the work, or on what was mined.
+    Judged(Verdict),
+    /// The lowest member to whom no edge is kept as weights are packed.
+    Lost(u16),
+    /// The bytes spell no bundle.
+    Refused(WireFault),
+    /// The election of the bundle has this fault.
+    Unelectable(SnapshotFault),
+    /// The work of the bundle is nothing; its tag stands at this place.
+    Unsolved(u64),
+    /// There are more bytes than a bundle has.
+    Long,
+}
+
+/// What is found of a bundle, in numbers: of which kind it is, its number among those of its kind,
+/// and up to three details. A detail that it does not have is 0. The third stands in two parts of
+/// 64 bits.
+#[repr(C)]
+#[derive(Clone, Copy, Debug)]
+pub struct NposFinding {
+    pub kind: u32,
+    pub number: u32,
+    pub first: u64,
+    pub second: u64,
+    pub third_high: u64,
+    pub third_low: u64,
+}
+
+/// The kinds of findings.
+const JUDGED: u32 = 0;
+const LOST: u32 = 1;
+const REFUSED: u32 = 2;
+const UNELECTABLE: u32 = 3;
+const UNSOLVED: u32 = 4;
+const LONG: u32 = 5;
+
+/// The upper 64 bits of a number, and the lower ones.
+pub fn halves_of(number: u128) -> (u64, u64)
+    ensures high { result.0 ≡ number / 2 ^ 64 }
+    ensures low { result.1 ≡ number % 2 ^ 64 }
+{
+    let step = u128::from(u64::MAX) + 1;
+    ((number / step) as u64, (number % step) as u64)
+}
+
+/// A finding with at most two details.
+fn figures(kind: u32, number: u32, first: u64, second: u64) -> NposFinding
+    ensures { result ≡ figures kind (number ∷ first ∷ second ∷ []) }
+{
+    NposFinding {
+        kind,
+        number,
+        first,
+        second,
+        third_high: 0,
+        third_low: 0,
+    }
+}
+
+/// A verdict in numbers.
+fn verdict_figures(verdict: Verdict) -> NposFinding
+    ensures { result ≡ figures JUDGED (number_of verdict ∷ verdict_details verdict) }
+{
+    match verdict {
+        Verdict::Yes => figures(JUDGED, 0, 0, 0),
+        Verdict::Undecodable { at, why } => figures(JUDGED, 1, at, u64::from(why.number())),
+        Verdict::NoVoter(voter) => figures(JUDGED, 2, u64::from(voter), 0),
+        Verdict::NoTarget(target) => figures(JUDGED, 3, u64::from(target), 0),
+        Verdict::VoterTwice(voter) => figures(JUDGED, 4, u64::from(voter), 0),
+        Verdict::TargetTwice(target) => figures(JUDGED, 5, u64::from(target), 0),
+        Verdict::NotNominated { voter, target } => {
+            figures(JUDGED, 6, u64::from(voter), u64::from(target))
+        }
+        Verdict::BadShare(voter) => figures(JUDGED, 7, u64::from(voter), 0),
+        Verdict::WrongSize(found) => figures(JUDGED, 8, u64::from(found), 0),
+        Verdict::WrongScore(actual) => {
+            let (third_high, third_low) = halves_of(actual.squares);
+            NposFinding {
+                kind: JUDGED,
+                number: 9,
+                first: actual.minimal,
+                second: actual.sum,
+                third_high,
+                third_low,
+            }
+        }
+        Verdict::Outweighed { target, prescore } => {
+            figures(JUDGED, 10, u64::from(target), prescore)
+        }
+        Verdict::Overspent(voter) => figures(JUDGED, 11, u64::from(voter), 0),
+    }
+}
+
+/// A fault of an election in numbers.
+fn fault_figures(fault: SnapshotFault) -> NposFinding
+    ensures { result ≡ figures UNELECTABLE (fault_numbers fault) }
+{
+    match fault {
+        SnapshotFault::Few { targets, seats } => {
+            figures(UNELECTABLE, 1, u64::from(targets), u64::from(seats))
+        }
+        SnapshotFault::Poor { total, seats } => figures(UNELECTABLE, 2, total, u64::from(seats)),
+        SnapshotFault::RepeatedTarget(place) => figures(UNELECTABLE, 3, u64::from(place), 0),
+        SnapshotFault::RepeatedVoter(place) => figures(UNELECTABLE, 4, u64::from(place), 0),
+        SnapshotFault::UnknownTarget(place) => figures(UNELECTABLE, 5, u64::from(place), 0),
+        SnapshotFault::RepeatedVote(place) => figures(UNELECTABLE, 6, u64::from(place), 0),
+        SnapshotFault::NoVotes(place) => figures(UNELECTABLE, 7, u64::from(place), 0),
+        SnapshotFault::ZeroStake(place) => figures(UNELECTABLE, 8, u64::from(place), 0),
+        SnapshotFault::TooManyTargets => figures(UNELECTABLE, 9, MOST_TARGETS as u64, 0),
+        SnapshotFault::TooManyVoters => figures(UNELECTABLE, 10, MOST_VOTERS as u64, 0),
+        SnapshotFault::TooManyVotes(place) => figures(UNELECTABLE, 11, u64::from(place), 0),
+        SnapshotFault::TotalTooLarge(place) => figures(UNELECTABLE, 12, u64::from(place), 0),
+        SnapshotFault::BadSeats(seats) => figures(UNELECTABLE, 13, u64::from(seats), 0),
+        SnapshotFault::NoMemory => figures(UNELECTABLE, 0, 0, 0),
+    }
+}
+
+/// A finding in numbers.
+pub fn told_as(finding: Finding) -> NposFinding
+    ensures { result ≡ told_as finding }
+{
+    match finding {
+        Finding::Judged(verdict) => verdict_figures(verdict),
+        Finding::Lost(member) => figures(LOST, 0, u64::from(member), 0),
+        Finding::Refused(fault) => figures(REFUSED, u32::from(fault.why.number()), fault.at, 0),
+        Finding::Unelectable(fault) => fault_figures(fault),
+        Finding::Unsolved(at) => figures(UNSOLVED, 0, at, 0),
+        Finding::Long => figures(LONG, 0, MOST_BUNDLE as u64, 0),
+    }
+}
