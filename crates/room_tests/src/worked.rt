@@ -46,9 +46,10 @@ impl Case {
         let edges = weights.edges();
         weights.committee() == self.members
             && edges.len() == self.edges.len()
-            && edges
-                .iter()
-                .zip(self.edges)
-                .all(|(edge, worked)| (edge.voter, edge.target, edge.amount) == *worked)
+            && edges.iter().zip(self.edges).all(|(edge, worked)| (
+                edge.voter,
+                edge.target,
+                edge.amount,
+            ) == *worked)
     }
 }
