@@ -1,28 +1,18 @@
 -- What the tables by voter and by target say once they are filled.
-use Rattle.std.proofs.Common.{◌≡◌, ℕ, ◌+◌, ◌-◌, ◌<◌, ◌≤◌, min, Bool, true, false, cond, not, ◌||◌, nat_eq, nat_le, List, length, take, get_or, set, filter, sum_by, option_map, Ok, Err, ◌⊎◌, inl, inr, refl, sym, ap, subst, ◌∙◌, arith, Option, Some, None, find, All, ap₂, ◌&&◌}
-use Rattle.std.specs.List.{IsDistinct, range_with_len}
-use Rattle.std.proofs.Math.Nat.{div-le_of_le-mul, mul-le-mul_left, mul_comm}
-use Rattle.std.proofs.lemmas.List.{take_all, length-take, length-set, get_or-take, get_or_default, get_or-set_same, get_or-set_other}
-use Rattle.std.proofs.lemmas.List.Elements.{All-filter}
-use Rattle.std.proofs.lemmas.List.FromFn.{get_or-range_with_len, length-range_with_len}
-use Rattle.std.proofs.lemmas.List.Sums.{sum_by_push}
-use Rattle.std.proofs.lemmas.List.Folds.{list_any_more, list_any_none}
-use Rattle.std.proofs.lemmas.Bool.{cases_eq, cond-true, cond-false, lt-ltb, le-ltb, eq-eqb, ne_eqb, or_right}
-use Rattle.std.proofs.lemmas.Bool.Decides.{Decides-eqb}
-use Rattle.std.proofs.lemmas.Map.Made.{AllPairs-from_IsDistinct}
+use Rattle.std.proofs.Common.{◌≡◌, ℕ, ◌<◌, ◌≤◌, Bool, false, not, nat_le, List, length, take, get_or, option_map, Ok, Err, refl, sym, ap, ◌∙◌, arith, Option, Some, None, find, ap₂, ◌&&◌}
+use Rattle.std.specs.List.{range_with_len}
+use Rattle.std.proofs.lemmas.List.{take_all}
+use Rattle.std.proofs.lemmas.Bool.{lt-ltb, le-ltb}
 use Rattle.npos_base.specs.declared.figures.Edge.{Edge}
-use Rattle.election_snapshot.specs.Snapshot.{Snapshot, has, nominates, stake_of, total_stake, threshold}
-use Rattle.weight_book.specs.Weights.{Weights, IsFeasible, edges_from, edges_to, support, spent, amount_sum}
-use Rattle.weight_book.specs.Passing.{pay, nominators}
-use Rattle.weight_book.proofs.SumLemmas.{sum_filter_more, sum_filter_push, sum_filter-le, sum_filter-take-le, sum_le}
-use Rattle.weight_book.proofs.StakeLemmas.{range_more, stakes_before}
+use Rattle.election_snapshot.specs.Snapshot.{Snapshot, stake_of, threshold}
+use Rattle.weight_book.specs.Weights.{Weights, spent}
 use Rattle.election_check.specs.declared.fault.Fault.TheVariants.{Outweighed, Overspent}
 use Rattle.election_check.specs.First.{answer_of}
-use Rattle.election_check.specs.Kept.{AreMarks, left_of, reaches, reached}
-use Rattle.election_check.specs.Steps.{outweighed, outweighs, prescore_of, slack_of}
+use Rattle.election_check.specs.Kept.{AreMarks, reaches, reached}
+use Rattle.election_check.specs.Steps.{outweighed, outweighs, prescore_of}
 use Rattle.election_check.specs.Plain.{overspent, overspends}
 use Rattle.election_check.proofs.FirstLemmas.{lowest_found, none_found, find_agree, found_below}
-use Rattle.election_check.proofs.StepLemmas.{AreSpent, ArePaid}
+use Rattle.election_check.proofs.StepLemmas.{AreSpent}
 
 -- ---- spending
 module _ (snapshot : Snapshot) (edges : List Edge) (i lowest : ℕ) (left : List ℕ) (so_far : AreSpent snapshot edges i lowest left) (ends : length edges ≤ i) where

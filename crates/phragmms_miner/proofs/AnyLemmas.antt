@@ -1,26 +1,26 @@
 -- Every election with enough targets has a run: turns unit by unit, rounds of them, seat after seat.
-use Rattle.std.proofs.Common.{◌≡◌, ◌⊎◌, ℕ, zero, suc, ◌+◌, ◌-◌, ◌*◌, ◌<◌, ◌≤◌, ◌&&◌, ◌||◌, Bool, true, false, cond, not, nat_eq, nat_lt, if◌then◌else◌, List, [], ◌∷◌, ◌++◌, length, filter, get_or, All, inl, inr, refl, ap, ap₂, sym, subst, ◌∙◌, arith, length-append}
+use Rattle.std.proofs.Common.{◌≡◌, ◌⊎◌, ℕ, zero, suc, ◌+◌, ◌-◌, ◌<◌, ◌≤◌, ◌&&◌, Bool, true, false, cond, not, nat_eq, List, [], ◌∷◌, ◌++◌, length, get_or, All, inl, inr, refl, ap, ap₂, sym, subst, ◌∙◌, arith, length-append}
 use Rattle.std.specs.List.{AllPairs, AllByRecursion, IsDistinct, list_any, range_with_len}
 use Rattle.std.proofs.lemmas.List.Folds.{Any-from_list_any, list_any-append}
 use Rattle.std.proofs.lemmas.List.Elements.{All-head, All-tail, All-cons, All-nil, All-filter, All-append, All-from_recursion, filter_passes}
 use Rattle.std.proofs.lemmas.List.FromFn.{length-range_with_len, get_or-range_with_len}
 use Rattle.std.proofs.lemmas.List.Sums.{sum_by-cons}
-use Rattle.std.proofs.lemmas.Bool.{cases_Bool, cases_lt, cases_eq, lt-ltb, le-ltb, ltb-true, eq-eqb, eqb-true, ne_eqb, and_parts, or_left, or_right, or_parts, or_from, not-false, not-true, and_from, true≢false}
+use Rattle.std.proofs.lemmas.Bool.{cases_Bool, cases_lt, cases_eq, eq-eqb, eqb-true, ne_eqb, and_parts, or_left, or_parts, not-false, not-true, and_from, true≢false}
 use Rattle.npos_base.specs.declared.figures.Edge.{Edge}
 use Rattle.election_snapshot.specs.Snapshot.{Snapshot, has, nominates, stake_of, total_stake}
-use Rattle.weight_book.specs.Weights.{Weights, Follows, IsFeasible, edges_from, edges_to, amount_sum, support, spent, same_pair}
+use Rattle.weight_book.specs.Weights.{Weights, Follows, IsFeasible, edges_from, edges_to, amount_sum, support, spent}
 use Rattle.weight_book.proofs.SumLemmas.{sum_covered, sum_of_ones, sum_filter-cons}
 use Rattle.support_balance.specs.Turns.{given, edges_but, backs, LiesLow, IsTurn}
-use Rattle.support_balance.specs.Rounds.{GiveSame, AreTurns, IsRound, AreRounds, IsBalanced, IsBefore, AreListed}
-use Rattle.support_balance.proofs.GivenLemmas.{pair_weight, given_weight, IsApart, apart_none, apart_weight, own_pair}
+use Rattle.support_balance.specs.Rounds.{GiveSame, AreTurns, AreRounds, IsBalanced, IsBefore}
+use Rattle.support_balance.proofs.GivenLemmas.{pair_weight, IsApart, apart_weight}
 use Rattle.support_balance.proofs.RowLemmas.{weight, to_weight}
 use Rattle.support_balance.proofs.SplitLemmas.{range_distinct}
-use Rattle.support_balance.proofs.SpendLemmas.{spent_same, balanced_whole}
+use Rattle.support_balance.proofs.SpendLemmas.{balanced_whole}
 use Rattle.support_balance.proofs.BackingLemmas.{distinct_before}
 use Rattle.weight_book.specs.Passing.{prescore}
 use Rattle.support_balance.proofs.PutLemmas.{balanced_between}
 use Rattle.phragmms_miner.specs.Scores.{score, IsBest}
-use Rattle.phragmms_miner.specs.Run.{IsSeated, AreSeated, IsRun, IsNext}
+use Rattle.phragmms_miner.specs.Run.{AreSeated, IsRun}
 use Rattle.phragmms_miner.proofs.ScoreLemmas.{greatest_within}
 use Rattle.phragmms_miner.proofs.RunLemmas.{next_seated}
 use Rattle.phragmms_miner.proofs.OneLemmas.{but_passes, but_none, in_order, then_before, given-cons, given_none}

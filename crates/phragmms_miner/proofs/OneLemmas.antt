@@ -1,5 +1,5 @@
 -- No election has two runs.
-use Rattle.std.proofs.Common.{◌≡◌, ◌≢◌, ◌⊎◌, ℕ, zero, suc, ◌+◌, ◌<◌, ◌≤◌, Bool, true, false, not, nat_eq, List, [], ◌∷◌, ◌++◌, length, take, filter, get_or, All, inl, inr, refl, ap, ap₂, sym, subst, ◌∙◌, arith}
+use Rattle.std.proofs.Common.{◌≡◌, ◌⊎◌, ℕ, zero, suc, ◌+◌, ◌<◌, ◌≤◌, not, nat_eq, List, [], ◌∷◌, ◌++◌, length, take, get_or, All, inl, inr, refl, ap, ap₂, sym, subst, ◌∙◌, arith}
 use Rattle.std.specs.List.{AllPairs}
 use Rattle.std.proofs.lemmas.List.{take_more, take_all, append-nil}
 use Rattle.std.proofs.lemmas.List.Elements.{All-head, All-tail, filter-append}
@@ -7,12 +7,11 @@ use Rattle.std.proofs.lemmas.List.Sums.{sum_by-cons}
 use Rattle.std.proofs.lemmas.Bool.{cases_Bool, cases_lt, cases_eq}
 use Rattle.npos_base.specs.declared.figures.Edge.{Edge}
 use Rattle.election_snapshot.specs.Snapshot.{Snapshot}
-use Rattle.weight_book.specs.Weights.{Weights, Follows, edges_from, edges_to, amount_sum, support, spent}
-use Rattle.support_balance.specs.Turns.{given, edges_but, backs, LiesLow, IsTurn}
-use Rattle.support_balance.specs.Rounds.{GiveSame, AreTurns, IsRound, AreRounds, IsSettled, IsBalanced, IsBefore, AreListed}
-use Rattle.support_balance.proofs.GivenLemmas.{pair_weight, given_weight, IsApart, apart_none, apart_weight, own_pair, same_edge}
+use Rattle.weight_book.specs.Weights.{Weights, edges_from, edges_to, amount_sum, support}
+use Rattle.support_balance.specs.Turns.{given, edges_but, LiesLow, IsTurn}
+use Rattle.support_balance.specs.Rounds.{GiveSame, AreTurns, IsRound, AreRounds, IsSettled, IsBalanced, IsBefore}
+use Rattle.support_balance.proofs.GivenLemmas.{pair_weight, given_weight, IsApart, apart_none, own_pair, same_edge}
 use Rattle.support_balance.proofs.SplitLemmas.{support_split, from_but}
-use Rattle.support_balance.proofs.TurnLemmas.{filter_all, filter_none}
 use Rattle.support_balance.proofs.PutLemmas.{same_then}
 use Rattle.support_balance.proofs.UniqueLemmas.{unique}
 use Rattle.phragmms_miner.specs.Run.{IsSeated, AreSeated, IsRun}

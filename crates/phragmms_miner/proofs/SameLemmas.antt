@@ -1,14 +1,14 @@
 -- What is told by what voters give alone: supports, what voters have left, and so scores.
-use Rattle.std.proofs.Common.{◌≡◌, ℕ, zero, suc, ◌+◌, ◌-◌, ◌*◌, ◌/◌, ◌<◌, ◌≤◌, min, true, false, cond, nat_eq, nat_le, List, [], ◌∷◌, length, get_or, filter, sum_by, All, inl, inr, refl, ap, ap₂, sym, subst, ◌∙◌, arith}
+use Rattle.std.proofs.Common.{◌≡◌, ℕ, zero, suc, ◌+◌, ◌-◌, ◌*◌, ◌/◌, ◌<◌, min, true, false, cond, nat_eq, nat_le, List, [], ◌∷◌, get_or, sum_by, All, inl, inr, refl, ap, ap₂, sym, ◌∙◌, arith}
 use Rattle.std.specs.List.{IsDistinct, AllByRecursion, range_with_len}
 use Rattle.std.proofs.lemmas.List.Sums.{sum_by-cons, get_or-le-sum_by}
 use Rattle.std.proofs.lemmas.List.Elements.{All-head, All-tail, All-filter}
 use Rattle.std.proofs.lemmas.Bool.{cases_Bool, cases_lt, cond-true, eqb-true, eq-eqb, true≢false}
 use Rattle.npos_base.specs.declared.figures.Edge.{Edge}
 use Rattle.election_snapshot.specs.Snapshot.{Snapshot, has, stake_of, total_stake}
-use Rattle.weight_book.specs.Weights.{edges_from, edges_to, amount_sum, support, same_pair}
+use Rattle.weight_book.specs.Weights.{edges_from, edges_to, support, same_pair}
 use Rattle.weight_book.specs.Passing.{pay, paid, slack, prescore, nominators}
-use Rattle.weight_book.proofs.SumLemmas.{sum_at, sum_among, at_least, at_most, sum_same, sum_filter-cons, has_range}
+use Rattle.weight_book.proofs.SumLemmas.{sum_at, sum_among, at_least, at_most, sum_same, has_range}
 use Rattle.support_balance.specs.Turns.{given}
 use Rattle.support_balance.specs.Rounds.{GiveSame}
 use Rattle.support_balance.proofs.RowLemmas.{weight, to_weight}

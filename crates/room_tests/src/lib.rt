@@ -41,3 +41,5 @@ mod wire_parts;
 mod wire_values;
 #[cfg(test)]
 mod words;
+#[cfg(test)]
+mod worked;

@@ -1,4 +1,4 @@
-use Rattle.std.proofs.Common.{arith, ◌≡◌, ◌<◌}
+use Rattle.std.proofs.Common.{arith, ◌<◌}
 use Rattle.phragmms_miner.proofs.RateLemmas.{part_within, part_found, part_missed}
 use Rattle.phragmms_miner.proofs.pass.pay.Goals as goal
 
