@@ -89,10 +89,6 @@ after_start chain block start =
 pub accepted_block : (chain : Chain) (block : Block) → AreSound (exposed chain.waiting) → AreAccepted (events_in chain block) chain.eras
 accepted_block chain block sound = after_start chain block (accepted_start chain.waiting (begun_era chain.params chain.due) chain.eras sound)
 
-pub accepted_plain : (chain : Chain) (block : Block) → chain.params ≡ None → AreAccepted (events_in chain block) chain.eras
-accepted_plain chain block none =
-    after_start chain block (subst (λ (params : Option Params). AreAccepted (started_by chain.waiting (begun_era params chain.due)) chain.eras) (sym none) tt)
-
 pub eras_block : (chain : Chain) (block : Block) → after_all (events_in chain block) chain.eras ≡ (step chain block).state.eras
 eras_block chain block =
     let calls : List Event = events_of 0 block.calls (before_calls chain) in
