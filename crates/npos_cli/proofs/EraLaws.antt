@@ -6,7 +6,8 @@ use Rattle.npos_runtime.proofs.BeginLemmas.{start_law}
 use Rattle.npos_cli.specs.Eras.{ErasAreKept}
 use Rattle.npos_cli.proofs.BookLaws.{history_of}
 
-pub eras_kept : PaidWithinRewardLaw → PaidAsToldLaw → SlashLaw → TakenLaw → OnceLaw → DueWithinStakeLaw → (bytes : List ℕ) → ErasAreKept bytes
+pub eras_kept : PaidWithinRewardLaw → PaidAsToldLaw → SlashLaw → TakenLaw → OnceLaw → DueWithinStakeLaw → (bytes : List ℕ)
+    → ErasAreKept bytes
 eras_kept reward payout slash taken once due bytes start place text starts reaches =
     let history = history_of bytes start starts place text reaches in
     let can = start_law starts.genesis reaches.blocks history in

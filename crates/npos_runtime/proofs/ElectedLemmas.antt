@@ -170,13 +170,15 @@ spent_within snapshot edges who distinct within stakes = at (place_or_none accou
 
 -- ## What is exposed
 
-pub exposures_sound : (committee : Committee) → IsElected committee → AreNoted committee.snapshot.targets committee.commissions → AreSound (exposures_of committee)
+pub exposures_sound : (committee : Committee) → IsElected committee → AreNoted committee.snapshot.targets committee.commissions
+    → AreSound (exposures_of committee)
 exposures_sound committee given noted =
     let ordered = order_law committee.snapshot.targets (voters_in committee) committee.commissions (supports_in committee) committee.weights.edges committee.weights.committee
     (elected_by committee given.sound given.follows noted) in
     sound_law committee.snapshot.targets (voters_in committee) committee.commissions (supports_in committee) (edges_in committee) committee.weights.committee ordered.0
 
-pub exposures_within : (committee : Committee) (who : AccountId) → IsElected committee → AreNoted committee.snapshot.targets committee.commissions
+pub exposures_within : (committee : Committee) (who : AccountId) → IsElected committee
+    → AreNoted committee.snapshot.targets committee.commissions
     → exposed_for who (exposures_of committee) ≤ stake_in committee.snapshot who
 exposures_within committee who given noted =
     let ordered = order_law committee.snapshot.targets (voters_in committee) committee.commissions (supports_in committee) committee.weights.edges committee.weights.committee

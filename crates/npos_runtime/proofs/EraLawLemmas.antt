@@ -57,23 +57,29 @@ use Rattle.npos_runtime.proofs.TimeLemmas.{between_step, between_blocks}
 
 -- ## What calls tell
 
-paid_rule : (era : ℕ) (params : Option Params) (due : Option Refusal) (index : ℕ) (rule : CallRule) (chain : Chain) → chain.params ≡ params → FollowsEvents chain rule
-    → paid_for era (event_of due rule) (call_after due index rule chain).lines ≡ given_by (pays era (era_reward_of params)) (event_of due rule) chain.eras
+paid_rule : (era : ℕ) (params : Option Params) (due : Option Refusal) (index : ℕ) (rule : CallRule) (chain : Chain) → chain.params ≡ params
+    → FollowsEvents chain rule
+    → paid_for era (event_of due rule) (call_after due index rule chain).lines ≡ given_by (pays era (era_reward_of params))
+    (event_of due rule) chain.eras
 paid_rule era params None index rule chain is follows =
     follows.paid era index ∙ ap (λ (ps : Option Params). given_by (pays era (era_reward_of ps)) rule.events chain.eras) is
 paid_rule era params (Some refusal) index rule chain is follows = refl
 
 paid_call : (era : ℕ) (params : Option Params) (index : ℕ) (call : Call) (chain : Chain) → chain.params ≡ params
     → paid_by era index call chain ≡ given_by (pays era (era_reward_of params)) (events_at call chain) chain.eras
-paid_call era params index call chain is = paid_rule era params (rule_for chain call).refusal index (rule_for chain call) chain is (lawful_call call chain).eras
+paid_call era params index call chain is =
+    paid_rule era params (rule_for chain call).refusal index (rule_for chain call) chain is (lawful_call call chain).eras
 
 taken_rule : (era : ℕ) (who : AccountId) (due : Option Refusal) (index : ℕ) (rule : CallRule) (chain : Chain) → FollowsEvents chain rule
-    → taken_for era who (event_of due rule) (call_after due index rule chain).lines ≤ given_by (makes_due era who) (event_of due rule) chain.eras
+    → taken_for era who (event_of due rule) (call_after due index rule chain).lines ≤ given_by (makes_due era who)
+    (event_of due rule) chain.eras
 taken_rule era who None index rule chain follows = follows.taken era who index
 taken_rule era who (Some refusal) index rule chain follows = omega arith
 
-taken_call : (era : ℕ) (who : AccountId) (index : ℕ) (call : Call) (chain : Chain) → taken_by era who index call chain ≤ due_by era who index call chain
-taken_call era who index call chain = taken_rule era who (rule_for chain call).refusal index (rule_for chain call) chain (lawful_call call chain).eras
+taken_call : (era : ℕ) (who : AccountId) (index : ℕ) (call : Call) (chain : Chain)
+    → taken_by era who index call chain ≤ due_by era who index call chain
+taken_call era who index call chain =
+    taken_rule era who (rule_for chain call).refusal index (rule_for chain call) chain (lawful_call call chain).eras
 
 module _ (less more : ℕ → Call → Chain → ℕ) (each : (index : ℕ) (call : Call) (chain : Chain) → less index call chain ≤ more index call chain) where
   fewer_calls : (index : ℕ) (calls : List Call) (chain : Chain) → over_calls less index calls chain ≤ over_calls more index calls chain
@@ -196,7 +202,8 @@ accepted_blocks chain (block ∷ more) rests fit =
 pub history_law : HistoryLaw
 history_law chain blocks can = (accepted_blocks chain blocks can.between can.fit, eras_blocks chain blocks)
 
-accepted_from : (genesis : Genesis) (blocks : List Block) → IsHistory genesis blocks → AreAccepted (events_by (genesis_chain genesis) blocks) first_era
+accepted_from : (genesis : Genesis) (blocks : List Block) → IsHistory genesis blocks
+    → AreAccepted (events_by (genesis_chain genesis) blocks) first_era
 accepted_from genesis blocks history = (history_law (genesis_chain genesis) blocks (start_law genesis blocks history)).0
 
 -- ## From the genesis on
@@ -229,7 +236,12 @@ module _ (packed : PackedYesIsAccepting) (plain : PlainYesIsPassing) (fill : Eve
       let sum : paid_in era genesis blocks ≡ given_by (pays era (era_reward_of params)) (events_by (genesis_chain genesis) blocks) first_era =
       sum_blocks params (paid_by era) (pays era (era_reward_of params)) (paid_call era params) (λ exposures eras. refl)
       (genesis_chain genesis) blocks refl in
-      omega (arith, sum, reward_law era (era_reward_of params) (events_by (genesis_chain genesis) blocks) (accepted_from genesis blocks history))
+      omega (
+        arith,
+        sum,
+        reward_law era (era_reward_of params) (events_by (genesis_chain genesis) blocks)
+            (accepted_from genesis blocks history),
+      )
 
   covered_from : (genesis : Genesis) (blocks : List Block) (era : ℕ) (who : AccountId) → IsHistory genesis blocks
       → exposed_for who (exposures_of era (events_by (genesis_chain genesis) blocks)) ≤ stake_behind who (elected_for era (seated_by (genesis_chain genesis) blocks))

@@ -101,32 +101,42 @@ module _ (params : Params) (sound : params_fault params ≡ None) where
       inr (record { round = number; snapshot = snapshot; weights = _ }, refl, time.number_is)
 
   -- nobody is seated, or this is the block of the decision
-  block_seats : (chain : Chain) (block : Block) → IsBetweenBlocks chain → chain.params ≡ Some params
-      → ((step chain block).seated ≡ []) ⊎ ((place_of params chain.due ≡ last_place) × SeatsOneOf (step chain block).seated (era_of (Some params) chain.due + 1))
+  abbrev BlockSeats : Chain → Block → Type 0
+  BlockSeats chain block =
+      ((step chain block).seated ≡ [])
+      ⊎ ((place_of params chain.due ≡ last_place) × SeatsOneOf (step chain block).seated (era_of (Some params) chain.due + 1))
+
+  block_seats : (chain : Chain) (block : Block) → IsBetweenBlocks chain → chain.params ≡ Some params → BlockSeats chain block
   block_seats chain block rests are = at (is_decision chain.params chain.due) refl where
     time : IsInTime chain.round (Some params) chain.due chain.queue.items
     time = subst (λ (ps : Option Params). IsInTime chain.round ps chain.due chain.queue.items) are rests.timely
 
-    at : (b : Bool) → is_decision chain.params chain.due ≡ b
-        → ((step chain block).seated ≡ []) ⊎ ((place_of params chain.due ≡ last_place) × SeatsOneOf (step chain block).seated (era_of (Some params) chain.due + 1))
+    at : (b : Bool) → is_decision chain.params chain.due ≡ b → BlockSeats chain block
     at true is =
-        let decided : (place_of params chain.due == last_place) ≡ true = ap (λ (ps : Option Params). is_decision ps chain.due) (sym are) ∙ is in
+        let decided : (place_of params chain.due == last_place) ≡ true =
+        ap (λ (ps : Option Params). is_decision ps chain.due) (sym are) ∙ is in
         inr (
           grind (arith, nat_tests),
           subst (λ seated. SeatsOneOf seated (era_of (Some params) chain.due + 1))
-          (sym (seats_step chain block ∙ ap (λ (o : Outcome). o.seated) (decides chain chain.round rests.live is refl)))
-          (seats_of chain.round chain time (undecided chain)),
+              (sym (seats_step chain block ∙ ap (λ (o : Outcome). o.seated) (decides chain chain.round rests.live is refl)))
+              (seats_of chain.round chain time (undecided chain)),
         )
     at false is =
-        inl (seats_step chain block ∙ ap (λ b. (if b then decision_of (undecided chain).round (undecided chain) else quiet (undecided chain)).seated) is)
+        inl (seats_step chain block ∙ ap
+        (λ b. (if b then decision_of (undecided chain).round (undecided chain) else quiet (undecided chain)).seated) is)
 
-  rounds_rise : (chain : Chain) (blocks : List Block) → IsBetweenBlocks chain → chain.params ≡ Some params → chain.due + length blocks ≤ 2 ^ 32
-      → AreFrom (next_round chain.due) (seated_by chain blocks) × IsDistinct same_round (seated_by chain blocks)
+  -- all that is seated from here on
+  abbrev Rises : Chain → List Block → Type 0
+  Rises chain blocks = AreFrom (next_round chain.due) (seated_by chain blocks) × IsDistinct same_round (seated_by chain blocks)
+
+  rounds_rise : (chain : Chain) (blocks : List Block) → IsBetweenBlocks chain → chain.params ≡ Some params
+      → chain.due + length blocks ≤ 2 ^ 32 → Rises chain blocks
   unfolding IsDistinct
   rounds_rise chain [] rests are fit = (tt, tt)
   rounds_rise chain (block ∷ more) rests are fit =
       by (block_seats chain block rests are)
-      (rounds_rise next more (between_step chain block rests (omega (arith, fit))) (params_step chain block ∙ are) (omega (arith, fit, due_step chain block))) where
+      (rounds_rise next more (between_step chain block rests (omega (arith, fit))) (params_step chain block ∙ are)
+      (omega (arith, fit, due_step chain block))) where
         next : Chain
         next = (step chain block).state
 
@@ -136,30 +146,34 @@ module _ (params : Params) (sound : params_fault params ≡ None) where
         later : next_round chain.due ≤ next_round (step chain block).state.due
         later = subst (λ due. next_round chain.due ≤ next_round due) (sym (due_step chain block)) (rises chain.due from)
 
-        none : (step chain block).seated ≡ [] → AreFrom (next_round (step chain block).state.due) (seated_by (step chain block).state more)
-            × IsDistinct same_round (seated_by (step chain block).state more)
-            → AreFrom (next_round chain.due) (seated_by chain (block ∷ more)) × IsDistinct same_round (seated_by chain (block ∷ more))
+        none : (step chain block).seated ≡ [] → Rises (step chain block).state more → Rises chain (block ∷ more)
         none nobody rest =
             subst (λ (seated : List Election). AreFrom (next_round chain.due) (seated ++ seated_by (step chain block).state more)
-            × IsDistinct same_round (seated ++ seated_by (step chain block).state more)) (sym nobody)
-            (from_less (next_round chain.due) (next_round (step chain block).state.due) later (seated_by (step chain block).state more) rest.0, rest.1)
+            × IsDistinct same_round (seated ++ seated_by (step chain block).state more)) (sym nobody) (
+              from_less (next_round chain.due) (next_round (step chain block).state.due) later
+                  (seated_by (step chain block).state more) rest.0,
+              rest.1,
+            )
 
-        by : ((step chain block).seated ≡ []) ⊎ ((place_of params chain.due ≡ last_place) × SeatsOneOf (step chain block).seated (era_of (Some params) chain.due + 1))
-            → AreFrom (next_round (step chain block).state.due) (seated_by (step chain block).state more) × IsDistinct same_round (seated_by (step chain block).state more)
-            → AreFrom (next_round chain.due) (seated_by chain (block ∷ more)) × IsDistinct same_round (seated_by chain (block ∷ more))
+        by : BlockSeats chain block → Rises (step chain block).state more → Rises chain (block ∷ more)
         by (inl nobody) rest = none nobody rest
         by (inr (last, inl nobody)) rest = none nobody rest
         by (inr (last, inr (election, one, round_is))) rest =
             let seated : List Election = seated_by (step chain block).state more in
-            let behind : next_round (step chain block).state.due ≡ era_of (Some params) chain.due + 2 = ap next_round (due_step chain block) ∙ behind_decision chain.due from last in
+            let behind : next_round (step chain block).state.due ≡ era_of (Some params) chain.due + 2 =
+            ap next_round (due_step chain block) ∙ behind_decision chain.due from last in
             let now : next_round chain.due ≡ era_of (Some params) chain.due + 1 = early chain.due (omega (arith, last)) in
             subst (λ (first : List Election). AreFrom (next_round chain.due) (first ++ seated_by (step chain block).state more)
-            × IsDistinct same_round (first ++ seated_by (step chain block).state more)) (sym one)
-            (
-              (omega (arith, now, round_is), from_less (next_round chain.due) (next_round (step chain block).state.due) later seated rest.0),
+            × IsDistinct same_round (first ++ seated_by (step chain block).state more)) (sym one) (
+              (
+                omega (arith, now, round_is),
+                from_less (next_round chain.due)
+                    (next_round (step chain block).state.due) later seated rest.0,
+              ),
               (
                 apart_from (era_of (Some params) chain.due + 1) election round_is seated
-                (from_less (era_of (Some params) chain.due + 1 + 1) (next_round (step chain block).state.due) (omega (arith, behind)) seated rest.0),
+                    (from_less (era_of (Some params) chain.due + 1 + 1) (next_round (step chain block).state.due)
+                    (omega (arith, behind)) seated rest.0),
                 rest.1,
               ),
             )

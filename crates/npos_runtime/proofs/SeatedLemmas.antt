@@ -279,7 +279,8 @@ module _ (params : Params) where
         let before : Chain = undecided chain in
         let live_before : IsLive before = live_round (era_phase chain).state (live_era chain live) in
         let begun : before.eras.current ≡ era before.due =
-        era_begun chain.eras chain.waiting chain.params chain.due live.params live.due.at_least current ∙ ap (λ (ps : Option Params). era_of ps chain.due) h.params_are in
+        era_begun chain.eras chain.waiting chain.params chain.due live.params live.due.at_least current ∙ ap
+        (λ (ps : Option Params). era_of ps chain.due) h.params_are in
         let decided = decides_it before seated (begins (era_phase chain).state seated (starts chain seated h)) live_before.round begun in
         subst (λ (elections : List Election). IsBetween (step chain block).state (seated ++ elections)) (sym (seats_step chain block))
         (closes (calls_outcome 0 block.calls start).state (seated ++ (decision_phase before).seated) sound

@@ -31,7 +31,8 @@ pub plain_yes_passes : PlainYesIsPassing
 plain_yes_passes = λ snapshot weights.
     (λ e. passes snapshot weights (plain_yes snapshot weights e), λ passing. ap or_yes (no_plain_fault snapshot weights passing))
 
-elected_of : (round : Option Round) (chain : Chain) → IsSoundRound round → WasElected chain.waiting → WasElected (decision_of round chain).state.waiting
+elected_of : (round : Option Round) (chain : Chain) → IsSoundRound round → WasElected chain.waiting
+    → WasElected (decision_of round chain).state.waiting
 elected_of None chain sound was = was
 elected_of (Some (rounds.Void number)) chain sound was = was
 elected_of (Some (rounds.Open number snapshot commissions)) chain sound was =
@@ -51,7 +52,8 @@ elected_decision chain sound was = at (is_decision chain.params chain.due) where
 pub elected_step : (chain : Chain) (block : Block) → IsLive chain → WasElected chain.waiting → WasElected (step chain block).state.waiting
 elected_step chain block live was =
     subst WasElected (sym (fixed_calls 0 block.calls (before_calls chain)).waiting)
-    (elected_decision (undecided chain) (live_round (era_phase chain).state (live_era chain live)).round (begun (begun_era chain.params chain.due))) where
+    (elected_decision (undecided chain) (live_round (era_phase chain).state (live_era chain live)).round
+    (begun (begun_era chain.params chain.due))) where
       begun : (era : Option ℕ) → WasElected (waiting_after chain.waiting era)
       begun None = was
       begun (Some era) = tt

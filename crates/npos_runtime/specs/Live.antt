@@ -112,7 +112,8 @@ IsInTime other params due items = items ≡ []
 pub record IsElected (committee : Committee) : Type 0 where
   pub sound : IsWellFormed committee.snapshot
   pub follows : Follows committee.snapshot committee.weights
-  pub stakes : (voter : ℕ) → voter < length committee.snapshot.voters → spent committee.weights.edges voter ≤ stake_of committee.snapshot voter
+  pub stakes : (voter : ℕ) → voter < length committee.snapshot.voters
+      → spent committee.weights.edges voter ≤ stake_of committee.snapshot voter
 
 abbrev pub WasElected : Option Committee → Type 0
 WasElected None = Unit {0}
