@@ -31,7 +31,8 @@ due_passes (block ∷ blocks) p q text passes =
     omega (arith, due_passes blocks (behind npos_machine p block passes.0) q passes.2 passes.3, due_step p.state block)
 
 -- where a genesis starts a chain, it has no fault, and the chain is its own
-pub begun_by : (genesis : Genesis) (chain : Chain) (fault : Option GenesisFault) → genesis_fault genesis ≡ fault → started fault genesis ≡ Ok chain
+pub begun_by : (genesis : Genesis) (chain : Chain) (fault : Option GenesisFault) → genesis_fault genesis ≡ fault
+    → started fault genesis ≡ Ok chain
     → (genesis_fault genesis ≡ None) × (genesis_chain genesis ≡ chain)
 begun_by genesis chain None sound is = (sound, cc)
 begun_by genesis chain (Some fault) faulty is = let e : Err (fault_numbers fault) ≡ Ok chain = is in cc
@@ -44,7 +45,8 @@ module _ (bytes : List ℕ) (start : Spot Chain) (starts : Starts npos_machine b
   live_start = subst IsLive begun.1 (live_begun starts.genesis begun.0)
 
   -- the blocks of a replay follow its genesis
-  pub history_of : (place : Spot Chain) (text : List ℕ) (reaches : Reaches npos_machine start place text) → IsHistory starts.genesis reaches.blocks
+  pub history_of : (place : Spot Chain) (text : List ℕ) (reaches : Reaches npos_machine start place text)
+      → IsHistory starts.genesis reaches.blocks
   history_of place text reaches =
       let live = live_passes reaches.blocks start place text reaches.passes live_start in
       let due = due_passes reaches.blocks start place text reaches.passes in
@@ -53,7 +55,8 @@ module _ (bytes : List ℕ) (start : Spot Chain) (starts : Starts npos_machine b
   -- and the chain that it starts can take them
   pub can_take : (place : Spot Chain) (text : List ℕ) (reaches : Reaches npos_machine start place text) → CanTake start.state reaches.blocks
   can_take place text reaches =
-      subst (λ (chain : Chain). CanTake chain reaches.blocks) begun.1 (start_law starts.genesis reaches.blocks (history_of place text reaches))
+      subst (λ (chain : Chain). CanTake chain reaches.blocks) begun.1
+      (start_law starts.genesis reaches.blocks (history_of place text reaches))
 
 pub books_balance : (bytes : List ℕ) → BooksBalance bytes
 books_balance bytes start place text starts reaches =

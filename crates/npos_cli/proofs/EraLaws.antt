@@ -6,18 +6,20 @@ use Rattle.npos_runtime.proofs.BeginLemmas.{start_law}
 use Rattle.npos_cli.specs.Eras.{ErasAreKept}
 use Rattle.npos_cli.proofs.BookLaws.{history_of}
 
-pub eras_kept : PaidWithinRewardLaw → PaidAsToldLaw → SlashLaw → TakenLaw → OnceLaw → DueWithinStakeLaw → (bytes : List ℕ) → ErasAreKept bytes
+pub eras_kept : PaidWithinRewardLaw → PaidAsToldLaw → SlashLaw → TakenLaw → OnceLaw → DueWithinStakeLaw → (bytes : List ℕ)
+    → ErasAreKept bytes
 eras_kept reward payout slash taken once due bytes start place text starts reaches =
     let history = history_of bytes start starts place text reaches in
+    let can = start_law starts.genesis reaches.blocks history in
     record {
       within = record {
         rewards = λ era. reward starts.genesis reaches.blocks era history;
         taken = λ era who. taken starts.genesis reaches.blocks era who history;
         dues = λ era who. due starts.genesis reaches.blocks era who history;
-        once = once starts.genesis reaches.blocks history;
+        once = once (genesis_chain starts.genesis) reaches.blocks can;
       };
       payouts = λ calls. payout starts.genesis reaches.blocks calls history;
-      slashes = λ calls. slash (genesis_chain starts.genesis) reaches.blocks calls (start_law starts.genesis reaches.blocks history);
+      slashes = λ calls. slash (genesis_chain starts.genesis) reaches.blocks calls can;
     }
 
 pub told_eras : (left : Option (List ℕ)) → ((bytes : List ℕ) → ErasAreKept bytes) → IfSome left ErasAreKept

@@ -134,7 +134,8 @@ live_begun (Full endowments params) none =
 
 -- era 0 is the current one, and nothing waits
 pub between_begun : (genesis : Genesis) → genesis_fault genesis ≡ None → IsBetweenBlocks (genesis_chain genesis)
-between_begun genesis none = record { live = live_begun genesis none; era = sym (era_first (params_of genesis)); places = refl; timely = refl }
+between_begun genesis none =
+    record { live = live_begun genesis none; era = sym (era_first (params_of genesis)); places = refl; timely = refl; elected = tt }
 
 -- no number was given yet
 pub ready_begun : (genesis : Genesis) → genesis_fault genesis ≡ None → IsReady (genesis_chain genesis)

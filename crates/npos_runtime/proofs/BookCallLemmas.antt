@@ -32,7 +32,8 @@ module _ (release : ℕ) where
   with_by amount [] by = All-cons IsBy (record { value = amount; release = release }) [] (omega arith) nobody_late
   with_by amount (chunk ∷ later) by =
       let here = All-head IsBy chunk later by in
-      cond_both (is_empty later && (chunk.release == release)) (record chunk { value = chunk.value + amount } ∷ []) (chunk ∷ with_chunk amount release later) (All IsBy)
+      cond_both (is_empty later && (chunk.release == release)) (record chunk { value = chunk.value + amount } ∷ [])
+      (chunk ∷ with_chunk amount release later) (All IsBy)
       (λ joins. All-cons IsBy (record chunk { value = chunk.value + amount }) [] here nobody_late)
       (λ apart. All-cons IsBy chunk (with_chunk amount release later) here (with_by amount later (All-tail IsBy chunk later by)))
 
@@ -40,18 +41,22 @@ module _ (release : ℕ) where
   without_by amount [] by = by
   without_by amount (chunk ∷ later) by =
       let here = All-head IsBy chunk later by in
-      cond_both (nat_lt amount (chunk_sum later)) (chunk ∷ without_latest amount later) (lessened (amount - chunk_sum later) chunk) (All IsBy)
+      cond_both (nat_lt amount (chunk_sum later)) (chunk ∷ without_latest amount later) (lessened (amount - chunk_sum later) chunk)
+      (All IsBy)
       (λ within. All-cons IsBy chunk (without_latest amount later) here (without_by amount later (All-tail IsBy chunk later by)))
-      (λ past. cond_both (nat_lt (amount - chunk_sum later) chunk.value) (record chunk { value = chunk.value - (amount - chunk_sum later) } ∷ []) [] (All IsBy)
+      (λ past. cond_both (nat_lt (amount - chunk_sum later) chunk.value)
+      (record chunk { value = chunk.value - (amount - chunk_sum later) } ∷ []) [] (All IsBy)
       (λ some. All-cons IsBy (record chunk { value = chunk.value - (amount - chunk_sum later) }) [] here nobody_late)
       (λ none. nobody_late))
 
-transfer_funds : (who to : AccountId) (value : ℕ) (ledger : Ledger) → book_transfer_refusal ledger who to value ≡ None → value ≤ (row_at ledger who).free
+transfer_funds : (who to : AccountId) (value : ℕ) (ledger : Ledger) → book_transfer_refusal ledger who to value ≡ None
+    → value ≤ (row_at ledger who).free
 transfer_funds who to value ledger allowed = grind (arith, common_steps, allowed)
 
 -- books with one row changed, in what is no deposit
 books_changed : (chain : Chain) (who : AccountId) (change : Row → Row) (book : Ledger) → IsBalanced (changed who change book)
-    → AreBooks (release_now chain) chain.queue.items book → All (λ chunk. chunk.release ≤ release_now chain) (change (row_at book who)).chunks
+    → AreBooks (release_now chain) chain.queue.items book
+    → All (λ chunk. chunk.release ≤ release_now chain) (change (row_at book who)).chunks
     → ((row : Row) → (change row).held ≡ row.held) → AreBooks (release_now chain) chain.queue.items (changed who change book)
 books_changed chain who change book balanced are by same = record {
   balanced = balanced;
@@ -71,8 +76,11 @@ transfer_live chain who to value live free =
       IsByNow : List Chunk → Type 0
       IsByNow = All (λ chunk. chunk.release ≤ release_now chain)
 
-      paid_by : (other : AccountId) → All (λ chunk. chunk.release ≤ release_now chain) (row_at (changed who (paid value) chain.book) other).chunks
-      paid_by = chunks_changed (All (λ chunk. chunk.release ≤ release_now chain)) who (paid value) chain.book live.books.releases (live.books.releases who)
+      paid_by : (other : AccountId)
+          → All (λ chunk. chunk.release ≤ release_now chain) (row_at (changed who (paid value) chain.book) other).chunks
+      paid_by =
+          chunks_changed (All (λ chunk. chunk.release ≤ release_now chain)) who (paid value) chain.book live.books.releases
+          (live.books.releases who)
 
 pub bond_live : (chain : Chain) (who : AccountId) (value : ℕ) → KeepsLive chain (bond_rule chain who value)
 bond_live chain who value live free =
@@ -93,10 +101,12 @@ bond_extra_live chain who value live free =
 pub unbond_live : (chain : Chain) (who : AccountId) (value : ℕ) → KeepsLive chain (unbond_rule chain who value)
 unbond_live chain who value live free =
     let amount : ℕ = unbond_amount (row_at chain.book who) value in
-    let allowed = none_inside ByLedger (book_unbond_refusal (row_at chain.book who) value (release_now chain) (least_active chain who)) free in
+    let allowed =
+    none_inside ByLedger (book_unbond_refusal (row_at chain.book who) value (release_now chain) (least_active chain who)) free in
     with_followed chain who (changed who (unbonded amount (release_now chain)) chain.book) live
     (books_changed chain who (unbonded amount (release_now chain)) chain.book
-    (balanced_called who (row_calls.Unbond value (release_now chain) (least_active chain who)) chain.book live.books.balanced (live.books.releases who) allowed)
+    (balanced_called who (row_calls.Unbond value (release_now chain) (least_active chain who)) chain.book live.books.balanced
+    (live.books.releases who) allowed)
     live.books (with_by (release_now chain) amount (row_at chain.book who).chunks (live.books.releases who)) (λ row. refl))
 
 pub rebond_live : (chain : Chain) (who : AccountId) (value : ℕ) → KeepsLive chain (rebond_rule chain who value)
@@ -116,5 +126,6 @@ withdraw_live chain who live free =
     (books_changed chain who (withdrawn (era_now chain)) chain.book
     (balanced_called who (row_calls.Withdraw (era_now chain)) chain.book live.books.balanced tt allowed)
     live.books
-    (All-filter (λ chunk. nat_lt (era_now chain) chunk.release) (λ chunk. chunk.release ≤ release_now chain) (row_at chain.book who).chunks (live.books.releases who))
+    (All-filter (λ chunk. nat_lt (era_now chain) chunk.release) (λ chunk. chunk.release ≤ release_now chain) (row_at chain.book who).chunks
+    (live.books.releases who))
     (λ row. refl)))

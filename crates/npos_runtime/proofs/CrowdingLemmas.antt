@@ -275,7 +275,8 @@ module _ (params : Params) (sound : params_fault params ≡ None) (number : ℕ)
   not_offered true item = refl
   not_offered false item = refl
 
-  called_submit : (index : ℕ) (who : AccountId) (chain : Chain) (round : ℕ) (claim : Score) (bytes : List ℕ) (offers : List Submission) → IsNow chain offers → IsLive chain
+  called_submit : (index : ℕ) (who : AccountId) (chain : Chain) (round : ℕ) (claim : Score) (bytes : List ℕ) (offers : List Submission)
+      → IsNow chain offers → IsLive chain
       → IsNow (call_after (submit_refusal chain who round claim bytes) index (submit_rule chain who round claim bytes) chain).state
       (offers ++ offer_if (round == number) (is_offered (submit_refusal chain who round claim bytes)) (submission_of chain who claim bytes))
   called_submit index who chain round claim bytes offers h live = at (submit_refusal chain who round claim bytes) refl where
@@ -285,7 +286,8 @@ module _ (params : Params) (sound : params_fault params ≡ None) (number : ℕ)
     rule : CallRule
     rule = submit_rule chain who round claim bytes
 
-    out : (refusal : Refusal) → is_offered (Some refusal) ≡ false → IsNow (call_after (Some refusal) index rule chain).state (offers ++ offer_if (round == number) (is_offered (Some refusal)) item)
+    out : (refusal : Refusal) → is_offered (Some refusal) ≡ false
+        → IsNow (call_after (Some refusal) index rule chain).state (offers ++ offer_if (round == number) (is_offered (Some refusal)) item)
     out refusal e =
         passed chain chain offers (offer_if (round == number) (is_offered (Some refusal)) item) h
         (ap (λ b. offer_if (round == number) b item) e ∙ not_offered (round == number) item) refl refl refl refl
@@ -317,14 +319,17 @@ module _ (params : Params) (sound : params_fault params ≡ None) (number : ℕ)
   -- what any other call does
   other_after : (due : Option Refusal) (index : ℕ) (rule : CallRule) (chain : Chain) (offers : List Submission) → IsNow chain offers
       → IsFixed chain rule.done → LeavesQueue chain rule → IsNow (call_after due index rule chain).state (offers ++ [])
-  other_after None index rule chain offers h fixed leaves = passed chain rule.done offers [] h refl fixed.params fixed.round leaves.queue fixed.due
+  other_after None index rule chain offers h fixed leaves =
+      passed chain rule.done offers [] h refl fixed.params fixed.round leaves.queue fixed.due
   other_after (Some refusal) index rule chain offers h fixed leaves = passed chain chain offers [] h refl refl refl refl refl
 
-  called_rule : (index : ℕ) (who : AccountId) (rule : CallRule) (chain : Chain) (offers : List Submission) → IsNow chain offers → IsLive chain
+  called_rule : (index : ℕ) (who : AccountId) (rule : CallRule) (chain : Chain) (offers : List Submission) → IsNow chain offers
+      → IsLive chain
       → IsFixed chain rule.done → LeavesQueue chain rule ⊎ Submits chain who rule
       → IsNow (call_after rule.refusal index rule chain).state (offers ++ offer_of number rule)
   called_rule index who rule chain offers h live fixed (inl leaves) =
-      subst (λ (offer : Option (ℕ × Submission)). IsNow (call_after rule.refusal index rule chain).state (offers ++ offered_to number (is_offered rule.refusal) offer))
+      subst (λ (offer : Option (ℕ × Submission)). IsNow (call_after rule.refusal index rule chain).state
+      (offers ++ offered_to number (is_offered rule.refusal) offer))
       (sym leaves.offered) (other_after rule.refusal index rule chain offers h fixed leaves)
   called_rule index who rule chain offers h live fixed (inr submits) =
       subst (λ (r : CallRule). IsNow (call_after r.refusal index r chain).state (offers ++ offer_of number r)) (sym submits.is)
@@ -400,7 +405,8 @@ module _ (params : Params) (sound : params_fault params ≡ None) (number : ℕ)
       (called 0 block.calls start offers (decided_at (undecided chain) offers (begins chain offers h)) (live_before chain live))
       (omega (arith, due_calls 0 block.calls start, due_before chain, live.due.at_least))
 
-  pub behind : (chain : Chain) (blocks : List Block) (offers : List Submission) → IsBetween chain offers → IsLive chain → chain.due + length blocks ≤ 2 ^ 32
+  pub behind : (chain : Chain) (blocks : List Block) (offers : List Submission) → IsBetween chain offers → IsLive chain
+      → chain.due + length blocks ≤ 2 ^ 32
       → IsBetween (after_blocks chain blocks) (offers ++ offers_by number chain blocks)
   behind chain [] offers h live fit = subst (IsBetween chain) (sym (append-nil offers)) h
   behind chain (block ∷ more) offers h live fit =
@@ -513,7 +519,8 @@ module _ (packed : PackedYesIsAccepting) (chain : Chain) (block : Block) (round 
         earned = ap score_of won_by.given_are ∙ won_by.claimed;
       }
 
-  pub answered : (item : Submission) (places : ℕ) (offers : List Submission) → chain.queue.places ≡ places → chain.queue ≡ after_offers (empty_queue places) offers
+  pub answered : (item : Submission) (places : ℕ) (offers : List Submission) → chain.queue.places ≡ places
+      → chain.queue ≡ after_offers (empty_queue places) offers
       → Contains offers item → judged snapshot item ≡ verdicts.Yes
       → ((winner : Submission) × LosesTo round snapshot item items told winner) ⊎ FillsAfter round snapshot chain.queue told
   answered item places offers many holds among holds_up =

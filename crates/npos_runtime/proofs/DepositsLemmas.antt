@@ -28,15 +28,18 @@ use Rattle.npos_runtime.proofs.TimeLemmas.{between_step, between_blocks}
 
 -- ## One block behind the other
 
-pub after_append : (chain : Chain) (first next : List Block) → after_blocks chain (first ++ next) ≡ after_blocks (after_blocks chain first) next
+pub after_append : (chain : Chain) (first next : List Block)
+    → after_blocks chain (first ++ next) ≡ after_blocks (after_blocks chain first) next
 after_append chain [] next = refl
 after_append chain (block ∷ first) next = after_append (step chain block).state first next
 
-pub told_append : (chain : Chain) (first next : List Block) → told_by chain (first ++ next) ≡ told_by chain first ++ told_by (after_blocks chain first) next
+pub told_append : (chain : Chain) (first next : List Block)
+    → told_by chain (first ++ next) ≡ told_by chain first ++ told_by (after_blocks chain first) next
 told_append chain [] next = refl
 told_append chain (block ∷ first) next =
     ap (λ told. (step chain block).lines ++ told) (told_append (step chain block).state first next)
-    ∙ sym (append_assoc (step chain block).lines (told_by (step chain block).state first) (told_by (after_blocks (step chain block).state first) next))
+    ∙ sym (append_assoc (step chain block).lines (told_by (step chain block).state first)
+    (told_by (after_blocks (step chain block).state first) next))
 
 pub due_blocks : (chain : Chain) (blocks : List Block) → (after_blocks chain blocks).due ≡ chain.due + length blocks
 due_blocks chain [] = omega arith
@@ -67,11 +70,14 @@ emptied chain block rests more is = at chain.params refl where
   at : (params : Option Params) → chain.params ≡ params → (step chain block).state.queue.items ≡ []
   at None none = absurd (true≢false (sym is ∙ ap (λ (ps : Option Params). is_decision ps chain.due) none))
   at (Some params) are =
-      let decides : (place_of params chain.due == params.offset + params.signed) ≡ true = ap (λ (ps : Option Params). is_decision ps chain.due) (sym are) ∙ is in
+      let decides : (place_of params chain.due == params.offset + params.signed) ≡ true =
+      ap (λ (ps : Option Params). is_decision ps chain.due) (sym are) ∙ is in
       let last : place_of params chain.due ≡ params.offset + params.signed = grind (arith, nat_tests) in
-      over params (subst AreSound are rests.live.params) chain.due (step chain block).state.round (step chain block).state.queue.items rests.live.due.at_least last
+      over params (subst AreSound are rests.live.params) chain.due (step chain block).state.round
+      (step chain block).state.queue.items rests.live.due.at_least last
       (subst (λ due. IsInTime (step chain block).state.round (Some params) due (step chain block).state.queue.items) (due_step chain block)
-      (subst (λ (ps : Option Params). IsInTime (step chain block).state.round ps (step chain block).state.due (step chain block).state.queue.items)
+      (subst (λ (ps : Option Params). IsInTime (step chain block).state.round ps (step chain block).state.due
+      (step chain block).state.queue.items)
       (params_step chain block ∙ are) next.timely))
 
 issued_one : (number next : ℕ) → number < next → issued number next ≡ 1
@@ -83,7 +89,8 @@ issued_most number next = at (nat_lt number next) where
   at true = omega arith
   at false = omega arith
 
-module _ (genesis : Genesis) (before : List Block) (decision : Block) (more : List Block) (history : IsHistory genesis (before ++ decision ∷ more))
+module _ (genesis : Genesis) (before : List Block) (decision : Block) (more : List Block)
+    (history : IsHistory genesis (before ++ decision ∷ more))
     (is : is_decision (genesis_chain genesis).params (after_blocks (genesis_chain genesis) before).due ≡ true) where
   abbrev chain : Chain
   chain = genesis_chain genesis
@@ -102,14 +109,21 @@ module _ (genesis : Genesis) (before : List Block) (decision : Block) (more : Li
 
   empty : (after_blocks chain first).queue.items ≡ []
   empty =
-      let rests = between_blocks chain before (start_law genesis (before ++ decision ∷ more) history).between (omega (arith, lengths, history.fit)) in
+      let rests =
+      between_blocks chain before (start_law genesis (before ++ decision ∷ more) history).between (omega (arith, lengths, history.fit)) in
       ap (λ (c : Chain). c.queue.items) (after_append chain before (decision ∷ []))
       ∙ emptied (after_blocks chain before) decision rests (omega (arith, due_blocks chain before, lengths, history.fit))
       (ap (λ (ps : Option Params). is_decision ps (after_blocks chain before).due) (params_blocks chain before) ∙ is)
 
   settled : (number : ℕ) → 1 ≤ number → number < (after_blocks chain first).next → fate number (told_by chain first) ≡ 1
   settled number from below =
-      omega (arith, one_fate number genesis first history_first from, ap (waiting_with number) empty, issued_one number (after_blocks chain first).next below)
+      omega (
+        arith,
+        one_fate number genesis first history_first from,
+        ap (waiting_with number) empty,
+        issued_one number
+            (after_blocks chain first).next below,
+      )
 
   once : (number : ℕ) → 1 ≤ number → number < (after_blocks chain first).next → fate number (told_by chain (before ++ decision ∷ more)) ≡ 1
   once number from below =

@@ -20,7 +20,7 @@ use Rattle.era_book.proofs.SoundLemmas.{sound_law, order_law}
 use Rattle.npos_runtime.specs.Committee.{Committee}
 use Rattle.round_decision.specs.Decision.{rising}
 use Rattle.npos_runtime.specs.Exposed.{voters_in, supports_in, edges_in, exposures_of}
-use Rattle.npos_runtime.specs.Live.{AreNoted}
+use Rattle.npos_runtime.specs.Live.{IsElected, AreNoted}
 use Rattle.npos_runtime.specs.EraLaws.{stake_in}
 use Rattle.npos_runtime.proofs.ExposureLemmas.{has_below, same_length, elected_by}
 
@@ -170,19 +170,15 @@ spent_within snapshot edges who distinct within stakes = at (place_or_none accou
 
 -- ## What is exposed
 
--- a committee in rising order whose snapshot is well formed, and where no voter gives beyond its stake
-pub record IsGiven (committee : Committee) : Type 0 where
-  pub sound : IsWellFormed committee.snapshot
-  pub follows : Follows committee.snapshot committee.weights
-  pub stakes : (voter : ℕ) → voter < length committee.snapshot.voters → spent committee.weights.edges voter ≤ stake_of committee.snapshot voter
-
-pub exposures_sound : (committee : Committee) → IsGiven committee → AreNoted committee.snapshot.targets committee.commissions → AreSound (exposures_of committee)
+pub exposures_sound : (committee : Committee) → IsElected committee → AreNoted committee.snapshot.targets committee.commissions
+    → AreSound (exposures_of committee)
 exposures_sound committee given noted =
     let ordered = order_law committee.snapshot.targets (voters_in committee) committee.commissions (supports_in committee) committee.weights.edges committee.weights.committee
     (elected_by committee given.sound given.follows noted) in
     sound_law committee.snapshot.targets (voters_in committee) committee.commissions (supports_in committee) (edges_in committee) committee.weights.committee ordered.0
 
-pub exposures_within : (committee : Committee) (who : AccountId) → IsGiven committee → AreNoted committee.snapshot.targets committee.commissions
+pub exposures_within : (committee : Committee) (who : AccountId) → IsElected committee
+    → AreNoted committee.snapshot.targets committee.commissions
     → exposed_for who (exposures_of committee) ≤ stake_in committee.snapshot who
 exposures_within committee who given noted =
     let ordered = order_law committee.snapshot.targets (voters_in committee) committee.commissions (supports_in committee) committee.weights.edges committee.weights.committee

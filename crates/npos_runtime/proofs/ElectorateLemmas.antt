@@ -160,11 +160,13 @@ seats_within (Some params) sound =
 
 -- ## Commissions
 
-commissions_within : (roles : RoleList) (accounts : List AccountId) → ((who : AccountId) → commission_in (role_of roles who) ≤ WHOLE_FRACTION)
+commissions_within : (roles : RoleList) (accounts : List AccountId)
+    → ((who : AccountId) → commission_in (role_of roles who) ≤ WHOLE_FRACTION)
     → All (λ commission. commission ≤ WHOLE_FRACTION) (map (λ who. commission_in (role_of roles who)) accounts)
 commissions_within roles [] each = All-nil (λ (commission : ℕ). commission ≤ WHOLE_FRACTION)
 commissions_within roles (account ∷ accounts) each =
-    All-cons (λ (commission : ℕ). commission ≤ WHOLE_FRACTION) (commission_in (role_of roles account)) (map (λ who. commission_in (role_of roles who)) accounts)
+    All-cons (λ (commission : ℕ). commission ≤ WHOLE_FRACTION) (commission_in (role_of roles account))
+    (map (λ who. commission_in (role_of roles who)) accounts)
     (each account) (commissions_within roles accounts each)
 
 noted : (chain : Chain) → IsLive chain → AreNoted (validators_of chain.roles) (commissions_of chain.roles)
@@ -177,15 +179,18 @@ noted chain live = record {
 pub sound_round : (chain : Chain) (number : ℕ) → IsLive chain → IsSoundRound (Some (round_now chain number))
 sound_round chain number live = at (is_few (snapshot_of chain)) (is_poor (snapshot_of chain)) refl refl where
   at : (few poor : Bool) → is_few (snapshot_of chain) ≡ few → is_poor (snapshot_of chain) ≡ poor
-      → IsSoundRound (Some (if few || poor then rounds.Void number else rounds.Open number (snapshot_of chain) (commissions_of chain.roles)))
+      → IsSoundRound
+      (Some (if few || poor then rounds.Void number else rounds.Open number (snapshot_of chain) (commissions_of chain.roles)))
   at true poor f p = tt
   at false true f p = tt
   at false false f p =
-      let seats = seats_within chain.params live.params in
-      (record {
-        voters = ballot_sound chain live;
-        seats_some = seats.0;
-        seats_few = seats.1;
-        targets_enough = ltb-false (length (snapshot_of chain).targets) (snapshot_of chain).seats f;
-        total_enough = ltb-false (total_of (snapshot_of chain).voters) ((snapshot_of chain).seats * (snapshot_of chain).seats) p;
-      }, noted chain live)
+      let seats = seats_within chain.params live.params in (
+        record {
+          voters = ballot_sound chain live;
+          seats_some = seats.0;
+          seats_few = seats.1;
+          targets_enough = ltb-false (length (snapshot_of chain).targets) (snapshot_of chain).seats f;
+          total_enough = ltb-false (total_of (snapshot_of chain).voters) ((snapshot_of chain).seats * (snapshot_of chain).seats) p;
+        },
+        noted chain live,
+      )

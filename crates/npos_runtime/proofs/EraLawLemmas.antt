@@ -1,6 +1,5 @@
 -- What eras come to over blocks: payouts within the reward, and slashes within the stake.
-use Rattle.std.proofs.Common.{◌≡◌, ◌≢◌, ℕ, zero, suc, ◌+◌, ◌-◌, ◌<◌, ◌≤◌, min, Bool, true, false, cond, not, ◌==◌, nat_eq, nat_lt, List, [], ◌∷◌, ◌++◌, map, sum_by, slice_get, unwrap_or, Option, Some, None, refl, ap, sym, subst, ◌∙◌, arith, if◌then◌else◌}
-use Rattle.std.specs.List.{IsDistinct}
+use Rattle.std.proofs.Common.{◌≡◌, ◌≢◌, ◌^◌, ℕ, zero, suc, ◌+◌, ◌-◌, ◌<◌, ◌≤◌, min, Bool, true, false, cond, not, ◌==◌, nat_eq, nat_lt, List, [], ◌∷◌, ◌++◌, length, sum_by, slice_get, unwrap_or, Option, Some, None, refl, ap, sym, subst, ◌∙◌, arith, if◌then◌else◌}
 use Rattle.std.proofs.lemmas.Bool.Decides.{nat_tests}
 use Rattle.std.proofs.lemmas.List.Sums.{sum_by-cons, sum_by-append}
 use Rattle.std.proofs.lemmas.List.Elements.{All-nil}
@@ -24,13 +23,15 @@ use Rattle.election_check.specs.Laws.{PackedYesIsAccepting, PlainYesIsPassing}
 use Rattle.quota_fill.specs.Laws.{EveryFillPasses}
 use Rattle.era_book.specs.declared.exposure.Backer.{Backer}
 use Rattle.era_book.specs.declared.exposure.Exposure.{Exposure}
-use Rattle.era_book.specs.Exposures.{amount_sum, exposed_for}
+use Rattle.era_book.specs.Exposures.{amount_sum, exposed_for, AreSound}
 use Rattle.era_book.specs.Calls.{slash_in}
 use Rattle.era_book.specs.Eras.{first_era}
 use Rattle.era_book.specs.Events.{Event, Paid, AreAccepted, after_all, given_by, pays, makes_due, exposures_of}
 use Rattle.era_book.proofs.EventLemmas.{accepted_append, after_append, given_append}
 use Rattle.era_book.proofs.LawLemmas.{reward_law, due_law}
 use Rattle.npos_runtime.specs.declared.chain.Chain.{Chain}
+use Rattle.npos_runtime.specs.Committee.{Committee}
+use Rattle.npos_runtime.specs.Exposed.{exposed}
 use Rattle.block_receipts.specs.declared.refusal.Refusal.{Refusal}
 use Rattle.chain_params.specs.Rules.{era_of, era_reward_of}
 use Rattle.npos_runtime.specs.Outcome.{Election}
@@ -39,39 +40,46 @@ use Rattle.npos_runtime.specs.CallRule.{CallRule}
 use Rattle.npos_runtime.specs.Calls.{rule_of, rule_for}
 use Rattle.npos_runtime.specs.Step.{before_calls, call_after, call_outcome, step, after_blocks, seated_by}
 use Rattle.npos_runtime.specs.Genesis.{params_of, genesis_chain}
-use Rattle.npos_runtime.specs.Live.{IsLive}
+use Rattle.npos_runtime.specs.Live.{IsLive, IsBetweenBlocks, IsNotedCommittee, WasElected}
 use Rattle.npos_runtime.specs.History.{CanTake, IsHistory}
-use Rattle.npos_runtime.specs.EraLaws.{event_of, events_at, events_in, events_by, HistoryLaw, over_calls, over_blocks, paid_for, paid_by, paid_in, PaidWithinRewardLaw, chain_at, PaidAsToldLaw, bonded, IsTaken, AreTaken, SlashLaw, taken_for, taken_by, due_by, due_in, TakenLaw, OnceLaw, elected_for, stake_behind, DueWithinStakeLaw}
+use Rattle.npos_runtime.specs.EraLaws.{event_of, events_at, events_in, events_by, HistoryLaw, over_calls, over_blocks, paid_for, paid_by, paid_in, PaidWithinRewardLaw, chain_at, PaidAsToldLaw, bonded, IsTaken, AreTaken, SlashLaw, taken_for, taken_by, due_by, due_in, TakenLaw, elected_for, stake_behind, DueWithinStakeLaw}
 use Rattle.npos_runtime.proofs.RuleLemmas.{FollowsEvents}
 use Rattle.npos_runtime.proofs.OfficeCallLemmas.{slashed_live, told_payout, payout_free}
 use Rattle.npos_runtime.proofs.CallTable.{lawful_call}
-use Rattle.npos_runtime.proofs.LiveLemmas.{live_before, live_calls, live_blocks, params_step, params_blocks}
-use Rattle.npos_runtime.proofs.BeginLemmas.{live_begun}
+use Rattle.npos_runtime.proofs.LiveLemmas.{live_before, live_calls, live_blocks, due_step}
+use Rattle.npos_runtime.proofs.BeginLemmas.{live_begun, start_law}
 use Rattle.npos_runtime.proofs.OfficeLemmas.{payout_sums}
 use Rattle.chain_params.proofs.PhaseLemmas.{era_first}
-use Rattle.npos_runtime.proofs.HistoryLemmas.{accepted_plain, eras_block, sum_blocks}
-use Rattle.npos_runtime.proofs.SeatedLemmas.{same_round}
-use Rattle.npos_runtime.proofs.StoryLemmas.{IsStory, story_blocks, story_accepted, plain_seated, plain_begun}
+use Rattle.npos_runtime.proofs.HistoryLemmas.{accepted_block, eras_block, sum_blocks}
+use Rattle.npos_runtime.proofs.StoryLemmas.{IsStory, story_blocks, plain_begun}
+use Rattle.npos_runtime.proofs.ElectedLemmas.{exposures_sound, nobody_sound}
+use Rattle.npos_runtime.proofs.TimeLemmas.{between_step, between_blocks}
 
 -- ## What calls tell
 
-paid_rule : (era : ℕ) (params : Option Params) (due : Option Refusal) (index : ℕ) (rule : CallRule) (chain : Chain) → chain.params ≡ params → FollowsEvents chain rule
-    → paid_for era (event_of due rule) (call_after due index rule chain).lines ≡ given_by (pays era (era_reward_of params)) (event_of due rule) chain.eras
+paid_rule : (era : ℕ) (params : Option Params) (due : Option Refusal) (index : ℕ) (rule : CallRule) (chain : Chain) → chain.params ≡ params
+    → FollowsEvents chain rule
+    → paid_for era (event_of due rule) (call_after due index rule chain).lines ≡ given_by (pays era (era_reward_of params))
+    (event_of due rule) chain.eras
 paid_rule era params None index rule chain is follows =
     follows.paid era index ∙ ap (λ (ps : Option Params). given_by (pays era (era_reward_of ps)) rule.events chain.eras) is
 paid_rule era params (Some refusal) index rule chain is follows = refl
 
 paid_call : (era : ℕ) (params : Option Params) (index : ℕ) (call : Call) (chain : Chain) → chain.params ≡ params
     → paid_by era index call chain ≡ given_by (pays era (era_reward_of params)) (events_at call chain) chain.eras
-paid_call era params index call chain is = paid_rule era params (rule_for chain call).refusal index (rule_for chain call) chain is (lawful_call call chain).eras
+paid_call era params index call chain is =
+    paid_rule era params (rule_for chain call).refusal index (rule_for chain call) chain is (lawful_call call chain).eras
 
 taken_rule : (era : ℕ) (who : AccountId) (due : Option Refusal) (index : ℕ) (rule : CallRule) (chain : Chain) → FollowsEvents chain rule
-    → taken_for era who (event_of due rule) (call_after due index rule chain).lines ≤ given_by (makes_due era who) (event_of due rule) chain.eras
+    → taken_for era who (event_of due rule) (call_after due index rule chain).lines ≤ given_by (makes_due era who)
+    (event_of due rule) chain.eras
 taken_rule era who None index rule chain follows = follows.taken era who index
 taken_rule era who (Some refusal) index rule chain follows = omega arith
 
-taken_call : (era : ℕ) (who : AccountId) (index : ℕ) (call : Call) (chain : Chain) → taken_by era who index call chain ≤ due_by era who index call chain
-taken_call era who index call chain = taken_rule era who (rule_for chain call).refusal index (rule_for chain call) chain (lawful_call call chain).eras
+taken_call : (era : ℕ) (who : AccountId) (index : ℕ) (call : Call) (chain : Chain)
+    → taken_by era who index call chain ≤ due_by era who index call chain
+taken_call era who index call chain =
+    taken_rule era who (rule_for chain call).refusal index (rule_for chain call) chain (lawful_call call chain).eras
 
 module _ (less more : ℕ → Call → Chain → ℕ) (each : (index : ℕ) (call : Call) (chain : Chain) → less index call chain ≤ more index call chain) where
   fewer_calls : (index : ℕ) (calls : List Call) (chain : Chain) → over_calls less index calls chain ≤ over_calls more index calls chain
@@ -161,15 +169,44 @@ slash_law chain blocks calls can who era validator fraction free =
     let now : Chain = chain_at chain blocks calls in
     taken_each (slash_in now.eras era validator fraction) now (live_at chain blocks calls can)
 
--- ## From the genesis on
-
 no_exposure : (who : AccountId) (era : ℕ) → exposed_for who (unwrap_or (slice_get ([] ∷ []) era) []) ≡ 0
 no_exposure who zero = refl
 no_exposure who (suc era) = refl
 
-nobody_twice : IsDistinct same_round []
-unfolding IsDistinct
-nobody_twice = tt
+-- ## From any chain on
+
+eras_blocks : (chain : Chain) (blocks : List Block) → after_all (events_by chain blocks) chain.eras ≡ (after_blocks chain blocks).eras
+eras_blocks chain [] = refl
+eras_blocks chain (block ∷ more) =
+    after_append (events_in chain block) (events_by (step chain block).state more) chain.eras
+    ∙ ap (after_all (events_by (step chain block).state more)) (eras_block chain block)
+    ∙ eras_blocks (step chain block).state more
+
+-- who waits exposes nobody twice
+sound_waiting : (waiting : Option Committee) → WasElected waiting → IsNotedCommittee waiting → AreSound (exposed waiting)
+sound_waiting None elected noted = nobody_sound
+sound_waiting (Some committee) elected noted = exposures_sound committee elected noted
+
+accepted_next : (chain : Chain) (block : Block) → IsBetweenBlocks chain → AreAccepted (events_in chain block) chain.eras
+accepted_next chain block rests = accepted_block chain block (sound_waiting chain.waiting rests.elected rests.live.waiting)
+
+accepted_blocks : (chain : Chain) (blocks : List Block) → IsBetweenBlocks chain → chain.due + length blocks ≤ 2 ^ 32
+    → AreAccepted (events_by chain blocks) chain.eras
+accepted_blocks chain [] rests fit = tt
+accepted_blocks chain (block ∷ more) rests fit =
+    let next : Chain = (step chain block).state in
+    accepted_append (events_in chain block) (events_by next more) chain.eras (accepted_next chain block rests)
+    (subst (AreAccepted (events_by next more)) (sym (eras_block chain block))
+    (accepted_blocks next more (between_step chain block rests (omega (arith, fit))) (omega (arith, fit, due_step chain block))))
+
+pub history_law : HistoryLaw
+history_law chain blocks can = (accepted_blocks chain blocks can.between can.fit, eras_blocks chain blocks)
+
+accepted_from : (genesis : Genesis) (blocks : List Block) → IsHistory genesis blocks
+    → AreAccepted (events_by (genesis_chain genesis) blocks) first_era
+accepted_from genesis blocks history = (history_law (genesis_chain genesis) blocks (start_law genesis blocks history)).0
+
+-- ## From the genesis on
 
 module _ (packed : PackedYesIsAccepting) (plain : PlainYesIsPassing) (fill : EveryFillPasses) where
   -- the story of a genesis with params
@@ -187,40 +224,11 @@ module _ (packed : PackedYesIsAccepting) (plain : PlainYesIsPassing) (fill : Eve
           waits = tt;
           latest = All-nil (λ (e : Election). e.round ≤ era_of (Some params) 1 + 1);
           earlier = λ before. All-nil (λ (e : Election). e.round ≤ era_of (Some params) 1);
-          once = nobody_twice;
         };
         current = sym (era_first (Some params));
-        accepted = tt;
-        eras_are = refl;
         count = refl;
         covered = λ who k. omega (arith, no_exposure who k);
       })
-
-  plain_accepted : (chain : Chain) (blocks : List Block) → chain.params ≡ None → AreAccepted (events_by chain blocks) chain.eras
-  plain_accepted chain [] none = tt
-  plain_accepted chain (block ∷ more) none =
-      accepted_append (events_in chain block) (events_by (step chain block).state more) chain.eras (accepted_plain chain block none)
-      (subst (AreAccepted (events_by (step chain block).state more)) (sym (eras_block chain block)) (plain_accepted (step chain block).state more (params_step chain block ∙ none)))
-
-  eras_blocks : (chain : Chain) (blocks : List Block) → after_all (events_by chain blocks) chain.eras ≡ (after_blocks chain blocks).eras
-  eras_blocks chain [] = refl
-  eras_blocks chain (block ∷ more) =
-      after_append (events_in chain block) (events_by (step chain block).state more) chain.eras
-      ∙ ap (after_all (events_by (step chain block).state more)) (eras_block chain block)
-      ∙ eras_blocks (step chain block).state more
-
-  accepted_from : (genesis : Genesis) (blocks : List Block) → IsHistory genesis blocks → AreAccepted (events_by (genesis_chain genesis) blocks) first_era
-  accepted_from (geneses.Plain endowments) blocks history = plain_accepted (genesis_chain (geneses.Plain endowments)) blocks refl
-  accepted_from (geneses.Full endowments params) blocks history = (full_story endowments params blocks history).accepted
-
-  pub history_law : HistoryLaw
-  history_law genesis blocks history = (accepted_from genesis blocks history, eras_blocks (genesis_chain genesis) blocks)
-
-  pub once_law : OnceLaw
-  unfolding IsDistinct
-  once_law (geneses.Plain endowments) blocks history =
-      subst (λ (elections : List Election). IsDistinct same_round elections) (sym (plain_seated (genesis_chain (geneses.Plain endowments)) blocks refl)) tt
-  once_law (geneses.Full endowments params) blocks history = (full_story endowments params blocks history).between.once
 
   pub rewards_law : PaidWithinRewardLaw
   rewards_law genesis blocks era history =
@@ -228,7 +236,12 @@ module _ (packed : PackedYesIsAccepting) (plain : PlainYesIsPassing) (fill : Eve
       let sum : paid_in era genesis blocks ≡ given_by (pays era (era_reward_of params)) (events_by (genesis_chain genesis) blocks) first_era =
       sum_blocks params (paid_by era) (pays era (era_reward_of params)) (paid_call era params) (λ exposures eras. refl)
       (genesis_chain genesis) blocks refl in
-      omega (arith, sum, reward_law era (era_reward_of params) (events_by (genesis_chain genesis) blocks) (accepted_from genesis blocks history))
+      omega (
+        arith,
+        sum,
+        reward_law era (era_reward_of params) (events_by (genesis_chain genesis) blocks)
+            (accepted_from genesis blocks history),
+      )
 
   covered_from : (genesis : Genesis) (blocks : List Block) (era : ℕ) (who : AccountId) → IsHistory genesis blocks
       → exposed_for who (exposures_of era (events_by (genesis_chain genesis) blocks)) ≤ stake_behind who (elected_for era (seated_by (genesis_chain genesis) blocks))
@@ -254,15 +267,12 @@ module _ (packed : PackedYesIsAccepting) (plain : PlainYesIsPassing) (fill : Eve
 
   accepted_block_from : (genesis : Genesis) (blocks : List Block) (calls : List Call) → IsHistory genesis blocks
       → AreAccepted (events_by (genesis_chain genesis) blocks ++ events_in (after_blocks (genesis_chain genesis) blocks) (cut calls)) first_era
-  accepted_block_from (geneses.Plain endowments) blocks calls history =
-      let first : Chain = genesis_chain (geneses.Plain endowments) in
-      accepted_append (events_by first blocks) (events_in (after_blocks first blocks) (cut calls)) first_era (accepted_from (geneses.Plain endowments) blocks history)
-      (subst (AreAccepted (events_in (after_blocks first blocks) (cut calls))) (sym (eras_blocks first blocks)) (accepted_plain (after_blocks first blocks) (cut calls) (params_blocks first blocks)))
-  accepted_block_from (geneses.Full endowments params) blocks calls history =
-      let first : Chain = genesis_chain (geneses.Full endowments params) in
-      let live : IsLive first = live_begun (geneses.Full endowments params) history.faultless in
-      story_accepted params packed plain fill live.params (after_blocks first blocks) (cut calls) (seated_by first blocks) (events_by first blocks) (live_blocks first blocks live history.fit)
-      (full_story endowments params blocks history)
+  accepted_block_from genesis blocks calls history =
+      let first : Chain = genesis_chain genesis in
+      let last : Chain = after_blocks first blocks in
+      accepted_append (events_by first blocks) (events_in last (cut calls)) first_era (accepted_from genesis blocks history)
+      (subst (AreAccepted (events_in last (cut calls))) (sym (eras_blocks first blocks))
+      (accepted_next last (cut calls) (between_blocks first blocks (start_law genesis blocks history).between history.fit)))
 
   minted_all : (lines_of : List Backer) (book : Ledger) → (all_minted lines_of book).minted ≡ book.minted + amount_sum lines_of
   minted_all [] book = omega arith

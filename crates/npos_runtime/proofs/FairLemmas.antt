@@ -26,40 +26,64 @@ module _ (number : ℕ) where
   -- what the lines settle, left the queue, and what joined it was given a number
   abbrev pub IsFair : Chain → List Line → Chain → Type 0
   IsFair old told new =
-      fate number told + (waiting_with number new.queue.items + issued number old.next) ≡ waiting_with number old.queue.items + issued number new.next
+      fate number told + (waiting_with number new.queue.items + issued number old.next)
+      ≡ waiting_with number old.queue.items + issued number new.next
 
   pub fair_then : (a b c : Chain) (first next : List Line) → IsFair a first b → IsFair b next c → IsFair a (first ++ next) c
   fair_then a b c first next p q = omega (arith, sum_by-append (settling number) first next, p, q)
 
   -- nothing is settled and nothing joins
-  pub fair_quiet : (old new : Chain) (told : List Line) → fate number told ≡ 0 → new.queue ≡ old.queue → new.next ≡ old.next → IsFair old told new
+  pub fair_quiet : (old new : Chain) (told : List Line) → fate number told ≡ 0 → new.queue ≡ old.queue → new.next ≡ old.next
+      → IsFair old told new
   fair_quiet old new told none same next =
       omega (arith, none, ap (λ (q : Ranking). waiting_with number q.items) same, ap (issued number) next)
 
-  pub waiting_more : (item : Submission) (items : List Submission) → waiting_with number (item ∷ items) ≡ numbered item + waiting_with number items
+  pub waiting_more : (item : Submission) (items : List Submission)
+      → waiting_with number (item ∷ items) ≡ numbered item + waiting_with number items
   waiting_more item items = sum_by-cons numbered item items
 
   pub returns_settle : (items : List Submission) → fate number (return_lines items) ≡ waiting_with number items
   returns_settle [] = refl
   returns_settle (item ∷ items) =
-      omega (arith, settled_more number (lines.Returned item.number item.deposit) (return_lines items), waiting_more item items, returns_settle items)
+      omega (
+        arith,
+        settled_more number (lines.Returned item.number item.deposit)
+            (return_lines items),
+        waiting_more item items,
+        returns_settle items,
+      )
 
-  forfeits_settle : (snapshot : Snapshot) (items : List Submission) → fate number (map (forfeit_line snapshot) items) ≡ waiting_with number items
+  forfeits_settle : (snapshot : Snapshot) (items : List Submission)
+      → fate number (map (forfeit_line snapshot) items) ≡ waiting_with number items
   forfeits_settle snapshot [] = refl
   forfeits_settle snapshot (item ∷ items) =
-      omega (arith, settled_more number (forfeit_line snapshot item) (map (forfeit_line snapshot) items), waiting_more item items, forfeits_settle snapshot items)
+      omega (
+        arith,
+        settled_more number (forfeit_line snapshot item)
+            (map (forfeit_line snapshot) items),
+        waiting_more item items,
+        forfeits_settle snapshot items,
+      )
 
-  members_settle : (snapshot : Snapshot) (weights : Weights) (members : List ℕ) → fate number (map (member_line snapshot weights) members) ≡ 0
+  members_settle : (snapshot : Snapshot) (weights : Weights) (members : List ℕ)
+      → fate number (map (member_line snapshot weights) members) ≡ 0
   members_settle snapshot weights [] = refl
   members_settle snapshot weights (member ∷ members) =
-      omega (arith, settled_more number (member_line snapshot weights member) (map (member_line snapshot weights) members), members_settle snapshot weights members)
+      omega (
+        arith,
+        settled_more number (member_line snapshot weights member)
+            (map (member_line snapshot weights) members),
+        members_settle snapshot weights members,
+      )
 
-  pays_settle : (reward : ℕ) (items : List Submission) (book : Ledger) → fate number (paid_lines reward items book) ≡ waiting_with number items
+  pays_settle : (reward : ℕ) (items : List Submission) (book : Ledger)
+      → fate number (paid_lines reward items book) ≡ waiting_with number items
   pays_settle reward [] book = refl
   pays_settle reward (winner ∷ rest) book =
       omega (
         arith,
-        settled_more number (lines.Returned winner.number winner.deposit) (lines.Reward winner.number (reward_in reward (returned book winner)) ∷ return_lines rest),
+        settled_more number (lines.Returned winner.number winner.deposit)
+            (lines.Reward winner.number (reward_in reward (returned book winner)) ∷ return_lines rest),
         settled_more number (lines.Reward winner.number (reward_in reward (returned book winner))) (return_lines rest),
         returns_settle rest,
         waiting_more winner rest,

@@ -57,7 +57,8 @@ module _ (number : ℕ) where
       let moved = (taken chain.queue item live.queue (offer_free chain item none).1).moved in
       omega (
         arith,
-        sum_by-IsPermutation (numbered number) (item ∷ chain.queue.items) (ejected chain.queue item ++ (offered chain.queue item).items) moved,
+        sum_by-IsPermutation (numbered number) (item ∷ chain.queue.items)
+            (ejected chain.queue item ++ (offered chain.queue item).items) moved,
         sum_by-append (numbered number) (ejected chain.queue item) (offered chain.queue item).items,
         waiting_more number item chain.queue.items,
         issued_next chain.next,
@@ -66,7 +67,8 @@ module _ (number : ℕ) where
 
   fair_submitted : (index : ℕ) (chain : Chain) (who : AccountId) (round : ℕ) (claim : Score) (bytes : List ℕ) → IsLive chain
       → (submit_rule chain who round claim bytes).refusal ≡ None
-      → IsFair number chain (lines.CallOk index ∷ (submit_rule chain who round claim bytes).told) (submit_rule chain who round claim bytes).done
+      → IsFair number chain (lines.CallOk index ∷ (submit_rule chain who round claim bytes).told)
+      (submit_rule chain who round claim bytes).done
   fair_submitted index chain who round claim bytes live none =
       let item : Submission = submission_of chain who claim bytes in
       omega (
@@ -92,11 +94,13 @@ module _ (number : ℕ) where
   fair_after None index chain who rule live e queue = fair_done index chain who rule live e queue
   fair_after (Some refusal) index chain who rule live e queue = omega arith
 
-  fair_calls : (index : ℕ) (calls : List Call) (chain : Chain) → IsLive chain → IsFair number chain (calls_outcome index calls chain).lines (calls_outcome index calls chain).state
+  fair_calls : (index : ℕ) (calls : List Call) (chain : Chain) → IsLive chain
+      → IsFair number chain (calls_outcome index calls chain).lines (calls_outcome index calls chain).state
   fair_calls index [] chain live = omega arith
   fair_calls index (call ∷ calls) chain live =
       let once : Outcome = call_outcome index call chain in
-      fair_then number chain once.state (calls_outcome (index + 1) calls once.state).state once.lines (calls_outcome (index + 1) calls once.state).lines
+      fair_then number chain once.state (calls_outcome (index + 1) calls once.state).state once.lines
+      (calls_outcome (index + 1) calls once.state).lines
       (fair_after (rule_for chain call).refusal index chain call.who (rule_for chain call) live refl (lawful_call call chain).queue)
       (fair_calls (index + 1) calls once.state (live_call index call chain live))
 
@@ -104,11 +108,15 @@ module _ (number : ℕ) where
   fair_step chain block live =
       let start : Chain = before_calls chain in
       let calls : Outcome = calls_outcome 0 block.calls start in
-      fair_then number chain chain (step chain block).state (lines.Block block.number ∷ []) ((in_turn phases chain).lines ++ (calls.lines ++ [])) (omega arith)
-      (fair_then number chain start (step chain block).state (in_turn phases chain).lines (calls.lines ++ []) (fair_in_turn number phases phases_keep chain)
-      (fair_then number start calls.state (step chain block).state calls.lines [] (fair_calls 0 block.calls start (live_before chain live)) (omega arith)))
+      fair_then number chain chain (step chain block).state (lines.Block block.number ∷ [])
+      ((in_turn phases chain).lines ++ (calls.lines ++ [])) (omega arith)
+      (fair_then number chain start (step chain block).state (in_turn phases chain).lines (calls.lines ++ [])
+      (fair_in_turn number phases phases_keep chain)
+      (fair_then number start calls.state (step chain block).state calls.lines [] (fair_calls 0 block.calls start (live_before chain live))
+      (omega arith)))
 
-  fair_blocks : (chain : Chain) (blocks : List Block) → IsLive chain → chain.due + length blocks ≤ 2 ^ 32 → IsFair number chain (told_by chain blocks) (after_blocks chain blocks)
+  fair_blocks : (chain : Chain) (blocks : List Block) → IsLive chain → chain.due + length blocks ≤ 2 ^ 32
+      → IsFair number chain (told_by chain blocks) (after_blocks chain blocks)
   fair_blocks chain [] live fit = omega arith
   fair_blocks chain (block ∷ more) live fit =
       let next : Chain = (step chain block).state in

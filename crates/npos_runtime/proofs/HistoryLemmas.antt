@@ -23,7 +23,8 @@ use Rattle.npos_runtime.proofs.LiveLemmas.{eras_before, fixed_call, params_befor
 
 -- ## The events of calls
 
-accepted_after : (due : Option Refusal) (rule : CallRule) (chain : Chain) → rule.refusal ≡ due → FollowsEvents chain rule → AreAccepted (event_of due rule) chain.eras
+accepted_after : (due : Option Refusal) (rule : CallRule) (chain : Chain) → rule.refusal ≡ due → FollowsEvents chain rule
+    → AreAccepted (event_of due rule) chain.eras
 accepted_after None rule chain free follows = follows.accepted free
 accepted_after (Some refusal) rule chain free follows = tt
 
@@ -35,7 +36,8 @@ eras_rule : (due : Option Refusal) (index : ℕ) (rule : CallRule) (chain : Chai
 eras_rule None index rule chain follows = follows.eras
 eras_rule (Some refusal) index rule chain follows = refl
 
-eras_call : (index : ℕ) (call : Call) (chain : Chain) → after_all (events_at call chain) chain.eras ≡ (call_outcome index call chain).state.eras
+eras_call : (index : ℕ) (call : Call) (chain : Chain)
+    → after_all (events_at call chain) chain.eras ≡ (call_outcome index call chain).state.eras
 eras_call index call chain = eras_rule (rule_for chain call).refusal index (rule_for chain call) chain (lawful_call call chain).eras
 
 accepted_calls : (index : ℕ) (calls : List Call) (chain : Chain) → AreAccepted (events_of index calls chain) chain.eras
@@ -88,10 +90,6 @@ after_start chain block start =
 
 pub accepted_block : (chain : Chain) (block : Block) → AreSound (exposed chain.waiting) → AreAccepted (events_in chain block) chain.eras
 accepted_block chain block sound = after_start chain block (accepted_start chain.waiting (begun_era chain.params chain.due) chain.eras sound)
-
-pub accepted_plain : (chain : Chain) (block : Block) → chain.params ≡ None → AreAccepted (events_in chain block) chain.eras
-accepted_plain chain block none =
-    after_start chain block (subst (λ (params : Option Params). AreAccepted (started_by chain.waiting (begun_era params chain.due)) chain.eras) (sym none) tt)
 
 pub eras_block : (chain : Chain) (block : Block) → after_all (events_in chain block) chain.eras ≡ (step chain block).state.eras
 eras_block chain block =

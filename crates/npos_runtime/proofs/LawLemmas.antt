@@ -40,7 +40,8 @@ seats_calls : (index : ℕ) (calls : List Call) (chain : Chain) → (calls_outco
 seats_calls index [] chain = refl
 seats_calls index (call ∷ calls) chain =
     let next : Chain = (call_outcome index call chain).state in
-    ap (λ (es : List Election). es ++ (calls_outcome (index + 1) calls next).seated) (seats_after (rule_for chain call).refusal index (rule_for chain call) chain)
+    ap (λ (es : List Election). es ++ (calls_outcome (index + 1) calls next).seated)
+    (seats_after (rule_for chain call).refusal index (rule_for chain call) chain)
     ∙ seats_calls (index + 1) calls next
 
 -- what the step seats is what its decision seats
@@ -106,7 +107,8 @@ not_begun (Some params) number sound is = at (place_of params number == params.o
 pub decides : (chain : Chain) (round : Option Round) → IsLive chain → is_decision chain.params chain.due ≡ true → chain.round ≡ round
     → decision_phase (undecided chain) ≡ decision_of round (undecided chain)
 decides chain round live is stands =
-    let last : (undecided chain).round ≡ round = ap (round_after (era_phase chain).state) (not_begun chain.params chain.due live.params is) ∙ stands in
+    let last : (undecided chain).round ≡ round =
+    ap (round_after (era_phase chain).state) (not_begun chain.params chain.due live.params is) ∙ stands in
     (λ i. if is i then decision_of (undecided chain).round (undecided chain) else quiet (undecided chain))
     ∙ ap (λ round. decision_of round (undecided chain)) last
 

@@ -31,6 +31,7 @@ pub mod SubmitLemmas
 pub mod FateLemmas
 pub mod LawLemmas
 pub mod CrowdingLemmas
+pub mod WaitingLemmas
 pub mod TimeLemmas
 pub mod DepositsLemmas
 pub mod SeatingsLemmas
@@ -38,4 +39,5 @@ pub mod HistoryLemmas
 pub mod ElectedLemmas
 pub mod SeatedLemmas
 pub mod StoryLemmas
+pub mod OnceLemmas
 pub mod EraLawLemmas

@@ -18,7 +18,8 @@ use Rattle.npos_runtime.proofs.PartLemmas.{none_inside, second_none, listed_of, 
 use Rattle.npos_runtime.proofs.RuleLemmas.{KeepsLive}
 
 -- an account takes a role, and keeps its place only if it had one
-placed_live : (chain : Chain) (who : AccountId) (standing : Standing) (stays : Bool) (score : ℕ) → IsLive chain → AreRoles (with_standing chain.roles who standing)
+placed_live : (chain : Chain) (who : AccountId) (standing : Standing) (stays : Bool) (score : ℕ) → IsLive chain
+    → AreRoles (with_standing chain.roles who standing)
     → (stays ≡ true → has_role chain.roles who ≡ true)
     → IsLive (record chain { roles = with_standing chain.roles who standing; bags = placed stays chain.bags who score })
 placed_live chain who standing stays score live kept had =
@@ -36,7 +37,8 @@ validator_has : (o : Option Standing) → is_validator_role (role_in o) ≡ true
 validator_has None e = absurd (true≢false (sym e))
 validator_has (Some standing) e = refl
 
-rebag_listed : (listing : Listing) (who : AccountId) (score : ℕ) → list_rebag_refusal listing who score ≡ None → is_listed listing.order who ≡ true
+rebag_listed : (listing : Listing) (who : AccountId) (score : ℕ) → list_rebag_refusal listing who score ≡ None
+    → is_listed listing.order who ≡ true
 rebag_listed listing who score allowed = at (is_listed listing.order who) refl where
   at : (b : Bool) → is_listed listing.order who ≡ b → b ≡ true
   at true e = refl
@@ -51,29 +53,31 @@ front_listed listing who score lighter lighter_score allowed = at (is_listed lis
 
 pub nominate_live : (chain : Chain) (who : AccountId) (targets : List AccountId) → KeepsLive chain (nominate_rule chain who targets)
 nominate_live chain who targets live free =
-    let allowed = none_inside ByList (list_nominate_refusal chain.roles who targets) (second_none (option_map ByLedger (role_refusal chain who)) (option_map ByList (list_nominate_refusal chain.roles who targets)) free) in
+    let allowed =
+    none_inside ByList (list_nominate_refusal chain.roles who targets)
+    (second_none (option_map ByLedger (role_refusal chain who)) (option_map ByList (list_nominate_refusal chain.roles who targets)) free) in
     placed_live chain who (Nominator targets) (is_nominator_role (role_of chain.roles who)) (active_of chain who) live
     (kept_nominated chain.roles who targets live.roles allowed) (nominator_has (standing_of chain.roles who))
 
-
 pub validate_live : (chain : Chain) (who : AccountId) (commission : ℕ) → KeepsLive chain (validate_rule chain who commission)
 validate_live chain who commission live free =
-    let allowed = none_inside ByList (list_validate_refusal chain.roles who commission) (second_none (option_map ByLedger (role_refusal chain who)) (option_map ByList (list_validate_refusal chain.roles who commission)) free) in
+    let allowed =
+    none_inside ByList (list_validate_refusal chain.roles who commission)
+    (second_none (option_map ByLedger (role_refusal chain who))
+    (option_map ByList (list_validate_refusal chain.roles who commission)) free) in
     placed_live chain who (Validator commission) (is_validator_role (role_of chain.roles who)) (active_of chain who) live
     (kept_validating chain.roles who commission live.roles allowed) (validator_has (standing_of chain.roles who))
 
-
 pub chill_live : (chain : Chain) (who : AccountId) → KeepsLive chain (chill_rule chain who)
 chill_live chain who live free = without_live chain who live
-
 
 pub rebag_live : (chain : Chain) (whom : AccountId) → KeepsLive chain (rebag_rule chain whom)
 rebag_live chain whom live free =
     with_lists chain chain.roles (moved chain.bags whom (active_of chain whom)) live
     (kept_rebagged (has_role chain.roles) chain.bags whom (listed_of chain live) (active_of chain whom)
-    (rebag_listed chain.bags whom (active_of chain whom) (none_inside ByList (list_rebag_refusal chain.bags whom (active_of chain whom)) free)))
+    (rebag_listed chain.bags whom (active_of chain whom)
+    (none_inside ByList (list_rebag_refusal chain.bags whom (active_of chain whom)) free)))
     live.roles
-
 
 pub put_in_front_live : (chain : Chain) (who lighter : AccountId) → KeepsLive chain (put_in_front_rule chain who lighter)
 put_in_front_live chain who lighter live free =
@@ -82,4 +86,3 @@ put_in_front_live chain who lighter live free =
     (front_listed chain.bags who (active_of chain who) lighter (active_of chain lighter)
     (none_inside ByList (list_put_in_front_refusal chain.bags who (active_of chain who) lighter (active_of chain lighter)) free)))
     live.roles
-

@@ -29,13 +29,15 @@ live_after (Some refusal) index rule chain live free keeps = live
 
 -- a call keeps the chain live, whether it is refused or not
 pub live_call : (index : ℕ) (call : Call) (chain : Chain) → IsLive chain → IsLive (call_outcome index call chain).state
-live_call index call chain live = live_after (rule_for chain call).refusal index (rule_for chain call) chain live refl (lawful_call call chain).live
+live_call index call chain live =
+    live_after (rule_for chain call).refusal index (rule_for chain call) chain live refl (lawful_call call chain).live
 
 pub live_calls : (index : ℕ) (calls : List Call) (chain : Chain) → IsLive chain → IsLive (calls_outcome index calls chain).state
 live_calls index [] chain live = live
 live_calls index (call ∷ calls) chain live = live_calls (index + 1) calls (call_outcome index call chain).state (live_call index call chain live)
 
-fixed_after : (due : Option Refusal) (index : ℕ) (rule : CallRule) (chain : Chain) → IsFixed chain rule.done → IsFixed chain (call_after due index rule chain).state
+fixed_after : (due : Option Refusal) (index : ℕ) (rule : CallRule) (chain : Chain) → IsFixed chain rule.done
+    → IsFixed chain (call_after due index rule chain).state
 fixed_after None index rule chain fixed = fixed
 fixed_after (Some refusal) index rule chain fixed = fixed_itself chain
 
@@ -121,7 +123,8 @@ era_step chain block live is =
     ∙ (λ i. era_of (sym params i) (sym back i))))
 
 -- a call takes at most one number
-next_after : (due : Option Refusal) (index : ℕ) (rule : CallRule) (chain : Chain) → rule.done.next ≤ chain.next + 1 → (call_after due index rule chain).state.next ≤ chain.next + 1
+next_after : (due : Option Refusal) (index : ℕ) (rule : CallRule) (chain : Chain) → rule.done.next ≤ chain.next + 1
+    → (call_after due index rule chain).state.next ≤ chain.next + 1
 next_after None index rule chain most = most
 next_after (Some refusal) index rule chain most = omega arith
 

@@ -33,7 +33,8 @@ use Rattle.npos_runtime.proofs.RuleLemmas.{KeepsLive, IsLawful}
 pub slashed_live : (due : Backer) (chain : Chain) → IsLive chain → IsLive (slashed_once due chain)
 slashed_live due chain live =
     retired_live (record chain { book = slashed due.who due.amount chain.book }) due.who
-    (with_books chain (slashed due.who due.amount chain.book) live (books_slashed (release_now chain) chain.book due.who due.amount chain.queue.items live.books))
+    (with_books chain (slashed due.who due.amount chain.book) live
+    (books_slashed (release_now chain) chain.book due.who due.amount chain.queue.items live.books))
 
 pub slashes_live : (dues : List Backer) (chain : Chain) → IsLive chain → IsLive (slashes dues chain).state
 slashes_live [] chain live = live
@@ -50,15 +51,19 @@ slashes_within [] chain = refl
 slashes_within (due ∷ more) chain = slashes_within more (slashed_once due chain)
 
 -- the slashes of a report, and the fraction kept
-pub offence_is : (chain left : Chain) (who : AccountId) (era : ℕ) (validator : AccountId) (fraction : ℕ) (dues : List Backer) (eras : Eras) → dues ≡ slash_in chain.eras era validator fraction
-    → left ≡ (slashes dues chain).state → eras ≡ reported era validator fraction left.eras → record left { eras = eras } ≡ (offence_rule chain who era validator fraction).done
+pub offence_is : (chain left : Chain) (who : AccountId) (era : ℕ) (validator : AccountId) (fraction : ℕ) (dues : List Backer) (eras : Eras)
+    → dues ≡ slash_in chain.eras era validator fraction
+    → left ≡ (slashes dues chain).state → eras ≡ reported era validator fraction left.eras
+    → record left { eras = eras } ≡ (offence_rule chain who era validator fraction).done
 offence_is chain left who era validator fraction dues eras all is kept =
     let whole : left ≡ record chain {
       book = (slashes (slash_in chain.eras era validator fraction) chain).state.book;
       roles = (slashes (slash_in chain.eras era validator fraction) chain).state.roles;
       bags = (slashes (slash_in chain.eras era validator fraction) chain).state.bags;
-    } = is ∙ (ap (λ (ds : List Backer). (slashes ds chain).state) all ∙ slashes_within (slash_in chain.eras era validator fraction) chain) in
-    let marked : eras ≡ reported era validator fraction chain.eras = kept ∙ ap (λ (c : Chain). reported era validator fraction c.eras) whole in
+    } = is ∙ (ap (λ (ds : List Backer). (slashes ds chain).state) all ∙ slashes_within
+    (slash_in chain.eras era validator fraction) chain) in
+    let marked : eras ≡ reported era validator fraction chain.eras =
+    kept ∙ ap (λ (c : Chain). reported era validator fraction c.eras) whole in
     λ i. record (whole i) { eras = marked i }
 
 -- what a payout that is not refused pays fits into what may still be minted
@@ -66,10 +71,12 @@ pub payout_fits : (chain : Chain) (era : ℕ) (validator : AccountId) → (payou
     → amount_sum (payout_now chain era validator).lines ≤ room_of chain.book
 payout_fits chain era validator free =
     let allowed = none_inside ByLedger (mint_refusal chain.book (payout_now chain era validator).total)
-    (second_none (option_map ByEra (payout_refusal chain.eras era validator)) (option_map ByLedger (mint_refusal chain.book (payout_now chain era validator).total)) free) in
+    (second_none (option_map ByEra (payout_refusal chain.eras era validator))
+    (option_map ByLedger (mint_refusal chain.book (payout_now chain era validator).total)) free) in
     subst (λ n. n ≤ room_of chain.book) (payout_sums chain.eras era validator (era_reward_of chain.params))
     (within (nat_lt (room_of chain.book) (payout_now chain era validator).total) refl allowed) where
-      within : (b : Bool) → nat_lt (room_of chain.book) (payout_now chain era validator).total ≡ b → (if b then Some IssuanceCap else None) ≡ None
+      within : (b : Bool) → nat_lt (room_of chain.book) (payout_now chain era validator).total ≡ b
+          → (if b then Some IssuanceCap else None) ≡ None
           → (payout_now chain era validator).total ≤ room_of chain.book
       within true e none = cc
       within false e none = ltb-false (room_of chain.book) (payout_now chain era validator).total e
@@ -81,9 +88,11 @@ pub payout_live : (chain : Chain) (era : ℕ) (validator : AccountId) → KeepsL
 payout_live chain era validator live free =
     let lines : List Backer = (payout_now chain era validator).lines in
     let books = all_books_minted (release_now chain) lines chain.queue.items chain.book (payout_fits chain era validator free) live.books in
-    with_eras (record chain { book = all_minted lines chain.book }) (claimed era validator chain.eras) (with_books chain (all_minted lines chain.book) live books)
+    with_eras (record chain { book = all_minted lines chain.book }) (claimed era validator chain.eras)
+    (with_books chain (all_minted lines chain.book) live books)
 
-pub offence_live : (chain : Chain) (who : AccountId) (era : ℕ) (validator : AccountId) (fraction : ℕ) → KeepsLive chain (offence_rule chain who era validator fraction)
+pub offence_live : (chain : Chain) (who : AccountId) (era : ℕ) (validator : AccountId) (fraction : ℕ)
+    → KeepsLive chain (offence_rule chain who era validator fraction)
 offence_live chain who era validator fraction live free =
     let dues : List Backer = slash_in chain.eras era validator fraction in
     subst IsLive (ap (λ (c : Chain). record c { eras = reported era validator fraction chain.eras }) (slashes_within dues chain))
@@ -124,13 +133,22 @@ module _ (number : ℕ) where
 told_lines : (lines_of : List Backer) → told_paid (map paid_line lines_of) ≡ amount_sum lines_of
 told_lines [] = refl
 told_lines (line ∷ more) =
-    omega (arith, told_lines more, sum_by-cons amount_paid (paid_line line) (map paid_line more), sum_by-cons (λ (l : Backer). l.amount) line more)
+    omega (
+      arith,
+      told_lines more,
+      sum_by-cons amount_paid (paid_line line) (map paid_line more),
+      sum_by-cons
+          (λ (l : Backer). l.amount) line more,
+    )
 
-pub told_payout : (chain : Chain) (era : ℕ) (validator : AccountId) → told_paid ((payout_rule chain era validator).told) ≡ (payout_now chain era validator).total
-told_payout chain era validator = told_lines (payout_now chain era validator).lines ∙ sym (payout_sums chain.eras era validator (era_reward_of chain.params))
+pub told_payout : (chain : Chain) (era : ℕ) (validator : AccountId)
+    → told_paid ((payout_rule chain era validator).told) ≡ (payout_now chain era validator).total
+told_payout chain era validator =
+    told_lines (payout_now chain era validator).lines ∙ sym (payout_sums chain.eras era validator (era_reward_of chain.params))
 
 -- the lines of one slash
-told_slash : (who of : AccountId) (taken amount : ℕ) → taken ≤ amount → told_taken who (slash_told of taken) ≤ cond (same_account of who) amount 0
+told_slash : (who of : AccountId) (taken amount : ℕ) → taken ≤ amount
+    → told_taken who (slash_told of taken) ≤ cond (same_account of who) amount 0
 told_slash who of taken amount less = at (taken == 0) where
   one : (b : Bool) → cond b taken 0 + 0 ≤ cond b amount 0
   one true = omega (arith, less)
@@ -140,7 +158,8 @@ told_slash who of taken amount less = at (taken == 0) where
   at true = omega arith
   at false = omega (arith, one (same_account of who), sum_by-cons (amount_taken who) (lines.Slashed of taken) [])
 
-told_slashes : (who : AccountId) (dues : List Backer) (chain : Chain) → told_taken who (slashes dues chain).lines ≤ sum_by (λ (l : Backer). cond (same_account l.who who) l.amount 0) dues
+told_slashes : (who : AccountId) (dues : List Backer) (chain : Chain)
+    → told_taken who (slashes dues chain).lines ≤ sum_by (λ (l : Backer). cond (same_account l.who who) l.amount 0) dues
 told_slashes who [] chain = omega arith
 told_slashes who (due ∷ more) chain =
     let taken : ℕ = slash_amount (row_at chain.book due.who) due.amount in
@@ -158,10 +177,12 @@ by_root : (root : Bool) (due : Option Refusal) → (if not root then Some NotRoo
 by_root true due e = e
 by_root false due e = absurd (cc)
 
-pub payout_free : (chain : Chain) (era : ℕ) (validator : AccountId) → (payout_rule chain era validator).refusal ≡ None → payout_refusal chain.eras era validator ≡ None
+pub payout_free : (chain : Chain) (era : ℕ) (validator : AccountId) → (payout_rule chain era validator).refusal ≡ None
+    → payout_refusal chain.eras era validator ≡ None
 payout_free chain era validator free =
     none_inside ByEra (payout_refusal chain.eras era validator)
-    (first_none (option_map ByEra (payout_refusal chain.eras era validator)) (option_map ByLedger (mint_refusal chain.book (payout_now chain era validator).total)) free)
+    (first_none (option_map ByEra (payout_refusal chain.eras era validator))
+    (option_map ByLedger (mint_refusal chain.book (payout_now chain era validator).total)) free)
 
 -- ## Their rules
 
@@ -172,7 +193,12 @@ points_lawful chain who items = record {
   next = omega arith;
   queue = inl (record { queue = refl; next = refl; settled = λ number. refl; offered = refl });
   eras = record {
-    accepted = λ free. (none_inside ByEra (points_refusal chain.eras items) (by_root (is_root chain who) (option_map ByEra (points_refusal chain.eras items)) free), tt);
+    accepted =
+        λ free. (
+          none_inside ByEra (points_refusal chain.eras items)
+              (by_root (is_root chain who) (option_map ByEra (points_refusal chain.eras items)) free),
+          tt,
+        );
     eras = refl;
     begins = refl;
     paid = λ era index. refl;
@@ -180,12 +206,20 @@ points_lawful chain who items = record {
   };
 }
 
-pub payout_lawful : (chain : Chain) (who : AccountId) (era : ℕ) (validator : AccountId) → IsLawful chain who (payout_rule chain era validator)
+pub payout_lawful : (chain : Chain) (who : AccountId) (era : ℕ) (validator : AccountId)
+    → IsLawful chain who (payout_rule chain era validator)
 payout_lawful chain who era validator = record {
   live = payout_live chain era validator;
   fixed = record { params = refl; round = refl; waiting = refl; due = refl; era = refl };
   next = omega arith;
-  queue = inl (record { queue = refl; next = refl; settled = λ number. payments_settle number (payout_now chain era validator).lines; offered = refl });
+  queue =
+      inl (record {
+        queue = refl;
+        next = refl;
+        settled = λ number. payments_settle number
+            (payout_now chain era validator).lines;
+        offered = refl;
+      });
   eras = record {
     accepted = λ free. (payout_free chain era validator free, tt);
     eras = refl;
@@ -197,21 +231,28 @@ payout_lawful chain who era validator = record {
   told : List Line
   told = (payout_rule chain era validator).told
 
-  paid : (other index : ℕ) → (if era == other then told_paid (lines.CallOk index ∷ told) else 0) ≡ (if nat_eq era other then (payout_now chain era validator).total else 0) + 0
+  paid : (other index : ℕ)
+      → (if era == other then told_paid (lines.CallOk index ∷ told) else 0) ≡
+      (if nat_eq era other then (payout_now chain era validator).total else 0) + 0
   paid other index = at (era == other) where
-    at : (b : Bool) → (if b then told_paid (lines.CallOk index ∷ told) else 0) ≡ (if b then (payout_now chain era validator).total else 0) + 0
+    at : (b : Bool)
+        → (if b then told_paid (lines.CallOk index ∷ told) else 0) ≡ (if b then (payout_now chain era validator).total else 0) + 0
     at true = omega (arith, sum_by-cons amount_paid (lines.CallOk index) told, told_payout chain era validator)
     at false = refl
 
-pub offence_lawful : (chain : Chain) (who : AccountId) (era : ℕ) (validator : AccountId) (fraction : ℕ) → IsLawful chain who (offence_rule chain who era validator fraction)
+pub offence_lawful : (chain : Chain) (who : AccountId) (era : ℕ) (validator : AccountId) (fraction : ℕ)
+    → IsLawful chain who (offence_rule chain who era validator fraction)
 offence_lawful chain who era validator fraction = record {
   live = offence_live chain who era validator fraction;
   fixed = record { params = refl; round = refl; waiting = refl; due = refl; era = refl };
   next = omega arith;
   queue = inl (record { queue = refl; next = refl; settled = λ number. slashes_settle number dues chain; offered = refl });
   eras = record {
-    accepted = λ free. (none_inside ByEra (slash_refusal chain.eras era validator fraction)
-        (by_root (is_root chain who) (option_map ByEra (slash_refusal chain.eras era validator fraction)) free), tt);
+    accepted = λ free. (
+      none_inside ByEra (slash_refusal chain.eras era validator fraction)
+          (by_root (is_root chain who) (option_map ByEra (slash_refusal chain.eras era validator fraction)) free),
+      tt,
+    );
     eras = refl;
     begins = refl;
     paid = λ other index. refl;
@@ -221,9 +262,18 @@ offence_lawful chain who era validator fraction = record {
   dues : List Backer
   dues = slash_in chain.eras era validator fraction
 
-  taken : (other : ℕ) (of : AccountId) (index : ℕ) → (if era == other then told_taken of (lines.CallOk index ∷ (slashes dues chain).lines) else 0)
+  taken : (other : ℕ) (of : AccountId) (index : ℕ)
+      → (if era == other then told_taken of (lines.CallOk index ∷ (slashes dues chain).lines) else 0)
       ≤ (if nat_eq era other then amount_for of dues else 0) + 0
   taken other of index = at (era == other) where
-    at : (b : Bool) → (if b then told_taken of (lines.CallOk index ∷ (slashes dues chain).lines) else 0) ≤ (if b then amount_for of dues else 0) + 0
-    at true = omega (arith, told_slashes of dues chain, for_sum of dues, sum_by-cons (amount_taken of) (lines.CallOk index) (slashes dues chain).lines)
+    at : (b : Bool)
+        → (if b then told_taken of (lines.CallOk index ∷ (slashes dues chain).lines) else 0) ≤ (if b then amount_for of dues else 0) + 0
+    at true =
+        omega (
+          arith,
+          told_slashes of dues chain,
+          for_sum of dues,
+          sum_by-cons (amount_taken of) (lines.CallOk index)
+              (slashes dues chain).lines,
+        )
     at false = omega arith

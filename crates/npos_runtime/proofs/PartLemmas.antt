@@ -39,7 +39,8 @@ pub chunks_changed : (P : List Chunk → Type 0) (who : AccountId) (change : Row
 chunks_changed P who change ledger before now other = elim (same_or_not other who) [
   | inl same ↦ subst (λ (w : AccountId). P (row_at (changed who change ledger) w).chunks) (sym same)
       (subst (λ (o : Option Row). P (unwrap_or o empty_row).chunks) (sym (row_of-changed who change ledger)) now)
-  | inr differ ↦ subst (λ (o : Option Row). P (unwrap_or o empty_row).chunks) (sym (others_stay who change ledger other differ)) (before other)
+  | inr differ ↦ subst (λ (o : Option Row). P (unwrap_or o empty_row).chunks) (sym (others_stay who change ledger other differ))
+      (before other)
 ]
 
 -- a refusal that is none comes from none
@@ -56,12 +57,16 @@ second_none None b e = e
 second_none (Some r) b e = cc
 
 -- The one place where a live chain is put together anew: each part that changed keeps what it must.
-pub live_with : {chain new : Chain} → new.params ≡ chain.params → new.due ≡ chain.due → IsLive chain → AreBooks (release_now chain) new.queue.items new.book
-    → AreRoles new.roles → IsListing new.roles new.bags → IsSoundRound new.round → IsOrdered new.queue → IsNotedCommittee new.waiting → IsLive new
+pub live_with : {chain new : Chain} → new.params ≡ chain.params → new.due ≡ chain.due → IsLive chain
+    → AreBooks (release_now chain) new.queue.items new.book
+    → AreRoles new.roles → IsListing new.roles new.bags → IsSoundRound new.round → IsOrdered new.queue → IsNotedCommittee new.waiting
+    → IsLive new
 live_with {chain = chain} {new = new} params due live books roles bags round queue waiting = record {
   params = subst AreSound (sym params) live.params;
   due = subst CanBeDue (sym due) live.due;
-  books = subst (λ release. AreBooks release new.queue.items new.book) (λ i. era_of (sym params i) (sym due i) + bonding_eras_of (sym params i)) books;
+  books =
+      subst (λ release. AreBooks release new.queue.items new.book)
+      (λ i. era_of (sym params i) (sym due i) + bonding_eras_of (sym params i)) books;
   roles = roles;
   bags = bags;
   round = round;
@@ -73,7 +78,8 @@ pub listed_of : (chain : Chain) → IsLive chain → IsListed (has_role chain.ro
 listed_of chain live = listed_from chain.roles chain.bags live.bags
 
 -- other books
-pub with_books : (chain : Chain) (book : Ledger) → IsLive chain → AreBooks (release_now chain) chain.queue.items book → IsLive (record chain { book = book })
+pub with_books : (chain : Chain) (book : Ledger) → IsLive chain → AreBooks (release_now chain) chain.queue.items book
+    → IsLive (record chain { book = book })
 with_books chain book live books = live_with refl refl live books live.roles live.bags live.round live.queue live.waiting
 
 -- and the place of the account follows
@@ -88,7 +94,8 @@ with_followed chain who book live books =
 -- other roles and bags
 pub with_lists : (chain : Chain) (roles : RoleList) (bags : Listing) → IsLive chain → IsListed (has_role roles) bags → AreRoles roles
     → IsLive (record chain { roles = roles; bags = bags })
-with_lists chain roles bags live listed kept = live_with refl refl live live.books kept (listing_from roles bags listed) live.round live.queue live.waiting
+with_lists chain roles bags live listed kept =
+    live_with refl refl live live.books kept (listing_from roles bags listed) live.round live.queue live.waiting
 
 -- other eras
 pub with_eras : (chain : Chain) (eras : Eras) → IsLive chain → IsLive (record chain { eras = eras })
@@ -97,17 +104,24 @@ with_eras chain eras live = live_with refl refl live live.books live.roles live.
 has_without : (chain : Chain) (who : AccountId) → IsLive chain → has_role (without_role chain.roles who) who ≡ false
 has_without chain who live = ap is_some (standing_without who chain.roles live.roles.ranked.rising)
 
-others_without : (chain : Chain) (who : AccountId) (q : AccountId) → same_account who q ≡ false → has_role (without_role chain.roles who) q ≡ has_role chain.roles q
+others_without : (chain : Chain) (who : AccountId) (q : AccountId) → same_account who q ≡ false
+    → has_role (without_role chain.roles who) q ≡ has_role chain.roles q
 others_without chain who q apart = ap is_some (standing_without_other who q chain.roles (apart_from who q apart))
 
-pub without_live : (chain : Chain) (who : AccountId) → IsLive chain → IsLive (record chain { roles = without_role chain.roles who; bags = removed chain.bags who })
+pub without_live : (chain : Chain) (who : AccountId) → IsLive chain
+    → IsLive (record chain { roles = without_role chain.roles who; bags = removed chain.bags who })
 without_live chain who live =
     with_lists chain (without_role chain.roles who) (removed chain.bags who) live
-    (kept_removed (has_role chain.roles) (has_role (without_role chain.roles who)) chain.bags who (listed_of chain live) (others_without chain who) (has_without chain who live))
+    (kept_removed (has_role chain.roles) (has_role (without_role chain.roles who)) chain.bags who (listed_of chain live)
+    (others_without chain who) (has_without chain who live))
     (kept_without chain.roles who live.roles)
 
 pub retired_live : (chain : Chain) (who : AccountId) → IsLive chain → IsLive (retired who chain)
 retired_live chain who live = at (is_over chain who) where
-  at : (b : Bool) → IsLive (record chain { roles = if b then without_role chain.roles who else chain.roles; bags = if b then removed chain.bags who else chain.bags })
+  at : (b : Bool)
+      → IsLive (record chain {
+        roles = if b then without_role chain.roles who else chain.roles;
+        bags = if b then removed chain.bags who else chain.bags;
+      })
   at true = without_live chain who live
   at false = live

@@ -43,10 +43,11 @@ live_era chain live =
       at (Some era) = tt
 
 fair_era : (number : ℕ) (chain : Chain) → IsFair number chain (era_phase chain).lines (era_phase chain).state
-fair_era number chain = fair_quiet number chain (era_phase chain).state (era_phase chain).lines (at (begun_era chain.params chain.due)) refl refl where
-  at : (begun : Option ℕ) → fate number (option_to_list (option_map lines.Era begun)) ≡ 0
-  at None = refl
-  at (Some era) = refl
+fair_era number chain =
+    fair_quiet number chain (era_phase chain).state (era_phase chain).lines (at (begun_era chain.params chain.due)) refl refl where
+      at : (begun : Option ℕ) → fate number (option_to_list (option_map lines.Era begun)) ≡ 0
+      at None = refl
+      at (Some era) = refl
 
 -- ## A round may begin
 
@@ -58,21 +59,25 @@ live_round chain live =
       at (Some number) = sound_round chain number live
 
 fair_round : (number : ℕ) (chain : Chain) → IsFair number chain (round_phase chain).lines (round_phase chain).state
-fair_round number chain = fair_quiet number chain (round_phase chain).state (round_phase chain).lines (at (begun_round chain.params chain.due)) refl refl where
-  told : (round : ℕ) (few poor : Bool) (targets voters total : ℕ)
-      → fate number ((if few then lines.VoidFew round else if poor then lines.VoidPoor round else lines.Snapshot round targets voters total) ∷ []) ≡ 0
-  told round true poor targets voters total = refl
-  told round false true targets voters total = refl
-  told round false false targets voters total = refl
+fair_round number chain =
+    fair_quiet number chain (round_phase chain).state (round_phase chain).lines (at (begun_round chain.params chain.due)) refl refl where
+      told : (round : ℕ) (few poor : Bool) (targets voters total : ℕ)
+          → fate number
+          ((if few then lines.VoidFew round else if poor then lines.VoidPoor round else lines.Snapshot round targets voters total) ∷ [])
+          ≡ 0
+      told round true poor targets voters total = refl
+      told round false true targets voters total = refl
+      told round false false targets voters total = refl
 
-  at : (begun : Option ℕ) → fate number (option_to_list (option_map (λ round. round_line round (snapshot_of chain)) begun)) ≡ 0
-  at None = refl
-  at (Some round) = told round (is_few (snapshot_of chain)) (is_poor (snapshot_of chain)) _ _ _
+      at : (begun : Option ℕ) → fate number (option_to_list (option_map (λ round. round_line round (snapshot_of chain)) begun)) ≡ 0
+      at None = refl
+      at (Some round) = told round (is_few (snapshot_of chain)) (is_poor (snapshot_of chain)) _ _ _
 
 -- ## The round may be decided
 
 -- a round is decided
-decided_live : (number : ℕ) (snapshot : Snapshot) (commissions : List ℕ) (chain : Chain) → IsLive chain → AreNoted snapshot.targets commissions
+decided_live : (number : ℕ) (snapshot : Snapshot) (commissions : List ℕ) (chain : Chain) → IsLive chain
+    → AreNoted snapshot.targets commissions
     → IsLive (decided number snapshot commissions chain).state
 decided_live number snapshot commissions chain live noted =
     live_with refl refl live (books_settled (release_now chain) (reward_of chain.params) snapshot chain.queue.items chain.book live.books)
@@ -81,20 +86,23 @@ decided_live number snapshot commissions chain live noted =
 decision_of_live : (round : Option Round) (chain : Chain) → IsLive chain → IsSoundRound round → IsLive (decision_of round chain).state
 decision_of_live None chain live sound = live
 decision_of_live (Some (rounds.Void number)) chain live sound = live
-decision_of_live (Some (rounds.Open number snapshot commissions)) chain live sound = decided_live number snapshot commissions chain live sound.1
+decision_of_live (Some (rounds.Open number snapshot commissions)) chain live sound =
+    decided_live number snapshot commissions chain live sound.1
 
 due_of : (round : Option Round) (chain : Chain) → StaysDue chain (decision_of round chain).state
 due_of None chain = record { params = refl; due = refl; next = refl }
 due_of (Some (rounds.Void number)) chain = record { params = refl; due = refl; next = refl }
 due_of (Some (rounds.Open number snapshot commissions)) chain = record { params = refl; due = refl; next = refl }
 
-fair_of : (number : ℕ) (round : Option Round) (chain : Chain) → IsFair number chain (decision_of round chain).lines (decision_of round chain).state
+fair_of : (number : ℕ) (round : Option Round) (chain : Chain)
+    → IsFair number chain (decision_of round chain).lines (decision_of round chain).state
 fair_of number None chain = omega arith
 fair_of number (Some (rounds.Void round)) chain = omega arith
 fair_of number (Some (rounds.Open round snapshot commissions)) chain = decided_fair number round snapshot commissions chain
 
 -- what holds where a round is decided and where nothing is, holds of the phase
-either : (P : Chain → Outcome → Type 0) → ((chain : Chain) → P chain (decision_of chain.round chain)) → ((chain : Chain) → P chain (quiet chain))
+either : (P : Chain → Outcome → Type 0) → ((chain : Chain) → P chain (decision_of chain.round chain))
+    → ((chain : Chain) → P chain (quiet chain))
     → (chain : Chain) → P chain (decision_phase chain)
 either P decides rests chain = at (is_decision chain.params chain.due) where
   at : (b : Bool) → P chain (if b then decision_of chain.round chain else quiet chain)
@@ -129,16 +137,24 @@ phases_keep = (era_keeps, (round_keeps, (decision_keeps, tt))) where
 
   decision_keeps : IsPhase decision_phase
   decision_keeps = record {
-    live = λ chain live. either (λ c outcome. IsLive c → IsLive outcome.state) (λ c l. decision_of_live c.round c l l.round) (λ c l. l) chain live;
-    due = either (λ chain outcome. StaysDue chain outcome.state) (λ chain. due_of chain.round chain) (λ chain. record { params = refl; due = refl; next = refl });
-    fair = λ number. either (λ chain outcome. IsFair number chain outcome.lines outcome.state) (λ chain. fair_of number chain.round chain) (λ chain. omega arith);
+    live =
+        λ chain live. either (λ c outcome. IsLive c → IsLive outcome.state) (λ c l. decision_of_live c.round c l l.round)
+        (λ c l. l) chain live;
+    due =
+        either (λ chain outcome. StaysDue chain outcome.state) (λ chain. due_of chain.round chain)
+        (λ chain. record { params = refl; due = refl; next = refl });
+    fair =
+        λ number. either (λ chain outcome. IsFair number chain outcome.lines outcome.state) (λ chain. fair_of number chain.round chain)
+        (λ chain. omega arith);
   }
 
-pub live_in_turn : (parts : List (Chain → Outcome)) → AllByRecursion IsPhase parts → (chain : Chain) → IsLive chain → IsLive (in_turn parts chain).state
+pub live_in_turn : (parts : List (Chain → Outcome)) → AllByRecursion IsPhase parts → (chain : Chain) → IsLive chain
+    → IsLive (in_turn parts chain).state
 live_in_turn [] keep chain live = live
 live_in_turn (part ∷ more) keep chain live = live_in_turn more keep.1 (part chain).state (keep.0.live chain live)
 
-pub due_in_turn : (parts : List (Chain → Outcome)) → AllByRecursion IsPhase parts → (chain : Chain) → StaysDue chain (in_turn parts chain).state
+pub due_in_turn : (parts : List (Chain → Outcome)) → AllByRecursion IsPhase parts → (chain : Chain)
+    → StaysDue chain (in_turn parts chain).state
 due_in_turn [] keep chain = record { params = refl; due = refl; next = refl }
 due_in_turn (part ∷ more) keep chain =
     let first = keep.0.due chain in

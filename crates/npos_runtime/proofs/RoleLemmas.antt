@@ -107,7 +107,8 @@ kept_without roles who kept = record {
       (subst (λ o. commission_in (role_in o) ≤ WHOLE_FRACTION) (sym (standing_without who roles kept.ranked.rising)) none_kept);
 }
 
-pub kept_nominated : (roles : RoleList) (who : AccountId) (targets : List AccountId) → AreRoles roles → list_nominate_refusal roles who targets ≡ None
+pub kept_nominated : (roles : RoleList) (who : AccountId) (targets : List AccountId) → AreRoles roles
+    → list_nominate_refusal roles who targets ≡ None
     → AreRoles (with_standing roles who (Nominator targets))
 kept_nominated roles who targets kept allowed = record {
   ranked = let r = ranked_nominating who targets roles (with_standing roles who (Nominator targets)) (validators_of roles) (remove_key (is_at (account_cmp who)) (validators_of roles)) kept.ranked refl
@@ -121,7 +122,8 @@ kept_nominated roles who targets kept allowed = record {
   sound : IsNomination targets
   sound = record { few = grind (arith, common_steps, nat_tests, allowed); distinct = grind (arith, common_steps, allowed) }
 
-pub kept_validating : (roles : RoleList) (who : AccountId) (commission : ℕ) → AreRoles roles → list_validate_refusal roles who commission ≡ None
+pub kept_validating : (roles : RoleList) (who : AccountId) (commission : ℕ) → AreRoles roles
+    → list_validate_refusal roles who commission ≡ None
     → AreRoles (with_standing roles who (Validator commission))
 kept_validating roles who commission kept allowed = record {
   ranked = let r = ranked_validating who commission roles (with_standing roles who (Validator commission)) (validators_of roles) (insert_key account_cmp (validators_of roles) who) kept.ranked room refl

@@ -71,7 +71,8 @@ pub record IsLawful (chain : Chain) (who : AccountId) (rule : CallRule) : Type 0
   pub eras : FollowsEvents chain rule
 
 -- no event leaves the eras
-pub no_events : {chain : Chain} {refusal : Option Refusal} {done : Chain} {told : List Line} {offer : Option (ℕ × Submission)} → done.eras ≡ chain.eras
+pub no_events : {chain : Chain} {refusal : Option Refusal} {done : Chain} {told : List Line} {offer : Option (ℕ × Submission)}
+    → done.eras ≡ chain.eras
     → FollowsEvents chain (record { refusal = refusal; done = done; told = told; events = []; offer = offer })
 no_events same = record {
   accepted = λ free. tt;

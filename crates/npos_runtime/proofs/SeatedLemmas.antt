@@ -2,7 +2,6 @@
 -- were seated.
 use Rattle.std.proofs.Common.{◌≡◌, ◌⊎◌, inl, inr, ℕ, ◌+◌, ◌-◌, ◌<◌, ◌≤◌, Bool, true, false, cond, ◌==◌, ◌||◌, All, List, [], ◌∷◌, ◌++◌, Option, Some, None, refl, ap, sym, subst, ◌∙◌, arith, if◌then◌else◌}
 use Rattle.std.specs.Option.{option_or}
-use Rattle.std.specs.List.{IsDistinct, AllByRecursion}
 use Rattle.std.proofs.lemmas.Bool.Decides.{nat_tests}
 use Rattle.std.proofs.lemmas.List.{append-nil}
 use Rattle.std.proofs.lemmas.List.Folds.{find-append}
@@ -28,11 +27,11 @@ use Rattle.npos_runtime.specs.Exposed.{exposed}
 use Rattle.npos_runtime.specs.Outcome.{Election, Outcome, quiet}
 use Rattle.npos_runtime.specs.Step.{before_calls, waiting_after, eras_after, era_phase, calls_outcome, closed, step}
 use Rattle.chain_params.specs.Faults.{params_fault}
-use Rattle.npos_runtime.specs.Live.{IsLive, IsSoundRound, IsNotedCommittee}
+use Rattle.npos_runtime.specs.Live.{IsLive, IsSoundRound, IsNotedCommittee, IsElected}
 use Rattle.npos_runtime.specs.EraLaws.{elected_for, stake_in, stake_behind}
 use Rattle.chain_params.proofs.PhaseLemmas.{next_place, phases_sound}
 use Rattle.npos_runtime.proofs.EraLemmas.{era_begun}
-use Rattle.npos_runtime.proofs.ElectedLemmas.{IsGiven, follows_rising, exposures_sound, exposures_within, nobody_sound}
+use Rattle.npos_runtime.proofs.ElectedLemmas.{follows_rising, exposures_sound, exposures_within, nobody_sound}
 use Rattle.npos_runtime.proofs.PhaseTable.{live_era, live_round}
 use Rattle.npos_runtime.proofs.LiveLemmas.{fixed_calls, due_calls, due_before}
 use Rattle.npos_runtime.proofs.LawLemmas.{undecided, seats_step}
@@ -59,27 +58,13 @@ found_last era seated election within is =
     ∙ ap (λ (first : Option Election). option_or first (elected_for (era + 1) (election ∷ []))) (none_later era seated within)
     ∙ ap (λ b. cond b (Some election) None) same
 
-apart_last : (era : ℕ) (first : Election) (seated : List Election) (election : Election) → first.round ≤ era → election.round ≡ era + 1
-    → AllByRecursion (λ other. same_round first other ≡ false) seated → AllByRecursion (λ other. same_round first other ≡ false) (seated ++ election ∷ [])
-apart_last era first [] election below is apart = (grind (arith, nat_tests), tt)
-apart_last era first (e ∷ es) election below is apart = (apart.0, apart_last era first es election below is apart.1)
-
-once_last : (era : ℕ) (seated : List Election) (election : Election) → All (λ other. other.round ≤ era) seated → election.round ≡ era + 1
-    → IsDistinct same_round seated → IsDistinct same_round (seated ++ election ∷ [])
-unfolding IsDistinct
-once_last era [] election within is once = (tt, tt)
-once_last era (e ∷ es) election within is once = (
-  apart_last era e es election (All-head (λ (other : Election). other.round ≤ era) e es within) is once.0,
-  once_last era es election (All-tail (λ (other : Election). other.round ≤ era) e es within) is once.1,
-)
-
 -- ## Who waits was elected
 
 -- who waits was seated by this election
 abbrev pub Waits : Option Committee → Option Election → Type 0
 Waits None election = Unit {0}
 Waits (Some committee) None = ⊥
-Waits (Some committee) (Some election) = (election.snapshot ≡ committee.snapshot) × IsGiven committee
+Waits (Some committee) (Some election) = (election.snapshot ≡ committee.snapshot) × IsElected committee
 
 pub waiting_sound : (waiting : Option Committee) (election : Option Election) → Waits waiting election → IsNotedCommittee waiting → AreSoundExposures (exposed waiting)
 waiting_sound None election waits noted = nobody_sound
@@ -117,7 +102,6 @@ module _ (params : Params) where
     pub waits : Waits chain.waiting (elected_for (chain.eras.current + 1) seated)
     pub latest : All (λ election. election.round ≤ era chain.due + 1) seated
     pub earlier : place chain.due < high → All (λ election. election.round ≤ era chain.due) seated
-    pub once : IsDistinct same_round seated
 
   -- before a block
   abbrev pub IsBetween : Chain → List Election → Type 0
@@ -131,7 +115,6 @@ module _ (params : Params) where
     waits = at (begun_era chain.params chain.due);
     latest = h.latest;
     earlier = h.earlier;
-    once = h.once;
   } where
     at : (begun : Option ℕ) → Waits (waiting_after chain.waiting begun) (elected_for ((eras_after chain.eras chain.waiting begun).current + 1) seated)
     at None = h.waits
@@ -151,7 +134,6 @@ module _ (params : Params) where
     waits = h.waits;
     latest = h.latest;
     earlier = h.earlier;
-    once = h.once;
   } where
     opens : (void : Bool) → place chain.due ≡ params.offset
         → IsTimely params.offset (end_place + 1) chain.due
@@ -182,7 +164,6 @@ module _ (params : Params) where
                 waits = h.waits;
                 latest = h.latest;
                 earlier = λ before. h.earlier (omega (arith, before));
-                once = h.once;
               })
 
           over : place chain.due ≡ end_place → (round : Option Round) → chain.round ≡ round
@@ -196,7 +177,6 @@ module _ (params : Params) where
             latest = All-append (λ (e : Election). e.round ≤ era chain.due + 1) seated (election ∷ []) h.latest
                 (All-cons (λ (e : Election). e.round ≤ era chain.due + 1) election [] (omega (arith, numbered)) (All-nil (λ (e : Election). e.round ≤ era chain.due + 1)));
             earlier = λ before. absurd (omega (arith, before, last));
-            once = once_last (era chain.due) seated election past numbered h.once;
           } where
             committee : Committee
             committee = committee_of snapshot commissions chain.queue.items
@@ -216,7 +196,7 @@ module _ (params : Params) where
             well_formed : IsWellFormed snapshot
             well_formed = (subst IsSoundRound is sound).0
 
-            given : IsGiven committee
+            given : IsElected committee
             given =
                 let passes = decided_passes packed fill plain snapshot chain.queue.items well_formed in
                 record {
@@ -248,7 +228,6 @@ module _ (params : Params) where
               (subst (λ (w : Option Committee). Waits w (elected_for (chain.eras.current + 1) seated)) (sym fixed.waiting) h.waits);
           latest = subst (λ (due : ℕ). All (λ (e : Election). e.round ≤ era due + 1) seated) (sym fixed.due) h.latest;
           earlier = subst (λ (due : ℕ). place due < end_place → All (λ (e : Election). e.round ≤ era due) seated) (sym fixed.due) h.earlier;
-          once = h.once;
         }
 
     -- the next block is due
@@ -259,7 +238,6 @@ module _ (params : Params) where
       waits = h.waits;
       latest = latest next;
       earlier = earlier next;
-      once = h.once;
     } where
       Next : Type 0
       Next = ((place (chain.due + 1) ≡ place chain.due + 1) × (era (chain.due + 1) ≡ era chain.due))
@@ -301,7 +279,8 @@ module _ (params : Params) where
         let before : Chain = undecided chain in
         let live_before : IsLive before = live_round (era_phase chain).state (live_era chain live) in
         let begun : before.eras.current ≡ era before.due =
-        era_begun chain.eras chain.waiting chain.params chain.due live.params live.due.at_least current ∙ ap (λ (ps : Option Params). era_of ps chain.due) h.params_are in
+        era_begun chain.eras chain.waiting chain.params chain.due live.params live.due.at_least current ∙ ap
+        (λ (ps : Option Params). era_of ps chain.due) h.params_are in
         let decided = decides_it before seated (begins (era_phase chain).state seated (starts chain seated h)) live_before.round begun in
         subst (λ (elections : List Election). IsBetween (step chain block).state (seated ++ elections)) (sym (seats_step chain block))
         (closes (calls_outcome 0 block.calls start).state (seated ++ (decision_phase before).seated) sound

@@ -26,7 +26,8 @@ use Rattle.npos_runtime.proofs.LawLemmas.{undecided, seats_step, decides}
 use Rattle.npos_runtime.proofs.DepositsLemmas.{after_append, due_blocks}
 
 -- where no decision is due, a block leaves the round that stands once one may have begun
-undecided_step : (chain : Chain) (block : Block) → is_decision chain.params chain.due ≡ false → (step chain block).state.round ≡ (undecided chain).round
+undecided_step : (chain : Chain) (block : Block) → is_decision chain.params chain.due ≡ false
+    → (step chain block).state.round ≡ (undecided chain).round
 undecided_step chain block none =
     (fixed_calls 0 block.calls (before_calls chain)).round
     ∙ ap (λ b. (if b then decision_of (undecided chain).round (undecided chain) else quiet (undecided chain)).state.round) none
@@ -40,7 +41,8 @@ module _ (params : Params) (sound : params_fault params ≡ None) where
       let within = (phases_sound params sound).1 in
       by (next_place params due (omega (arith, within)) from) where
         by : ((place_of params (due + 1) ≡ place_of params due + 1) × (era_of (Some params) (due + 1) ≡ era_of (Some params) due))
-            ⊎ ((place_of params due + 1 ≡ params.era_blocks) × (era_of (Some params) (due + 1) ≡ era_of (Some params) due + 1)) → place (due + 1) ≡ place due + 1
+            ⊎ ((place_of params due + 1 ≡ params.era_blocks) × (era_of (Some params) (due + 1) ≡ era_of (Some params) due + 1)) → place
+            (due + 1) ≡ place due + 1
         by (inl (next, same)) = next
         by (inr (end, past)) = absurd (let within = (phases_sound params sound).1 in omega (arith, end, below, within))
 
@@ -65,28 +67,35 @@ module _ (params : Params) (sound : params_fault params ≡ None) where
       let same : next.round ≡ chain.round =
       undecided_step chain block (ap (λ (ps : Option Params). is_decision ps chain.due) are ∙ not_yet chain.due below)
       ∙ ap (round_after (era_phase chain).state) (ap (λ (ps : Option Params). begun_round ps chain.due) are ∙ not_again chain.due past) in
-      let rest = stands next more (params_blocks chain (block ∷ []) ∙ are) (omega (arith, due)) (omega (arith, past, further)) (omega (arith, further, fit)) in
+      let rest =
+      stands next more (params_blocks chain (block ∷ []) ∙ are) (omega (arith, due)) (omega (arith, past, further))
+      (omega (arith, further, fit)) in
       (rest.0 ∙ same, omega (arith, rest.1, further))
 
   module _ (chain : Chain) (first : Block) (between : List Block) (round : ℕ) (are : chain.params ≡ Some params) (from : 1 ≤ chain.due)
       (begins : begun_round chain.params chain.due ≡ Some round) (signed : 1 + length between ≡ params.signed) where
     at_offset : place chain.due ≡ params.offset
     at_offset = at (place chain.due == params.offset) refl (ap (λ (ps : Option Params). begun_round ps chain.due) (sym are) ∙ begins) where
-      at : (b : Bool) → (place chain.due == params.offset) ≡ b → (if b then Some (era_of (Some params) chain.due + 1) else None) ≡ Some round → place chain.due ≡ params.offset
+      at : (b : Bool) → (place chain.due == params.offset) ≡ b
+          → (if b then Some (era_of (Some params) chain.due + 1) else None) ≡ Some round → place chain.due ≡ params.offset
       at true e is = grind (arith, nat_tests)
       at false e is = cc
 
     begun : (step chain first).state.round ≡ Some (round_now (era_phase chain).state round)
     begun =
-        undecided_step chain first (ap (λ (ps : Option Params). is_decision ps chain.due) are ∙ not_yet chain.due (omega (arith, at_offset, signed)))
+        undecided_step chain first
+        (ap (λ (ps : Option Params). is_decision ps chain.due) are ∙ not_yet chain.due (omega (arith, at_offset, signed)))
         ∙ ap (round_after (era_phase chain).state) begins
 
     pub kept : ((after_blocks chain (first ∷ between)).round ≡ Some (round_now (era_phase chain).state round))
         × (place (after_blocks chain (first ∷ between)).due ≡ params.offset + params.signed)
     kept =
         let due : (step chain first).state.due ≡ chain.due + 1 = due_step chain first in
-        let further : place (step chain first).state.due ≡ params.offset + 1 = ap place due ∙ (on chain.due from (omega (arith, at_offset, signed)) ∙ omega (arith, at_offset)) in
-        let rest = stands (step chain first).state between (params_blocks chain (first ∷ []) ∙ are) (omega (arith, due)) (omega (arith, further)) (omega (arith, further, signed)) in
+        let further : place (step chain first).state.due ≡ params.offset + 1 =
+        ap place due ∙ (on chain.due from (omega (arith, at_offset, signed)) ∙ omega (arith, at_offset)) in
+        let rest =
+        stands (step chain first).state between (params_blocks chain (first ∷ []) ∙ are) (omega (arith, due)) (omega (arith, further))
+        (omega (arith, further, signed)) in
         (rest.0 ∙ begun, omega (arith, rest.1, further, signed))
 
 -- the line of the snapshot stands among those of its block
@@ -104,11 +113,14 @@ line_told chain block round begins =
     (Contains-append_left begun (decision ++ []) line here))) where
       here : Contains (round_phase (era_phase chain).state).lines (round_line round (snapshot_of (era_phase chain).state))
       here =
-          subst (λ (o : Option ℕ). Contains (option_to_list (option_map (λ number. round_line number (snapshot_of (era_phase chain).state)) o)) (round_line round (snapshot_of (era_phase chain).state)))
+          subst (λ (o : Option ℕ). Contains
+          (option_to_list (option_map (λ number. round_line number (snapshot_of (era_phase chain).state)) o))
+          (round_line round (snapshot_of (era_phase chain).state)))
           (sym begins) (0, omega arith, refl)
 
 -- what the block of a decision seats is what the round that stands comes to
-seated_by_round : (chain : Chain) (last : Block) (round : Option Round) → IsLive chain → is_decision chain.params chain.due ≡ true → chain.round ≡ round
+seated_by_round : (chain : Chain) (last : Block) (round : Option Round) → IsLive chain → is_decision chain.params chain.due ≡ true
+    → chain.round ≡ round
     → (step chain last).seated ≡ (decision_of round (undecided chain)).seated
 seated_by_round chain last round live is stood = seats_step chain last ∙ ap (λ (o : Outcome). o.seated) (decides chain round live is stood)
 
@@ -136,10 +148,14 @@ seatings_law chain blocks can before between more first last round parts begins 
   lengths = omega (arith, ap length parts, length-append before (first ∷ (between ++ last ∷ more)), length-append between (last ∷ more))
 
   live : IsLive (after_blocks chain (before ++ first ∷ between))
-  live = live_blocks chain (before ++ first ∷ between) can.between.live (omega (arith, lengths, length-append before (first ∷ between), can.fit))
+  live =
+      live_blocks chain (before ++ first ∷ between) can.between.live
+      (omega (arith, lengths, length-append before (first ∷ between), can.fit))
 
   at : (ps : Option Params) → chain.params ≡ ps → IsSeatedOnce chain before first between last round
-  at None none = absurd (let e : None ≡ Some round = ap (λ (ps : Option Params). begun_round ps (after_blocks chain before).due) (sym none) ∙ begins in cc)
+  at None none =
+      absurd (let e : None ≡ Some round = ap (λ (ps : Option Params). begun_round ps (after_blocks chain before).due) (sym none)
+      ∙ begins in cc)
   at (Some params) are =
       let sound = subst AreSound are can.between.live.params in
       let from : 1 ≤ (after_blocks chain before).due = omega (arith, due_blocks chain before, can.between.live.due.at_least) in
@@ -149,17 +165,27 @@ seatings_law chain blocks can before between more first last round parts begins 
       let decided : is_decision (Some params) (after_blocks chain (before ++ first ∷ between)).due ≡ true = grind (arith, nat_tests) in
       let is : is_decision chain.params (after_blocks chain (before ++ first ∷ between)).due ≡ true =
       ap (λ (ps : Option Params). is_decision ps (after_blocks chain (before ++ first ∷ between)).due) are ∙ decided in
-      let is_there : is_decision (after_blocks chain (before ++ first ∷ between)).params (after_blocks chain (before ++ first ∷ between)).due ≡ true =
-      ap (λ (ps : Option Params). is_decision ps (after_blocks chain (before ++ first ∷ between)).due) (params_blocks chain (before ++ first ∷ between)) ∙ is in
-      let stood : (after_blocks chain (before ++ first ∷ between)).round ≡ Some (round_now (era_phase (after_blocks chain before)).state round) =
+      let is_there : is_decision (after_blocks chain (before ++ first ∷ between)).params
+      (after_blocks chain (before ++ first ∷ between)).due ≡ true =
+      ap (λ (ps : Option Params). is_decision ps (after_blocks chain (before ++ first ∷ between)).due)
+      (params_blocks chain (before ++ first ∷ between)) ∙ is in
+      let stood : (after_blocks chain (before ++ first ∷ between)).round ≡ Some
+      (round_now (era_phase (after_blocks chain before)).state round) =
       ap (λ (c : Chain). c.round) (sym final_is) ∙ kept_all.0 in
       let seats = seated_by_round final last (Some (round_now (era_phase start).state round)) live is_there stood in
       record {
         told = line_told start first round opens;
         decides = is;
-        seated = λ enough rich. seats ∙ ap (λ b. (decision_of (Some (if b then rounds.Void round else rounds.Open round snapshot (commissions_of (era_phase start).state.roles))) (undecided final)).seated)
+        seated =
+            λ enough rich. seats ∙ ap
+            (λ b. (decision_of (Some
+            (if b then rounds.Void round else rounds.Open round snapshot (commissions_of (era_phase start).state.roles)))
+            (undecided final)).seated)
             (neither enough rich);
-        void = λ one. seats ∙ ap (λ b. (decision_of (Some (if b then rounds.Void round else rounds.Open round snapshot (commissions_of (era_phase start).state.roles))) (undecided final)).seated) one;
+        void =
+            λ one. seats ∙ ap (λ b.
+            (decision_of (Some (if b then rounds.Void round else rounds.Open round snapshot (commissions_of (era_phase start).state.roles)))
+            (undecided final)).seated) one;
       } where
         neither : is_few (snapshot_behind chain before) ≡ false → is_poor (snapshot_behind chain before) ≡ false
             → (is_few (snapshot_behind chain before) || is_poor (snapshot_behind chain before)) ≡ false

@@ -67,22 +67,10 @@ module _ (params : Params) where
   pub record IsStory (chain : Chain) (seated : List Election) (events : List Event) : Type 0 where
     pub between : IsBetween params chain seated
     pub current : chain.eras.current ≡ era_of chain.params (chain.due - 1)
-    pub accepted : AreAccepted events first_era
-    pub eras_are : after_all events first_era ≡ chain.eras
     pub count : length (begun events) ≡ chain.eras.current
     pub covered : IsCovered (begun events) seated
 
   module _ (packed : PackedYesIsAccepting) (plain : PlainYesIsPassing) (fill : EveryFillPasses) (sound : params_fault params ≡ None) where
-    pub story_accepted : (chain : Chain) (block : Block) (seated : List Election) (events : List Event) → IsLive chain → IsStory chain seated events → AreAccepted (events ++ events_in chain block) first_era
-    story_accepted chain block seated events live h =
-        accepted_append events (events_in chain block) first_era h.accepted
-        (subst (AreAccepted (events_in chain block)) (sym h.eras_are)
-        (accepted_block chain block (waiting_sound chain.waiting (elected_for (chain.eras.current + 1) seated) h.between.waits live.waiting)))
-
-    pub story_eras : (chain : Chain) (block : Block) (seated : List Election) (events : List Event) → IsStory chain seated events → after_all (events ++ events_in chain block) first_era ≡ (step chain block).state.eras
-    story_eras chain block seated events h =
-        after_append events (events_in chain block) first_era ∙ ap (after_all (events_in chain block)) h.eras_are ∙ eras_block chain block
-
     -- the eras that began up to the end of the block
     begun_after : (chain : Chain) (block : Block) (events : List Event)
         → begun (events ++ events_in chain block) ≡ begun events ++ begun (started_by chain.waiting (begun_era chain.params chain.due))
@@ -109,8 +97,6 @@ module _ (params : Params) where
         record {
           between = seated_step params packed plain fill chain block seated sound live h.current h.between;
           current = era_step chain block live h.current;
-          accepted = story_accepted chain block seated events live h;
-          eras_are = story_eras chain block seated events h;
           count = ap length (begun_after chain block events)
               ∙ started_count chain.waiting chain.eras starts (begun events) h.count
               ∙ sym ((fixed_calls 0 block.calls (before_calls chain)).era ∙ ap (λ (eras : Eras). eras.current) (eras_before chain));

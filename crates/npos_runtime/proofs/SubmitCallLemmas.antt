@@ -21,13 +21,14 @@ use Rattle.npos_runtime.proofs.RuleLemmas.{IsLawful, no_events}
 
 pub offer_free : (chain : Chain) (item : Submission) → offer_refusal chain item ≡ None
     → (item.deposit ≤ (row_at chain.book item.who).free) × (is_err (offer_answer chain.queue item) ≡ false)
-offer_free chain item none = at (nat_lt (row_at chain.book item.who).free item.deposit) (is_err (offer_answer chain.queue item)) refl refl none where
-  at : (a b : Bool) → nat_lt (row_at chain.book item.who).free item.deposit ≡ a → is_err (offer_answer chain.queue item) ≡ b
-      → (if a then Some (ByLedger LowFunds) else if b then Some NotBetter else None) ≡ None
-      → (item.deposit ≤ (row_at chain.book item.who).free) × (is_err (offer_answer chain.queue item) ≡ false)
-  at true b little worse none = cc
-  at false true little worse none = cc
-  at false false little worse none = (ltb-false (row_at chain.book item.who).free item.deposit little, worse)
+offer_free chain item none =
+    at (nat_lt (row_at chain.book item.who).free item.deposit) (is_err (offer_answer chain.queue item)) refl refl none where
+      at : (a b : Bool) → nat_lt (row_at chain.book item.who).free item.deposit ≡ a → is_err (offer_answer chain.queue item) ≡ b
+          → (if a then Some (ByLedger LowFunds) else if b then Some NotBetter else None) ≡ None
+          → (item.deposit ≤ (row_at chain.book item.who).free) × (is_err (offer_answer chain.queue item) ≡ false)
+      at true b little worse none = cc
+      at false true little worse none = cc
+      at false false little worse none = (ltb-false (row_at chain.book item.who).free item.deposit little, worse)
 
 -- a submission is taken in
 submitted_live : (chain : Chain) (item : Submission) → IsLive chain → offer_refusal chain item ≡ None → IsLive (submitted chain item)
@@ -35,12 +36,15 @@ submitted_live chain item live none =
     let free = offer_free chain item none in
     let is = taken chain.queue item live.queue free.1 in
     let held = books_held (release_now chain) chain.book item chain.queue.items free.0 live.books in
-    let books = all_books_returned (release_now chain) (ejected chain.queue item) (offered chain.queue item).items (deposit_held item.who item.deposit chain.book)
+    let books =
+    all_books_returned (release_now chain) (ejected chain.queue item) (offered chain.queue item).items
+    (deposit_held item.who item.deposit chain.book)
     (books_moved (release_now chain) (deposit_held item.who item.deposit chain.book) (item ∷ chain.queue.items)
     (ejected chain.queue item ++ (offered chain.queue item).items) is.moved held) in
     live_with refl refl live books live.roles live.bags live.round is.ordered live.waiting
 
-pub submit_lawful : (chain : Chain) (who : AccountId) (round : ℕ) (claim : Score) (bytes : List ℕ) → IsLawful chain who (submit_rule chain who round claim bytes)
+pub submit_lawful : (chain : Chain) (who : AccountId) (round : ℕ) (claim : Score) (bytes : List ℕ)
+    → IsLawful chain who (submit_rule chain who round claim bytes)
 submit_lawful chain who round claim bytes = record {
   live = λ live free. submitted_live chain (submission_of chain who claim bytes) live
       (second_none (form_refusal chain round bytes) (offer_refusal chain (submission_of chain who claim bytes)) free);

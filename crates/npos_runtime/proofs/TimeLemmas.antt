@@ -33,6 +33,7 @@ use Rattle.npos_runtime.specs.Laws.{NoneCrowdedOutLaw}
 use Rattle.npos_runtime.proofs.RuleLemmas.{LeavesQueue, Submits}
 use Rattle.npos_runtime.proofs.CallTable.{lawful_call}
 use Rattle.npos_runtime.proofs.LiveLemmas.{fixed_call, fixed_calls, live_step, era_step, due_step, live_blocks, params_step, params_blocks}
+use Rattle.npos_runtime.proofs.WaitingLemmas.{elected_step}
 use Rattle.npos_runtime.proofs.CrowdingLemmas.{Holds, IsTimed, IsBetween, stepped, behind, round_holds, answered}
 
 -- ## Where no round is open, no submission is taken
@@ -46,7 +47,8 @@ closed_form : (chain : Chain) (who : AccountId) (round : ℕ) (claim : Score) (b
 closed_form chain who round claim bytes closed =
     let takes : takes_submissions chain ≡ false = shut (is_signed chain.params chain.due) (is_open chain.round) closed in rw takes refl
 
-queue_after : (due : Option Refusal) (index : ℕ) (chain : Chain) (who : AccountId) (rule : CallRule) → is_open chain.round ≡ false → rule.refusal ≡ due
+queue_after : (due : Option Refusal) (index : ℕ) (chain : Chain) (who : AccountId) (rule : CallRule) → is_open chain.round ≡ false
+    → rule.refusal ≡ due
     → LeavesQueue chain rule ⊎ Submits chain who rule → (call_after due index rule chain).state.queue ≡ chain.queue
 queue_after None index chain who rule closed free (inl leaves) = leaves.queue
 queue_after None index chain who rule closed free (inr submits) =
@@ -55,7 +57,8 @@ queue_after None index chain who rule closed free (inr submits) =
     let both : None ≡ Some WrongPhase = sym free ∙ refused in cc
 queue_after (Some refusal) index chain who rule closed free queue = refl
 
-pub queue_calls : (index : ℕ) (calls : List Call) (chain : Chain) → is_open chain.round ≡ false → (calls_outcome index calls chain).state.queue ≡ chain.queue
+pub queue_calls : (index : ℕ) (calls : List Call) (chain : Chain) → is_open chain.round ≡ false
+    → (calls_outcome index calls chain).state.queue ≡ chain.queue
 queue_calls index [] chain closed = refl
 queue_calls index (call ∷ calls) chain closed =
     let next : Chain = (call_outcome index call chain).state in
@@ -65,7 +68,8 @@ queue_calls index (call ∷ calls) chain closed =
 -- ## Without params
 
 -- no round is open
-plain_closed : (round : Option Round) (due : ℕ) (items : List Submission) → IsInTime round None due items → (is_open round ≡ false) × (items ≡ [])
+plain_closed : (round : Option Round) (due : ℕ) (items : List Submission) → IsInTime round None due items
+    → (is_open round ≡ false) × (items ≡ [])
 plain_closed None due items time = (refl, time)
 plain_closed (Some (rounds.Void number)) due items time = (refl, time)
 plain_closed (Some (rounds.Open number snapshot commissions)) due items time = absurd time
@@ -77,7 +81,8 @@ closed_in_time (Some (rounds.Void number)) params due items closed none = none
 closed_in_time (Some (rounds.Open number snapshot commissions)) params due items closed none = absurd (true≢false closed)
 
 -- no phase touches round and queue
-plain_before : (chain : Chain) → chain.params ≡ None → ((before_calls chain).round ≡ chain.round) × ((before_calls chain).queue ≡ chain.queue)
+plain_before : (chain : Chain) → chain.params ≡ None
+    → ((before_calls chain).round ≡ chain.round) × ((before_calls chain).queue ≡ chain.queue)
 plain_before chain none = (
   ap (λ (ps : Option Params). (decided ps).round) none,
   ap (λ (ps : Option Params). (decided ps).queue) none,
@@ -92,7 +97,9 @@ plain_step : (chain : Chain) (block : Block) → chain.params ≡ None → IsInT
 plain_step chain block none time params due =
     let start : Chain = before_calls chain in
     let before = plain_before chain none in
-    let was = plain_closed chain.round chain.due chain.queue.items (subst (λ (ps : Option Params). IsInTime chain.round ps chain.due chain.queue.items) none time) in
+    let was =
+    plain_closed chain.round chain.due chain.queue.items
+    (subst (λ (ps : Option Params). IsInTime chain.round ps chain.due chain.queue.items) none time) in
     let closed : is_open start.round ≡ false = ap is_open before.0 ∙ was.0 in
     closed_in_time (step chain block).state.round params due (step chain block).state.queue.items
     (ap is_open (fixed_calls 0 block.calls start).round ∙ closed)
@@ -145,7 +152,8 @@ module _ (params : Params) (sound : params_fault params ≡ None) (number : ℕ)
       record { number_is = timed.0; begun = omega (arith, timed.1); undecided = omega (arith, timed.2) }
 
   -- in the words of rounds and offers
-  pub between : (chain : Chain) → chain.params ≡ Some params → IsBetweenBlocks chain → IsBetween params sound number chain (waits_for chain.round chain.queue.items)
+  pub between : (chain : Chain) → chain.params ≡ Some params → IsBetweenBlocks chain
+      → IsBetween params sound number chain (waits_for chain.round chain.queue.items)
   between chain is rests =
       let time : IsInTime chain.round (Some params) chain.due chain.queue.items =
       subst (λ (ps : Option Params). IsInTime chain.round ps chain.due chain.queue.items) is rests.timely in
@@ -157,14 +165,17 @@ module _ (params : Params) (sound : params_fault params ≡ None) (number : ℕ)
         later = later chain.round time;
         same = same chain.round time;
       } where
-        later : (round : Option Round) → IsInTime round (Some params) chain.due chain.queue.items → era_of (Some params) chain.due + 1 < number
+        later : (round : Option Round) → IsInTime round (Some params) chain.due chain.queue.items
+            → era_of (Some params) chain.due + 1 < number
             → waits_for round chain.queue.items ≡ []
         later None time below = refl
         later (Some (rounds.Void round)) time below = refl
         later (Some (rounds.Open round snapshot commissions)) time below =
-            let apart : (round == number) ≡ false = (let is = time.number_is in grind (arith, nat_tests)) in ap (λ b. if b then chain.queue.items else []) apart
+            let apart : (round == number) ≡ false =
+            (let is = time.number_is in grind (arith, nat_tests)) in ap (λ b. if b then chain.queue.items else []) apart
 
-        same : (round : Option Round) → IsInTime round (Some params) chain.due chain.queue.items → number ≡ era_of (Some params) chain.due + 1
+        same : (round : Option Round) → IsInTime round (Some params) chain.due chain.queue.items
+            → number ≡ era_of (Some params) chain.due + 1
             → place_of params chain.due < params.offset + 1 → waits_for round chain.queue.items ≡ []
         same None time e below = refl
         same (Some (rounds.Void round)) time e below = refl
@@ -179,29 +190,37 @@ params_of_case (Some params) none some = some params refl
 sound_params : (params : Option Params) (some : Params) → AreSound params → params ≡ Some some → params_fault some ≡ None
 sound_params params some sound is = subst AreSound is sound
 
-pub places_step : (chain : Chain) (block : Block) → IsBetweenBlocks chain → (step chain block).state.queue.places ≡ places_of (step chain block).state.params
+pub places_step : (chain : Chain) (block : Block) → IsBetweenBlocks chain
+    → (step chain block).state.queue.places ≡ places_of (step chain block).state.params
 places_step chain block rests = params_of_case chain.params
     (λ none.
-      let start : Chain = before_calls chain in
-      let before = plain_before chain none in
-      let was = plain_closed chain.round chain.due chain.queue.items (subst (λ (ps : Option Params). IsInTime chain.round ps chain.due chain.queue.items) none rests.timely) in
-      ap (λ (q : Ranking). q.places) (queue_calls 0 block.calls start (ap is_open before.0 ∙ was.0) ∙ before.1) ∙ (rests.places ∙ ap places_of (sym (params_step chain block))))
+    let start : Chain = before_calls chain in
+    let before = plain_before chain none in
+    let was =
+    plain_closed chain.round chain.due chain.queue.items
+    (subst (λ (ps : Option Params). IsInTime chain.round ps chain.due chain.queue.items) none rests.timely) in
+    ap (λ (q : Ranking). q.places) (queue_calls 0 block.calls start (ap is_open before.0 ∙ was.0) ∙ before.1) ∙
+    (rests.places ∙ ap places_of (sym (params_step chain block))))
     (λ params is.
-      let sound = sound_params chain.params params rests.live.params is in
-      let after = stepped params sound 0 chain block (waits_for params sound 0 chain.round chain.queue.items) (between params sound 0 chain is rests) rests.live in
-      after.places ∙ ap places_of (sym after.params_are))
+    let sound = sound_params chain.params params rests.live.params is in
+    let after =
+    stepped params sound 0 chain block (waits_for params sound 0 chain.round chain.queue.items)
+    (between params sound 0 chain is rests) rests.live in
+    after.places ∙ ap places_of (sym after.params_are))
 
 pub timely_step : (chain : Chain) (block : Block) → IsBetweenBlocks chain
-    → IsInTime (step chain block).state.round (step chain block).state.params (step chain block).state.due (step chain block).state.queue.items
+    → IsInTime (step chain block).state.round (step chain block).state.params (step chain block).state.due
+    (step chain block).state.queue.items
 timely_step chain block rests = params_of_case chain.params
     (λ none. plain_step chain block none rests.timely (step chain block).state.params (step chain block).state.due)
     (λ params is.
-      let sound = sound_params chain.params params rests.live.params is in
-      let waits : List Submission = waits_for params sound 0 chain.round chain.queue.items in
-      let after = stepped params sound 0 chain block waits (between params sound 0 chain is rests) rests.live in
-      subst (λ (ps : Option Params). IsInTime (step chain block).state.round ps (step chain block).state.due (step chain block).state.queue.items) (sym after.params_are)
-      (in_time_from params sound 0 (step chain block).state.due (step chain block).state.round (step chain block).state.queue
-      (waits ++ offers_in 0 0 block.calls (before_calls chain)) after.timed))
+    let sound = sound_params chain.params params rests.live.params is in
+    let waits : List Submission = waits_for params sound 0 chain.round chain.queue.items in
+    let after = stepped params sound 0 chain block waits (between params sound 0 chain is rests) rests.live in
+    subst (λ (ps : Option Params). IsInTime (step chain block).state.round ps (step chain block).state.due
+    (step chain block).state.queue.items) (sym after.params_are)
+    (in_time_from params sound 0 (step chain block).state.due (step chain block).state.round (step chain block).state.queue
+    (waits ++ offers_in 0 0 block.calls (before_calls chain)) after.timed))
 
 pub between_step : (chain : Chain) (block : Block) → IsBetweenBlocks chain → chain.due < 2 ^ 32 → IsBetweenBlocks (step chain block).state
 between_step chain block rests more = record {
@@ -209,24 +228,29 @@ between_step chain block rests more = record {
   era = era_step chain block rests.live rests.era;
   places = places_step chain block rests;
   timely = timely_step chain block rests;
+  elected = elected_step chain block rests.live rests.elected;
 }
 
-pub between_blocks : (chain : Chain) (blocks : List Block) → IsBetweenBlocks chain → chain.due + length blocks ≤ 2 ^ 32 → IsBetweenBlocks (after_blocks chain blocks)
+pub between_blocks : (chain : Chain) (blocks : List Block) → IsBetweenBlocks chain → chain.due + length blocks ≤ 2 ^ 32
+    → IsBetweenBlocks (after_blocks chain blocks)
 between_blocks chain [] rests fit = rests
 between_blocks chain (block ∷ more) rests fit =
-    between_blocks (step chain block).state more (between_step chain block rests (omega (arith, fit))) (omega (arith, fit, due_step chain block))
+    between_blocks (step chain block).state more (between_step chain block rests (omega (arith, fit)))
+    (omega (arith, fit, due_step chain block))
 
 -- ## Nothing valid is crowded out
 
 pub none_crowded_out : PackedYesIsAccepting → NoneCrowdedOutLaw
 none_crowded_out packed first blocks block can round snapshot commissions item is stands among holds_up = params_of_case first.params
-    (λ none. absurd (true≢false (sym is ∙ ap (λ (ps : Option Params). is_decision ps (after_blocks first blocks).due) (params_blocks first blocks ∙ none))))
+    (λ none. absurd (true≢false
+    (sym is ∙ ap (λ (ps : Option Params). is_decision ps (after_blocks first blocks).due) (params_blocks first blocks ∙ none))))
     (λ params are.
-      let sound = sound_params first.params params can.between.live.params are in
-      let waits : List Submission = waits_for params sound round first.round first.queue.items in
-      let last : Chain = after_blocks first blocks in
-      let behind_all = behind params sound round first blocks waits (between params sound round first are can.between) can.between.live can.fit in
-      answered packed last block round snapshot commissions (live_blocks first blocks can.between.live can.fit) is stands
-      item params.queue (waits ++ offers_by round first blocks) behind_all.places
-      (round_holds params sound round last (waits ++ offers_by round first blocks) snapshot commissions behind_all stands)
-      (Contains-append_right waits (offers_by round first blocks) item among) holds_up)
+    let sound = sound_params first.params params can.between.live.params are in
+    let waits : List Submission = waits_for params sound round first.round first.queue.items in
+    let last : Chain = after_blocks first blocks in
+    let behind_all =
+    behind params sound round first blocks waits (between params sound round first are can.between) can.between.live can.fit in
+    answered packed last block round snapshot commissions (live_blocks first blocks can.between.live can.fit) is stands
+    item params.queue (waits ++ offers_by round first blocks) behind_all.places
+    (round_holds params sound round last (waits ++ offers_by round first blocks) snapshot commissions behind_all stands)
+    (Contains-append_right waits (offers_by round first blocks) item among) holds_up)

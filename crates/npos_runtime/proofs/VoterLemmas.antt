@@ -90,6 +90,7 @@ no_fault chain draft who more live room polled stake votes =
       not_below 16 (length (votes_of chain.roles who)) (few_votes chain.roles who (live.roles.nominations who)),
       ap (λ (targets : List AccountId). list_any (λ target. nat_le (length targets) target) (votes_of chain.roles who)) polled.targets ∙ votes_known (validators_of chain.roles) (Rattle.npos_runtime.specs.Ballots.choices_of chain.roles who),
       distinct_votes chain.roles who (live.roles.nominations who),
-      not_above (2 ^ 64) (total_of draft.voters + active_of chain who) (total_fits chain draft who live.books.balanced polled.voters (front_once (accounts_of draft.voters) more who polled.once)),
+      not_above (2 ^ 64) (total_of draft.voters + active_of chain who)
+          (total_fits chain draft who live.books.balanced polled.voters (front_once (accounts_of draft.voters) more who polled.once)),
     )
     refl

@@ -14,7 +14,8 @@ use Rattle.npos_runtime.specs.Fates.{fate, waiting_with, issued}
 
 -- Behind a block that decides a round nothing waits. Each number that was issued by then was settled
 -- once by then, and is not settled again, whatever blocks follow.
-pub record AreSettledBy (chain : Chain) (before : List Block) (decision : Block) (more : List Block) : Type 0 where
+pub record AreSettledBy (chain : Chain) (before : List Block) (decision : Block)
+    (more : List Block) : Type 0 where
   pub emptied : (after_blocks chain (before ++ decision ∷ [])).queue.items ≡ []
   pub settled : (number : ℕ) → 1 ≤ number → number < (after_blocks chain (before ++ decision ∷ [])).next
       → fate number (told_by chain (before ++ decision ∷ [])) ≡ 1

@@ -14,7 +14,6 @@ use Rattle.stake_ledger.specs.Ledger.{Ledger, row_at}
 use Rattle.election_snapshot.specs.Snapshot.{Snapshot}
 use Rattle.era_book.specs.declared.exposure.Backer.{Backer}
 use Rattle.era_book.specs.Calls.{slash_in}
-use Rattle.era_book.specs.Eras.{first_era}
 use Rattle.era_book.specs.Events.{Event, Started, Paid, Reported, AreAccepted, after_all, given_by, makes_due}
 use Rattle.npos_runtime.specs.declared.chain.Chain.{Chain}
 use Rattle.block_receipts.specs.declared.line.Line.{Line}
@@ -60,13 +59,11 @@ abbrev pub events_by : Chain → List Block → List Event
 events_by chain [] = []
 events_by chain (block ∷ more) = events_in chain block ++ events_by (step chain block).state more
 
--- The eras of the chain are what the blocks' events make of era 0, and each event is accepted.
+-- The eras of the chain are what the blocks' events make of those before, and each event is accepted.
 abbrev pub HistoryLaw : Type 0
-HistoryLaw = (genesis : Genesis) (blocks : List Block)
-    → IsHistory genesis blocks
-    → AreAccepted (events_by (genesis_chain genesis) blocks) first_era
-    × (after_all (events_by (genesis_chain genesis) blocks) first_era
-    ≡ (after_blocks (genesis_chain genesis) blocks).eras)
+HistoryLaw = (chain : Chain) (blocks : List Block) → CanTake chain blocks
+    → AreAccepted (events_by chain blocks) chain.eras
+    × (after_all (events_by chain blocks) chain.eras ≡ (after_blocks chain blocks).eras)
 
 -- ## What blocks come to, summed over their calls
 
@@ -206,9 +203,8 @@ TakenLaw = (genesis : Genesis) (blocks : List Block) (era : ℕ) (who : AccountI
 
 -- each round is decided once, and elects for the era of its number
 abbrev pub OnceLaw : Type 0
-OnceLaw = (genesis : Genesis) (blocks : List Block)
-    → IsHistory genesis blocks
-    → IsDistinct (λ first second. first.round == second.round) (seated_by (genesis_chain genesis) blocks)
+OnceLaw = (chain : Chain) (blocks : List Block) → CanTake chain blocks
+    → IsDistinct (λ first second. first.round == second.round) (seated_by chain blocks)
 
 -- the election that seated the committee of an era, if one did
 abbrev pub elected_for : ℕ → List Election → Option Election

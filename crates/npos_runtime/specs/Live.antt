@@ -14,7 +14,8 @@ use Rattle.npos_base.specs.Account.{same_account}
 use Rattle.voter_lists.specs.Ranked.{AreRanked}
 use Rattle.voter_lists.specs.Roles.{RoleList, role_of, nominated_by, validators_of, has_repeat}
 use Rattle.voter_lists.specs.Bags.{Listing, is_listed, walk}
-use Rattle.election_snapshot.specs.Snapshot.{IsWellFormed}
+use Rattle.election_snapshot.specs.Snapshot.{IsWellFormed, stake_of}
+use Rattle.weight_book.specs.Weights.{Follows, spent}
 use Rattle.submission_queue.specs.declared.submission.Submission.{Submission}
 use Rattle.submission_queue.specs.Ranking.{IsOrdered}
 use Rattle.npos_runtime.specs.declared.round.Round.{Round}
@@ -106,6 +107,18 @@ abbrev pub IsInTime : Option Round → Option Params → ℕ → List Submission
 IsInTime (Some (Open number snapshot commissions)) params due items = CanBeOpen params due number
 IsInTime other params due items = items ≡ []
 
+-- Who waits was elected: its weights follow the nominations of a well-formed snapshot, and spend no
+-- voter beyond its stake.
+pub record IsElected (committee : Committee) : Type 0 where
+  pub sound : IsWellFormed committee.snapshot
+  pub follows : Follows committee.snapshot committee.weights
+  pub stakes : (voter : ℕ) → voter < length committee.snapshot.voters
+      → spent committee.weights.edges voter ≤ stake_of committee.snapshot voter
+
+abbrev pub WasElected : Option Committee → Type 0
+WasElected None = Unit {0}
+WasElected (Some committee) = IsElected committee
+
 -- a chain between two blocks
 pub record IsBetweenBlocks (chain : Chain) : Type 0 where
   pub live : IsLive chain
@@ -114,6 +127,7 @@ pub record IsBetweenBlocks (chain : Chain) : Type 0 where
   pub places : chain.queue.places ≡ places_of chain.params
   -- a round is open in its own blocks alone
   pub timely : IsInTime chain.round chain.params chain.due chain.queue.items
+  pub elected : WasElected chain.waiting
 
 -- A block has fewer than 2^32 calls, and block numbers are u32, so the numbers of submissions fit
 -- u64.

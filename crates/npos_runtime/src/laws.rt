@@ -87,21 +87,13 @@ pub fn nothing_valid_is_crowded_out_for_free()
 /// one round, which is the number of the era for which it elects.
 pub fn each_round_is_decided_once()
     ensures { OnceLaw }
-{
-    a_packed_yes_is_a_plain_yes();
-    a_plain_yes_is_passing();
-    every_fill_passes();
-}
+{}
 
-/// The eras are what the events of the blocks make of the first era, and each event is accepted, as
-/// an era book asks.
+/// The eras are what the events of the blocks make of those before, and each event is accepted, as an
+/// era book asks.
 pub fn eras_follow_the_blocks()
     ensures { HistoryLaw }
-{
-    a_packed_yes_is_a_plain_yes();
-    a_plain_yes_is_passing();
-    every_fill_passes();
-}
+{}
 
 /// What an era pays is told line by line and minted, and is at most the reward of the era: each
 /// payout for itself, and all payouts of the era together, over all its validators.

@@ -18,8 +18,8 @@ returns-clause-meets c =
     record {
       ok = (
         rw (root, c.in_ok-dues.ensures.accepted) refl,
-        offence_is c.args.chain.now c.slash_all.new.chain c.args.reporter c.args.era c.args.validator c.args.fraction c.in_ok-dues.dues c.mark_slashed.new.self
-            c.in_ok-dues.ensures.ok c.in_ok-slash_all.ensures.state c.mark_slashed.ensures.marked,
+        offence_is c.args.chain.now c.slash_all.new.chain c.args.reporter c.args.era c.args.validator c.args.fraction
+            c.in_ok-dues.dues c.mark_slashed.new.self c.in_ok-dues.ensures.ok c.in_ok-slash_all.ensures.state c.mark_slashed.ensures.marked,
       );
       refused = tt;
       unchanged = tt;

@@ -33,7 +33,8 @@ begin_round-requires c = subst IsLive (sym c.in_ok-begin_era.ensures.state) (liv
 pub decide_round-requires : goal.decide_round-requires
 decide_round-requires c =
     subst IsLive (sym c.in_ok-begin_round.ensures.state)
-    (live_round c.begin_era.new.chain (subst IsLive (sym c.in_ok-begin_era.ensures.state) (live_era c.args.chain.now c.requires.ready.between.live)))
+    (live_round c.begin_era.new.chain
+    (subst IsLive (sym c.in_ok-begin_era.ensures.state) (live_era c.args.chain.now c.requires.ready.between.live)))
 
 pub take_calls-requires-clause-live : goal.take_calls-requires-clause-live
 take_calls-requires-clause-live c =
