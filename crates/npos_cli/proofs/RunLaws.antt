@@ -157,9 +157,6 @@ pub bundle_drained : (task : Task) (old now : Option (List ℕ)) (bytes : List �
     → IsBundleReport task bytes report → IsJudged (status_of report.ending) → IsDrained old now
 bundle_drained task old now bytes report reads is judged = reads.ended (bundle_within task bytes report is judged)
 
-pub bundle_few : (old now : Option (List ℕ)) (bytes : List ℕ) → ReadsUpTo 16777216 old now bytes → TakesAtMost (16777217) old now
-bundle_few old now bytes reads = (bytes, reads.taken, reads.few)
-
 -- a run is done where its report is, and answers No where that is one
 pub is_done : (ending : Ending) → status_of ending ≡ statuses.Done → ending ≡ endings.Done
 is_done endings.Done e = refl
