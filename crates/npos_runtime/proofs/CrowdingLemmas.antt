@@ -52,7 +52,7 @@ use Rattle.npos_runtime.proofs.RuleLemmas.{IsFixed, LeavesQueue, Submits}
 use Rattle.npos_runtime.proofs.CallTable.{lawful_call}
 use Rattle.npos_runtime.proofs.LiveLemmas.{live_before, due_before, live_call, live_step, live_blocks, due_step, due_calls, params_blocks}
 use Rattle.npos_runtime.proofs.BeginLemmas.{live_begun}
-use Rattle.npos_runtime.proofs.LawLemmas.{undecided, decides}
+use Rattle.npos_runtime.proofs.LawLemmas.{undecided, decides, told_before, told_first, told_later}
 use Rattle.chain_params.proofs.PhaseLemmas.{next_place, phases_sound}
 
 -- ## The queue of a round
@@ -448,14 +448,9 @@ found_others snapshot (item ∷ items) found is = at (is_yes (judged snapshot it
 -- the lines of the decision stand among those of its block
 in_step : (chain : Chain) (block : Block) (line : Line) → Contains (decision_phase (undecided chain)).lines line → Contains (step chain block).lines line
 in_step chain block line within =
-    let era : List Line = (era_phase chain).lines in
-    let round : List Line = (round_phase (era_phase chain).state).lines in
-    let decision : List Line = (decision_phase (undecided chain)).lines in
-    let calls : List Line = (calls_outcome 0 block.calls (before_calls chain)).lines in
-    Contains-append_right (lines.Block block.number ∷ []) ((era ++ (round ++ (decision ++ []))) ++ (calls ++ [])) line
-    (Contains-append_left (era ++ (round ++ (decision ++ []))) (calls ++ []) line
-    (Contains-append_right era (round ++ (decision ++ [])) line
-    (Contains-append_right round (decision ++ []) line (Contains-append_left decision [] line within))))
+    told_before chain block line
+    (told_later era_phase (round_phase ∷ decision_phase ∷ []) chain line
+    (told_later round_phase (decision_phase ∷ []) (era_phase chain).state line (told_first decision_phase [] (undecided chain) line within)))
 
 all_mapped : {A B : Type 0} (f : A → B) (xs : List A) → All (λ x. Contains (map f xs) (f x)) xs
 all_mapped f [] = All-nil (λ x. Contains [] (f x))

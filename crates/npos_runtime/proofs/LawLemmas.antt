@@ -1,8 +1,8 @@
 -- The elections that blocks seat, and what is held after them.
-use Rattle.std.proofs.Common.{◌≡◌, ℕ, ◌+◌, ◌≤◌, ◌^◌, Bool, true, false, ◌==◌, All, List, [], ◌∷◌, ◌++◌, length, Option, Some, None, refl, sym, ◌∙◌, ap, subst, arith, if◌then◌else◌}
+use Rattle.std.proofs.Common.{◌≡◌, ℕ, ◌+◌, ◌≤◌, ◌^◌, Bool, true, false, ◌==◌, All, Contains, List, [], ◌∷◌, ◌++◌, length, Option, Some, None, refl, sym, ◌∙◌, ap, subst, arith, if◌then◌else◌}
 use Rattle.std.proofs.lemmas.Bool.Decides.{nat_tests}
 use Rattle.std.proofs.lemmas.List.{append-nil}
-use Rattle.std.proofs.lemmas.List.Elements.{All-nil, All-cons, All-append}
+use Rattle.std.proofs.lemmas.List.Elements.{All-nil, All-cons, All-append, Contains-append_left, Contains-append_right}
 use Rattle.block_wire.specs.declared.genesis.Params.{Params}
 use Rattle.block_wire.specs.declared.call.Call.{Call}
 use Rattle.block_wire.specs.declared.block.Block.{Block}
@@ -11,6 +11,8 @@ use Rattle.weight_book.specs.Proportional.{AveragingLaw}
 use Rattle.election_check.specs.Laws.{PackedYesIsAccepting, PlainYesIsPassing}
 use Rattle.quota_fill.specs.Laws.{EveryFillPasses}
 use Rattle.npos_runtime.specs.declared.chain.Chain.{Chain}
+use Rattle.block_receipts.specs.declared.line.Line.{Line}
+use Rattle.block_receipts.specs.declared.line.Line.TheVariants as lines
 use Rattle.block_receipts.specs.declared.refusal.Refusal.{Refusal}
 use Rattle.npos_runtime.specs.declared.round.Round.{Round}
 use Rattle.npos_runtime.specs.declared.round.Round.TheVariants as rounds
@@ -21,7 +23,7 @@ use Rattle.npos_runtime.specs.Deciding.{decision_of, decision_phase}
 use Rattle.npos_runtime.specs.Outcome.{Election, Outcome, quiet}
 use Rattle.npos_runtime.specs.CallRule.{CallRule}
 use Rattle.npos_runtime.specs.Calls.{rule_for}
-use Rattle.npos_runtime.specs.Step.{before_calls, era_phase, call_after, call_outcome, calls_outcome, step, seated_by}
+use Rattle.npos_runtime.specs.Step.{in_turn, phases, before_calls, era_phase, call_after, call_outcome, calls_outcome, step, seated_by}
 use Rattle.npos_runtime.specs.Live.{IsLive, IsSoundRound}
 use Rattle.chain_params.specs.Faults.{AreSound}
 use Rattle.npos_runtime.specs.Laws.{IsSound, SoundStepLaw, SeatedSoundLaw, SeatsLaw, HeldLaw}
@@ -55,6 +57,24 @@ seats_step chain block =
     (λ i. append-nil decision i ++ append-nil calls i)
     ∙ ap (λ (es : List Election). decision ++ es) (seats_calls 0 block.calls (before_calls chain))
     ∙ append-nil decision
+
+-- ## What is told
+
+-- what the phases of a block tell stands among its lines
+pub told_before : (chain : Chain) (block : Block) (line : Line) → Contains (in_turn phases chain).lines line
+    → Contains (step chain block).lines line
+told_before chain block line within =
+    let calls : List Line = (calls_outcome 0 block.calls (before_calls chain)).lines in
+    Contains-append_right (lines.Block block.number ∷ []) ((in_turn phases chain).lines ++ (calls ++ [])) line
+    (Contains-append_left (in_turn phases chain).lines (calls ++ []) line within)
+
+pub told_first : (part : Chain → Outcome) (more : List (Chain → Outcome)) (chain : Chain) (line : Line) → Contains (part chain).lines line
+    → Contains (in_turn (part ∷ more) chain).lines line
+told_first part more chain line within = Contains-append_left (part chain).lines (in_turn more (part chain).state).lines line within
+
+pub told_later : (part : Chain → Outcome) (more : List (Chain → Outcome)) (chain : Chain) (line : Line)
+    → Contains (in_turn more (part chain).state).lines line → Contains (in_turn (part ∷ more) chain).lines line
+told_later part more chain line within = Contains-append_right (part chain).lines (in_turn more (part chain).state).lines line within
 
 -- ## Every committee is sound
 

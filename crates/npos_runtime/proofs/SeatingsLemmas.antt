@@ -22,7 +22,7 @@ use Rattle.npos_runtime.specs.Step.{before_calls, era_phase, calls_outcome, step
 use Rattle.npos_runtime.specs.Live.{IsLive}
 use Rattle.npos_runtime.specs.Seatings.{snapshot_behind, IsSeatedOnce, SeatingsLaw}
 use Rattle.npos_runtime.proofs.LiveLemmas.{live_blocks, due_step, fixed_calls, params_blocks}
-use Rattle.npos_runtime.proofs.LawLemmas.{undecided, seats_step, decides}
+use Rattle.npos_runtime.proofs.LawLemmas.{undecided, seats_step, decides, told_before, told_first, told_later}
 use Rattle.npos_runtime.proofs.DepositsLemmas.{after_append, due_blocks}
 
 -- where no decision is due, a block leaves the round that stands once one may have begun
@@ -103,14 +103,9 @@ line_told : (chain : Chain) (block : Block) (round : ℕ) → begun_round chain.
     → Contains (step chain block).lines (round_line round (snapshot_of (era_phase chain).state))
 line_told chain block round begins =
     let line : Line = round_line round (snapshot_of (era_phase chain).state) in
-    let era : List Line = (era_phase chain).lines in
-    let begun : List Line = (round_phase (era_phase chain).state).lines in
-    let decision : List Line = (decision_phase (undecided chain)).lines in
-    let calls : List Line = (calls_outcome 0 block.calls (before_calls chain)).lines in
-    Contains-append_right (lines.Block block.number ∷ []) ((era ++ (begun ++ (decision ++ []))) ++ (calls ++ [])) line
-    (Contains-append_left (era ++ (begun ++ (decision ++ []))) (calls ++ []) line
-    (Contains-append_right era (begun ++ (decision ++ [])) line
-    (Contains-append_left begun (decision ++ []) line here))) where
+    told_before chain block line
+    (told_later era_phase (round_phase ∷ decision_phase ∷ []) chain line
+    (told_first round_phase (decision_phase ∷ []) (era_phase chain).state line here)) where
       here : Contains (round_phase (era_phase chain).state).lines (round_line round (snapshot_of (era_phase chain).state))
       here =
           subst (λ (o : Option ℕ). Contains
