@@ -1,5 +1,5 @@
 -- A round that begins stands until its decision, and is decided then.
-use Rattle.std.proofs.Common.{◌≡◌, ◌⊎◌, inl, inr, ℕ, ◌+◌, ◌≤◌, ◌<◌, ◌^◌, Bool, true, false, ◌==◌, ◌||◌, All, Contains, List, [], ◌∷◌, ◌++◌, length, Option, Some, None, option_map, option_to_list, refl, sym, ◌∙◌, ap, subst, arith, if◌then◌else◌, true≢false}
+use Rattle.std.proofs.Common.{◌≡◌, ◌⊎◌, inl, inr, ℕ, ◌+◌, ◌≤◌, ◌<◌, Bool, true, false, ◌==◌, ◌||◌, All, Contains, List, [], ◌∷◌, ◌++◌, length, Option, Some, None, option_map, option_to_list, refl, sym, ◌∙◌, ap, subst, arith, if◌then◌else◌}
 use Rattle.std.proofs.lemmas.Bool.Decides.{nat_tests}
 use Rattle.std.proofs.lemmas.List.{length-append}
 use Rattle.std.proofs.lemmas.List.Elements.{All-nil, All-cons}
@@ -7,7 +7,6 @@ use Rattle.block_wire.specs.declared.genesis.Params.{Params}
 use Rattle.block_wire.specs.declared.block.Block.{Block}
 use Rattle.election_snapshot.specs.Snapshot.{Snapshot}
 use Rattle.block_receipts.specs.declared.line.Line.{Line}
-use Rattle.block_receipts.specs.declared.line.Line.TheVariants as lines
 use Rattle.chain_params.specs.Rules.{era_of, place_of, begun_round, signed_of, is_decision}
 use Rattle.chain_params.specs.Faults.{params_fault, AreSound}
 use Rattle.chain_params.proofs.PhaseLemmas.{next_place, phases_sound}
@@ -18,7 +17,7 @@ use Rattle.npos_runtime.specs.Ballots.{snapshot_of, commissions_of}
 use Rattle.npos_runtime.specs.Rounds.{is_few, is_poor, round_line, round_now, round_after, round_phase}
 use Rattle.npos_runtime.specs.Deciding.{decision_of, decision_phase}
 use Rattle.npos_runtime.specs.Outcome.{Election, Outcome, quiet}
-use Rattle.npos_runtime.specs.Step.{before_calls, era_phase, calls_outcome, step, after_blocks}
+use Rattle.npos_runtime.specs.Step.{before_calls, era_phase, step, after_blocks}
 use Rattle.npos_runtime.specs.Live.{IsLive, IsBetweenBlocks, CanBeOpen, IsInTime}
 use Rattle.npos_runtime.specs.Seatings.{snapshot_behind, IsSeatedOnce, SeatingsLaw}
 use Rattle.npos_runtime.specs.History.{CanTake}
