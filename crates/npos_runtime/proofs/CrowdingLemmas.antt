@@ -10,7 +10,6 @@ use Rattle.std.proofs.lemmas.List.Elements.{All-nil, All-cons, Contains-append_l
 use Rattle.npos_base.specs.declared.account.AccountId.{AccountId}
 use Rattle.npos_base.specs.declared.figures.Score.{Score}
 use Rattle.block_wire.specs.declared.genesis.Params.{Params}
-use Rattle.block_wire.specs.declared.genesis.Genesis.TheVariants as geneses
 use Rattle.block_wire.specs.declared.call.Call.{Call}
 use Rattle.block_wire.specs.declared.block.Block.{Block}
 use Rattle.submission_queue.specs.declared.submission.Submission.{Submission}
@@ -26,7 +25,6 @@ use Rattle.stake_ledger.specs.Ledger.{Ledger, row_at}
 use Rattle.stake_ledger.specs.declared.refusal.LedgerRefusal.{LedgerRefusal}
 use Rattle.npos_runtime.specs.declared.chain.Chain.{Chain}
 use Rattle.block_receipts.specs.declared.line.Line.{Line}
-use Rattle.block_receipts.specs.declared.line.Line.TheVariants as lines
 use Rattle.block_receipts.specs.declared.refusal.Refusal.{Refusal}
 use Rattle.block_receipts.specs.declared.refusal.Refusal.TheVariants as refusals
 use Rattle.npos_runtime.specs.declared.round.Round.{Round}
@@ -43,15 +41,12 @@ use Rattle.npos_runtime.specs.CallRule.{CallRule}
 use Rattle.npos_runtime.specs.Calls.{rule_for}
 use Rattle.npos_runtime.specs.Step.{before_calls, era_phase, call_after, call_outcome, calls_outcome, closed, step, after_blocks}
 use Rattle.chain_params.specs.Faults.{params_fault}
-use Rattle.npos_runtime.specs.Genesis.{genesis_chain}
 use Rattle.npos_runtime.specs.Live.{IsLive}
 use Rattle.npos_runtime.specs.Offers.{is_offered, offered_to, offer_of, offers_in, offers_by, LosesTo, FillsAfter}
-use Rattle.npos_runtime.specs.Laws.{NoneCrowdedOutLaw}
 use Rattle.round_decision.proofs.DecisionLemmas.{winner_holds, fails_first, holds_first}
 use Rattle.npos_runtime.proofs.RuleLemmas.{IsFixed, LeavesQueue, Submits}
 use Rattle.npos_runtime.proofs.CallTable.{lawful_call}
-use Rattle.npos_runtime.proofs.LiveLemmas.{live_before, due_before, live_call, live_step, live_blocks, due_step, due_calls, params_blocks}
-use Rattle.npos_runtime.proofs.BeginLemmas.{live_begun}
+use Rattle.npos_runtime.proofs.LiveLemmas.{live_before, due_before, live_call, live_step, due_step, due_calls}
 use Rattle.npos_runtime.proofs.LawLemmas.{undecided, decides, told_before, told_first, told_later}
 use Rattle.chain_params.proofs.PhaseLemmas.{next_place, phases_sound}
 

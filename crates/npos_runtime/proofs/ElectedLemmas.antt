@@ -9,7 +9,7 @@ use Rattle.npos_base.specs.declared.account.AccountId.{AccountId}
 use Rattle.npos_base.specs.declared.figures.Edge.{Edge}
 use Rattle.npos_base.specs.Account.{same_account}
 use Rattle.npos_base.proofs.AccountOrder.{same_exact}
-use Rattle.election_snapshot.specs.Snapshot.{Voter, Snapshot, IsWellFormed, has, nobody, stake_of}
+use Rattle.election_snapshot.specs.Snapshot.{Voter, Snapshot, has, nobody, stake_of}
 use Rattle.election_snapshot.specs.Draft.{accounts_of}
 use Rattle.weight_book.specs.Weights.{Weights, Follows, spent}
 use Rattle.era_book.specs.Exposures.{IsSound, AreSound, exposed_for}

@@ -1,6 +1,6 @@
 -- What parts of a step settle: what leaves the queue is settled once, and what joins it takes the
 -- next number.
-use Rattle.std.proofs.Common.{◌≡◌, ℕ, ◌+◌, Bool, true, false, cond, ◌==◌, List, [], ◌∷◌, ◌++◌, map, refl, ap, arith}
+use Rattle.std.proofs.Common.{◌≡◌, ℕ, ◌+◌, cond, ◌==◌, List, [], ◌∷◌, ◌++◌, map, refl, ap, arith}
 use Rattle.std.specs.List.{prefix_len}
 use Rattle.std.proofs.lemmas.List.{take-append-drop}
 use Rattle.std.proofs.lemmas.List.Sums.{sum_by-append, sum_by-cons}
@@ -16,7 +16,7 @@ use Rattle.chain_params.specs.Rules.{reward_of}
 use Rattle.round_decision.specs.Deposits.{returned, return_lines, all_burned}
 use Rattle.round_decision.specs.Decision.{fails, losers, others, forfeit_line, reward_in, paid_lines, seat_line, member_line}
 use Rattle.npos_runtime.specs.Deciding.{committee_of, decided}
-use Rattle.npos_runtime.specs.Fates.{settles, fate, waiting_with, issued}
+use Rattle.npos_runtime.specs.Fates.{fate, waiting_with, issued}
 use Rattle.npos_runtime.proofs.OfficeCallLemmas.{settling, settled_more}
 
 module _ (number : ℕ) where

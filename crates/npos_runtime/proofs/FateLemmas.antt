@@ -11,7 +11,6 @@ use Rattle.npos_base.specs.declared.figures.Score.{Score}
 use Rattle.submission_queue.specs.declared.submission.Submission.{Submission}
 use Rattle.submission_queue.specs.Ranking.{offered}
 use Rattle.npos_runtime.specs.declared.chain.Chain.{Chain}
-use Rattle.block_receipts.specs.declared.line.Line.{Line}
 use Rattle.block_receipts.specs.declared.line.Line.TheVariants as lines
 use Rattle.block_receipts.specs.declared.refusal.Refusal.{Refusal}
 use Rattle.round_decision.specs.Deposits.{return_lines}
@@ -29,7 +28,7 @@ use Rattle.npos_runtime.proofs.OfferLemmas.{taken}
 use Rattle.npos_runtime.proofs.PartLemmas.{second_none}
 use Rattle.npos_runtime.proofs.RuleLemmas.{LeavesQueue, Submits}
 use Rattle.npos_runtime.proofs.SubmitCallLemmas.{offer_free}
-use Rattle.npos_runtime.proofs.OfficeCallLemmas.{settling, settled_more}
+use Rattle.npos_runtime.proofs.OfficeCallLemmas.{settled_more}
 use Rattle.npos_runtime.proofs.CallTable.{lawful_call}
 use Rattle.npos_runtime.proofs.FairLemmas.{numbered, IsFair, fair_then, fair_quiet, waiting_more, returns_settle}
 use Rattle.npos_runtime.proofs.PhaseTable.{phases_keep, fair_in_turn}

@@ -6,7 +6,6 @@ use Rattle.std.proofs.lemmas.List.Elements.{All-nil, All-cons, All-append, Conta
 use Rattle.block_wire.specs.declared.genesis.Params.{Params}
 use Rattle.block_wire.specs.declared.call.Call.{Call}
 use Rattle.block_wire.specs.declared.block.Block.{Block}
-use Rattle.election_snapshot.specs.Snapshot.{Snapshot}
 use Rattle.weight_book.specs.Proportional.{AveragingLaw}
 use Rattle.election_check.specs.Laws.{PackedYesIsAccepting, PlainYesIsPassing}
 use Rattle.quota_fill.specs.Laws.{EveryFillPasses}

@@ -1,5 +1,5 @@
 -- Points, payouts and offences: their rules are lawful.
-use Rattle.std.proofs.Common.{◌≡◌, inl, ℕ, zero, ◌+◌, ◌≤◌, Bool, true, false, cond, not, nat_lt, nat_eq, ◌==◌, List, [], ◌∷◌, ◌++◌, map, sum_by, Option, Some, None, option_map, refl, sym, ◌∙◌, ap, subst, arith, if◌then◌else◌}
+use Rattle.std.proofs.Common.{◌≡◌, inl, ℕ, ◌+◌, ◌≤◌, Bool, true, false, cond, not, nat_lt, nat_eq, ◌==◌, List, [], ◌∷◌, map, sum_by, Option, Some, None, option_map, refl, sym, ◌∙◌, ap, subst, arith, if◌then◌else◌}
 use Rattle.std.proofs.lemmas.Bool.{ltb-false}
 use Rattle.std.proofs.lemmas.List.Sums.{sum_by-append, sum_by-cons}
 use Rattle.npos_base.specs.declared.account.AccountId.{AccountId}

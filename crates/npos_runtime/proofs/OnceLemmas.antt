@@ -10,7 +10,7 @@ use Rattle.chain_params.proofs.PhaseLemmas.{next_place, first_next, phases_sound
 use Rattle.npos_runtime.specs.declared.chain.Chain.{Chain}
 use Rattle.npos_runtime.specs.declared.round.Round.{Round}
 use Rattle.npos_runtime.specs.declared.round.Round.TheVariants as rounds
-use Rattle.npos_runtime.specs.Deciding.{decision_of, decision_phase}
+use Rattle.npos_runtime.specs.Deciding.{decision_of}
 use Rattle.npos_runtime.specs.Outcome.{Election, Outcome, quiet}
 use Rattle.npos_runtime.specs.Step.{step, seated_by}
 use Rattle.npos_runtime.specs.Live.{IsBetweenBlocks, IsInTime}

@@ -1,9 +1,7 @@
 -- The phases of a block: what each of them keeps. All laws over a step rest on this table.
-use Rattle.std.proofs.Common.{◌≡◌, ℕ, ◌+◌, Bool, true, false, List, [], ◌∷◌, ◌++◌, Option, Some, None, option_map, option_to_list, refl, ◌∙◌, arith, if◌then◌else◌}
+use Rattle.std.proofs.Common.{◌≡◌, ℕ, Bool, true, false, List, [], ◌∷◌, Option, Some, None, option_map, option_to_list, refl, ◌∙◌, arith, if◌then◌else◌}
 use Rattle.std.specs.List.{AllByRecursion}
 use Rattle.election_snapshot.specs.Snapshot.{Snapshot}
-use Rattle.era_book.specs.Eras.{Eras}
-use Rattle.block_receipts.specs.declared.line.Line.{Line}
 use Rattle.block_receipts.specs.declared.line.Line.TheVariants as lines
 use Rattle.chain_params.specs.Rules.{begun_round, begun_era, reward_of, is_decision}
 use Rattle.npos_runtime.specs.declared.chain.Chain.{Chain}

@@ -4,7 +4,7 @@ use Rattle.std.proofs.Common.{◌≡◌, ◌⊎◌, inl, ℕ, ◌+◌, ◌≤◌
 use Rattle.npos_base.specs.declared.account.AccountId.{AccountId}
 use Rattle.npos_base.specs.declared.figures.Score.{Score}
 use Rattle.submission_queue.specs.declared.submission.Submission.{Submission}
-use Rattle.era_book.specs.Events.{Event, AreAccepted, after_all, given_by, pays, makes_due, begun}
+use Rattle.era_book.specs.Events.{AreAccepted, after_all, given_by, pays, makes_due, begun}
 use Rattle.npos_runtime.specs.declared.chain.Chain.{Chain}
 use Rattle.block_receipts.specs.declared.line.Line.{Line}
 use Rattle.block_receipts.specs.declared.line.Line.TheVariants as lines

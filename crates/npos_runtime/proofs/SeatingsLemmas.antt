@@ -1,13 +1,12 @@
 -- A round that begins stands until its decision, and is decided then.
-use Rattle.std.proofs.Common.{◌≡◌, ◌⊎◌, inl, inr, ℕ, ◌+◌, ◌≤◌, ◌<◌, ◌^◌, Bool, true, false, ◌==◌, ◌||◌, Contains, List, [], ◌∷◌, ◌++◌, length, Option, Some, None, option_map, option_to_list, refl, sym, ◌∙◌, ap, subst, arith, if◌then◌else◌, true≢false}
+use Rattle.std.proofs.Common.{◌≡◌, ◌⊎◌, inl, inr, ℕ, ◌+◌, ◌≤◌, ◌<◌, Bool, true, false, ◌==◌, ◌||◌, All, Contains, List, [], ◌∷◌, ◌++◌, length, Option, Some, None, option_map, option_to_list, refl, sym, ◌∙◌, ap, subst, arith, if◌then◌else◌}
 use Rattle.std.proofs.lemmas.Bool.Decides.{nat_tests}
 use Rattle.std.proofs.lemmas.List.{length-append}
-use Rattle.std.proofs.lemmas.List.Elements.{Contains-append_left, Contains-append_right}
+use Rattle.std.proofs.lemmas.List.Elements.{All-nil, All-cons}
 use Rattle.block_wire.specs.declared.genesis.Params.{Params}
 use Rattle.block_wire.specs.declared.block.Block.{Block}
 use Rattle.election_snapshot.specs.Snapshot.{Snapshot}
 use Rattle.block_receipts.specs.declared.line.Line.{Line}
-use Rattle.block_receipts.specs.declared.line.Line.TheVariants as lines
 use Rattle.chain_params.specs.Rules.{era_of, place_of, begun_round, signed_of, is_decision}
 use Rattle.chain_params.specs.Faults.{params_fault, AreSound}
 use Rattle.chain_params.proofs.PhaseLemmas.{next_place, phases_sound}
@@ -17,12 +16,14 @@ use Rattle.npos_runtime.specs.declared.round.Round.TheVariants as rounds
 use Rattle.npos_runtime.specs.Ballots.{snapshot_of, commissions_of}
 use Rattle.npos_runtime.specs.Rounds.{is_few, is_poor, round_line, round_now, round_after, round_phase}
 use Rattle.npos_runtime.specs.Deciding.{decision_of, decision_phase}
-use Rattle.npos_runtime.specs.Outcome.{Outcome, quiet}
-use Rattle.npos_runtime.specs.Step.{before_calls, era_phase, calls_outcome, step, after_blocks}
-use Rattle.npos_runtime.specs.Live.{IsLive}
+use Rattle.npos_runtime.specs.Outcome.{Election, Outcome, quiet}
+use Rattle.npos_runtime.specs.Step.{before_calls, era_phase, step, after_blocks}
+use Rattle.npos_runtime.specs.Live.{IsLive, IsBetweenBlocks, CanBeOpen, IsInTime}
 use Rattle.npos_runtime.specs.Seatings.{snapshot_behind, IsSeatedOnce, SeatingsLaw}
+use Rattle.npos_runtime.specs.History.{CanTake}
 use Rattle.npos_runtime.proofs.LiveLemmas.{live_blocks, due_step, fixed_calls, params_blocks}
 use Rattle.npos_runtime.proofs.LawLemmas.{undecided, seats_step, decides, told_before, told_first, told_later}
+use Rattle.npos_runtime.proofs.TimeLemmas.{between_blocks}
 use Rattle.npos_runtime.proofs.DepositsLemmas.{after_append, due_blocks}
 
 -- where no decision is due, a block leaves the round that stands once one may have begun
@@ -119,8 +120,10 @@ seated_by_round : (chain : Chain) (last : Block) (round : Option Round) → IsLi
     → (step chain last).seated ≡ (decision_of round (undecided chain)).seated
 seated_by_round chain last round live is stood = seats_step chain last ∙ ap (λ (o : Outcome). o.seated) (decides chain round live is stood)
 
-pub seatings_law : SeatingsLaw
-seatings_law chain blocks can before between more first last round parts begins signed = at chain.params refl where
+ends : (chain : Chain) (blocks : List Block) → CanTake chain blocks → (before between more : List Block) (first last : Block) (round : ℕ)
+    → blocks ≡ before ++ first ∷ (between ++ last ∷ more) → begun_round chain.params (after_blocks chain before).due ≡ Some round
+    → 1 + length between ≡ signed_of chain.params → IsSeatedOnce chain before first between last round
+ends chain blocks can before between more first last round parts begins signed = at chain.params refl where
   start : Chain
   start = after_blocks chain before
 
@@ -185,3 +188,42 @@ seatings_law chain blocks can before between more first last round parts begins 
         neither : is_few (snapshot_behind chain before) ≡ false → is_poor (snapshot_behind chain before) ≡ false
             → (is_few (snapshot_behind chain before) || is_poor (snapshot_behind chain before)) ≡ false
         neither enough rich = (λ i. enough i || rich i)
+
+-- ## No other block seats anybody
+
+-- what the block of a decision seats
+abbrev SeatsFor : Chain → Election → Type 0
+SeatsFor chain election = (is_decision chain.params chain.due ≡ true) × (election.round ≡ era_of chain.params chain.due + 1)
+
+seats_for : (round : Option Round) (chain other : Chain) → IsInTime round chain.params chain.due chain.queue.items
+    → is_decision chain.params chain.due ≡ true → All (SeatsFor chain) (decision_of round other).seated
+seats_for None chain other time is = All-nil (SeatsFor chain)
+seats_for (Some (rounds.Void number)) chain other time is = All-nil (SeatsFor chain)
+seats_for (Some (rounds.Open number snapshot commissions)) chain other time is =
+    All-cons (SeatsFor chain) _ [] (is, at chain.params time) (All-nil (SeatsFor chain)) where
+      at : (params : Option Params) → CanBeOpen params chain.due number → number ≡ era_of params chain.due + 1
+      at None time = absurd time
+      at (Some params) time = time.number_is
+
+own_round : (chain : Chain) (block : Block) → IsBetweenBlocks chain → All (SeatsFor chain) (step chain block).seated
+own_round chain block rests = at (is_decision chain.params chain.due) refl where
+  at : (b : Bool) → is_decision chain.params chain.due ≡ b → All (SeatsFor chain) (step chain block).seated
+  at true is =
+      subst (All (SeatsFor chain)) (sym (seated_by_round chain block chain.round rests.live is refl))
+      (seats_for chain.round chain (undecided chain) rests.timely is)
+  at false is =
+      let nobody : (step chain block).seated ≡ [] =
+      seats_step chain block
+      ∙ ap (λ b. (if b then decision_of (undecided chain).round (undecided chain) else quiet (undecided chain)).seated) is in
+      subst (All (SeatsFor chain)) (sym nobody) (All-nil (SeatsFor chain))
+
+pub seatings_law : SeatingsLaw
+seatings_law chain blocks can = record {
+  decided = ends chain blocks can;
+  elsewhere = λ before more block parts.
+      let lengths = ap length parts ∙ length-append before (block ∷ more) in
+      let rests = between_blocks chain before can.between (omega (arith, lengths, can.fit)) in
+      subst (λ (params : Option Params). All (λ election. (is_decision params (after_blocks chain before).due ≡ true)
+      × (election.round ≡ era_of params (after_blocks chain before).due + 1)) (step (after_blocks chain before) block).seated)
+      (params_blocks chain before) (own_round (after_blocks chain before) block rests);
+}

@@ -10,9 +10,9 @@ use Rattle.election_check.specs.Laws.{PackedYesIsAccepting, PlainYesIsPassing}
 use Rattle.quota_fill.specs.Laws.{EveryFillPasses}
 use Rattle.era_book.specs.declared.exposure.Exposure.{Exposure}
 use Rattle.era_book.specs.Exposures.{exposed_for}
-use Rattle.era_book.specs.Eras.{Eras, first_era}
-use Rattle.era_book.specs.Events.{Event, AreAccepted, after_all, begun}
-use Rattle.era_book.proofs.EventLemmas.{accepted_append, after_append, begun_append}
+use Rattle.era_book.specs.Eras.{Eras}
+use Rattle.era_book.specs.Events.{Event, begun}
+use Rattle.era_book.proofs.EventLemmas.{begun_append}
 use Rattle.npos_runtime.specs.declared.chain.Chain.{Chain}
 use Rattle.npos_runtime.specs.Committee.{Committee}
 use Rattle.npos_runtime.specs.Exposed.{exposed}
@@ -25,8 +25,8 @@ use Rattle.npos_runtime.specs.Live.{IsLive}
 use Rattle.npos_runtime.specs.EraLaws.{started_by, events_in, events_by, elected_for, stake_behind}
 use Rattle.npos_runtime.proofs.LiveLemmas.{live_step, due_step, era_step, fixed_calls, eras_before, params_step}
 use Rattle.npos_runtime.proofs.LawLemmas.{undecided, seats_step}
-use Rattle.npos_runtime.proofs.HistoryLemmas.{accepted_block, eras_block, begun_block}
-use Rattle.npos_runtime.proofs.SeatedLemmas.{IsBetween, seated_step, waiting_sound, waiting_within}
+use Rattle.npos_runtime.proofs.HistoryLemmas.{begun_block}
+use Rattle.npos_runtime.proofs.SeatedLemmas.{IsBetween, seated_step, waiting_within}
 
 -- ## What is exposed in each era
 

@@ -1,7 +1,6 @@
 -- Who waits was elected by the round that was decided.
-use Rattle.std.proofs.Common.{Bool, true, false, List, ℕ, Option, Some, None, ap, sym, subst, if◌then◌else◌}
+use Rattle.std.proofs.Common.{Bool, true, false, ℕ, Option, Some, None, ap, sym, subst, if◌then◌else◌}
 use Rattle.block_wire.specs.declared.block.Block.{Block}
-use Rattle.election_snapshot.specs.Snapshot.{Snapshot}
 use Rattle.election_check.specs.First.{or_yes}
 use Rattle.election_check.specs.Laws.{PackedYesIsAccepting, PlainYesIsPassing}
 use Rattle.election_check.proofs.FaultLemmas.{plain_yes}
@@ -14,11 +13,10 @@ use Rattle.chain_params.specs.Rules.{begun_era, is_decision}
 use Rattle.npos_runtime.specs.declared.chain.Chain.{Chain}
 use Rattle.npos_runtime.specs.declared.round.Round.{Round}
 use Rattle.npos_runtime.specs.declared.round.Round.TheVariants as rounds
-use Rattle.npos_runtime.specs.Committee.{Committee}
-use Rattle.npos_runtime.specs.Deciding.{committee_of, decision_of, decision_phase}
+use Rattle.npos_runtime.specs.Deciding.{decision_of, decision_phase}
 use Rattle.npos_runtime.specs.Outcome.{quiet}
 use Rattle.npos_runtime.specs.Step.{before_calls, waiting_after, era_phase, step}
-use Rattle.npos_runtime.specs.Live.{IsLive, IsSoundRound, IsElected, WasElected}
+use Rattle.npos_runtime.specs.Live.{IsLive, IsSoundRound, WasElected}
 use Rattle.npos_runtime.proofs.ElectedLemmas.{follows_rising}
 use Rattle.npos_runtime.proofs.LawLemmas.{undecided}
 use Rattle.npos_runtime.proofs.LiveLemmas.{fixed_calls}

@@ -9,7 +9,6 @@ use Rattle.stake_ledger.specs.Ledger.{row_at}
 use Rattle.voter_lists.specs.Roles.{role_of, nominate_refusal, nominated, validate_refusal, validating, chill_refusal, without_role}
 use Rattle.voter_lists.specs.Bags.{removed, moved, rebag_refusal, put_in_front, put_in_front_refusal}
 use Rattle.npos_runtime.specs.declared.chain.Chain.{Chain}
-use Rattle.block_receipts.specs.declared.refusal.Refusal.{Refusal}
 use Rattle.block_receipts.specs.declared.refusal.Refusal.TheVariants.{Ledger as ByLedger, List as ByList}
 use Rattle.chain_params.specs.Rules.{least_bond_of}
 use Rattle.npos_runtime.specs.Ballots.{active_of}

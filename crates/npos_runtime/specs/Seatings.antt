@@ -1,9 +1,9 @@
 -- What becomes of a round over blocks: from the block that takes its snapshot to the one that decides it.
-use Rattle.std.specs.Prelude.{◌≡◌, ℕ, ◌+◌, true, false, ◌||◌, Contains, List, [], ◌∷◌, ◌++◌, length, Some}
+use Rattle.std.specs.Prelude.{◌≡◌, ℕ, ◌+◌, true, false, ◌||◌, All, Contains, List, [], ◌∷◌, ◌++◌, length, Some}
 use Rattle.block_wire.specs.declared.block.Block.{Block}
 use Rattle.election_snapshot.specs.Snapshot.{Snapshot}
 use Rattle.round_decision.specs.Decision.{others, decided_weights}
-use Rattle.chain_params.specs.Rules.{begun_round, signed_of, is_decision}
+use Rattle.chain_params.specs.Rules.{era_of, begun_round, signed_of, is_decision}
 use Rattle.npos_runtime.specs.declared.chain.Chain.{Chain}
 use Rattle.npos_runtime.specs.Ballots.{snapshot_of}
 use Rattle.npos_runtime.specs.Rounds.{is_few, is_poor, round_line}
@@ -32,14 +32,19 @@ pub record IsSeatedOnce (chain : Chain) (before : List Block) (first : Block) (b
   pub void : (is_few (snapshot_behind chain before) || is_poor (snapshot_behind chain before)) ≡ true
       → (step (after_blocks chain (before ++ first ∷ between)) last).seated ≡ []
 
--- The first of these blocks takes the snapshot of a round, and the last is the one of its decision: as
--- many blocks later as submissions are taken.
-abbrev pub SeatsHold : Chain → List Block → Type 0
-SeatsHold chain blocks = (before between more : List Block) (first last : Block) (round : ℕ)
-    → blocks ≡ before ++ first ∷ (between ++ last ∷ more)
-    → begun_round chain.params (after_blocks chain before).due ≡ Some round
-    → 1 + length between ≡ signed_of chain.params
-    → IsSeatedOnce chain before first between last round
+pub record SeatsHold (chain : Chain) (blocks : List Block) : Type 0 where
+  -- Where the first of these blocks takes the snapshot of a round, the last is the one of its decision:
+  -- as many blocks later as submissions are taken.
+  pub decided : (before between more : List Block) (first last : Block) (round : ℕ)
+      → blocks ≡ before ++ first ∷ (between ++ last ∷ more)
+      → begun_round chain.params (after_blocks chain before).due ≡ Some round
+      → 1 + length between ≡ signed_of chain.params
+      → IsSeatedOnce chain before first between last round
+  -- the block of a decision alone seats a committee, and for the next era
+  pub elsewhere : (before more : List Block) (block : Block) → blocks ≡ before ++ block ∷ more
+      → All (λ election. (is_decision chain.params (after_blocks chain before).due ≡ true)
+      × (election.round ≡ era_of chain.params (after_blocks chain before).due + 1))
+      (step (after_blocks chain before) block).seated
 
 abbrev pub SeatingsLaw : Type 0
 SeatingsLaw = (chain : Chain) (blocks : List Block) → CanTake chain blocks → SeatsHold chain blocks

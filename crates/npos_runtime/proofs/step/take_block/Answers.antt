@@ -6,7 +6,6 @@ use Rattle.npos_runtime.specs.Deciding.{decision_phase}
 use Rattle.block_wire.specs.declared.block.Block.{Block}
 use Rattle.npos_runtime.specs.Live.{IsLive, IsBetweenBlocks}
 use Rattle.npos_runtime.proofs.TimeLemmas.{between_step}
-use Rattle.chain_params.specs.Rules.{era_of}
 use Rattle.chain_params.proofs.PhaseLemmas.{era_within}
 use Rattle.npos_runtime.proofs.PhaseTable.{live_era, live_round}
 use Rattle.npos_runtime.proofs.LiveLemmas.{live_before, due_before, next_before, due_calls, next_calls}
