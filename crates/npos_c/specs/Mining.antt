@@ -7,7 +7,6 @@ use Rattle.weight_book.specs.Weights.{Weights}
 use Rattle.weight_book.specs.Scoring.{score_of}
 use Rattle.compact_solution.specs.Solution.{Entry, solution_form}
 use Rattle.election_check.specs.declared.verdict.Verdict.{Verdict}
-use Rattle.election_check.specs.declared.verdict.Verdict.TheVariants as verdicts
 use Rattle.election_check.specs.Plain.{verdict_plain}
 use Rattle.election_check.specs.Packed.{expanded, verdict_packed}
 use Rattle.election_check.specs.Laws.{packed_of}
@@ -24,7 +23,7 @@ use Rattle.npos_c.specs.declared.mined.Mined.{Mined}
 use Rattle.npos_c.specs.declared.mined.Mining.{Mining}
 use Rattle.npos_c.specs.declared.mined.Mining.TheVariants.{Done, Refused}
 use Rattle.npos_c.specs.declared.mined.NposMined.{NposMined}
-use Rattle.npos_c.specs.declared.numbers.TheConstants.{UNKNOWN, NO_MEMORY, SMALL}
+use Rattle.npos_c.specs.declared.numbers.TheConstants.{DONE, UNKNOWN, NO_MEMORY, SMALL}
 use Rattle.npos_c.specs.Buffers.{over}
 use Rattle.npos_c.specs.Findings.{reported, told_as}
 use Rattle.npos_c.specs.Answers.{answer_of, IsLeft}
@@ -130,11 +129,15 @@ handed (Ok outcome) old =
     else hand_of (over outcome.members old.committee) (over outcome.bytes old.bytes) (told_outcome outcome)
 handed (Err finding) old = hand_of old.committee old.bytes (told_finding finding)
 
+abbrev pub due_answer : Result Outcome Finding → ℕ
+due_answer (Ok outcome) = answer_of (Judged outcome.verdict)
+due_answer (Err finding) = answer_of finding
+
 abbrev pub hand_answer : Result Outcome Finding → Hand → ℕ
 hand_answer (Ok outcome) old =
     if nat_lt (length old.committee) (length outcome.members) || nat_lt (length old.bytes) (length outcome.bytes)
-    then SMALL else answer_of (Judged outcome.verdict)
-hand_answer (Err finding) old = answer_of finding
+    then SMALL else due_answer (Ok outcome)
+hand_answer (Err finding) old = due_answer (Err finding)
 
 -- memory was refused, or what the miner makes of the bytes is handed out; for numbers of no miner nothing is
 abbrev pub IsHandedFor : Option Miner → List ℕ → Hand → Hand → ℕ → Type 0
@@ -146,9 +149,9 @@ IsHandedFor (Some miner) bytes old new answer =
 
 -- ## A Yes
 
+-- what is answered as done has a Yes
 abbrev pub IsYes : Result Outcome Finding → Type 0
-IsYes (Ok outcome) = outcome.verdict ≡ verdicts.Yes
-IsYes (Err finding) = ⊥
+IsYes due = due_answer due ≡ DONE
 
 abbrev pub IsSoundFor : Option Miner → List ℕ → Type 0
 IsSoundFor None bytes = ⊥
