@@ -1,5 +1,5 @@
 -- Every committee that a replay seats is sound, since every block of a live chain seats none but sound ones.
-use Rattle.std.proofs.Common.{ℕ, List, [], ◌∷◌, All, Option, Some, None, IfSome, refl, sym, subst, arith}
+use Rattle.std.proofs.Common.{ℕ, List, [], ◌∷◌, All, Option, Some, None, IfSome, sym, subst, arith}
 use Rattle.std.proofs.lemmas.List.Elements.{All-append}
 use Rattle.block_wire.specs.declared.block.Block.{Block}
 use Rattle.npos_runtime.specs.declared.chain.Chain.{Chain}
