@@ -1,4 +1,4 @@
-use Rattle.std.proofs.Common.{rules, ◌+◌, ◌≤◌, length}
+use Rattle.std.proofs.Common.{rules, ◌+◌}
 use Rattle.npos_cli.proofs.EdgeLaws.{takes_more}
 use Rattle.npos_cli.proofs.input.read_up_to.Goals as goal
 
