@@ -5,8 +5,8 @@ ghost use Rattle.std.specs.Prelude.{◌≡◌, map, IfOk, IfErr, string_bytes};
 ghost use Rattle.std.specs.Process.{exit_status};
 ghost use Rattle.npos_cli.specs.declared.status.Status.{Status};
 ghost use Rattle.npos_cli.specs.Status.{number_of};
-ghost use Rattle.npos_cli.specs.Report.{IsAnswer};
-ghost use Rattle.npos_cli.specs.Owed.{Answers};
+ghost use Rattle.npos_cli.specs.Ran.{traffic};
+ghost use Rattle.npos_cli.specs.Says.{Says};
 
 use npos_base::{Sink, Source, StdinSource, StdoutSink};
 use npos_cli::{Status, run};
@@ -36,7 +36,8 @@ fn words(rt: &HostRuntime) -> Result<Vec<String>, u8> {
     Ok(words)
 }
 
-/// Runs the program over its words and ends with the number of its status. Where there are no words
+/// Runs the program over its words and ends with the number of its status, of which all holds that
+/// `run` says. Where there are no words
 /// it ends with the status that says why, and reads and writes nothing.
 fn finish<S: Source, K: Sink>(
     alloc: Global,
@@ -44,10 +45,11 @@ fn finish<S: Source, K: Sink>(
     source: &mut S,
     sink: &mut K,
 ) -> ExitCode
-    ensures answers { IfOk words (λ words. (status : Status)
+    ensures says { IfOk words (λ words. (status : Status)
         × (exit_status result ≡ number_of status)
-        × (IsAnswer status → Answers (map string_bytes words.items) (S.left source.old)
-        (K.told sink.old) (K.told sink.new) status)) }
+        × Says (map string_bytes words.items) (traffic S.left K.told S.faults K.faults
+        source.old source.new sink.old sink.new) (source.new ≡ source.old) (sink.new ≡ sink.old)
+        status) }
     ensures no_words { IfErr words (λ number. (exit_status result ≡ number)
         × (source.new ≡ source.old) × (sink.new ≡ sink.old)) }
 {

@@ -1,6 +1,6 @@
 -- From what a run comes to, to what is said of its status.
-use Rattle.std.proofs.Common.{◌≡◌, ◌≢◌, ◌⊎◌, inl, inr, ◌<◌, ℕ, List, Option, Some, Result, Ok, Err, IfErr, IfSome, refl, sym, subst, arith}
-use Rattle.npos_base.specs.Outside.{Told, Rose}
+use Rattle.std.proofs.Common.{◌≡◌, ◌≢◌, ◌⊎◌, inl, inr, ◌<◌, Option, Some, Result, Ok, Err, IfErr, IfSome, refl, subst, arith}
+use Rattle.npos_base.specs.Outside.{Rose}
 use Rattle.npos_cli.specs.declared.job.Job.{Job}
 use Rattle.npos_cli.specs.declared.job.Job.TheVariants as jobs
 use Rattle.bundle_reports.specs.declared.asked.Task.{Task}

@@ -134,26 +134,26 @@ demo_ends text old new (Err halts.ReadFault) ends = absurd ends
 demo_ends text old new (Err halts.NoMemory) ends = absurd ends
 
 module _ (seed voters seats : ℕ) (t : Traffic) where
-  asked : Option Job
-  asked = Some (jobs.Demo seed voters seats)
+  abbrev pub demo_job : Option Job
+  demo_job = Some (jobs.Demo seed voters seats)
 
-  line : List ℕ
-  line = (demo_report seed voters seats).text
+  abbrev pub demo_line : List ℕ
+  demo_line = (demo_report seed voters seats).text
 
-  owed : FindsFor asked t.left line statuses.Done
-  owed = found_unread asked t.left line statuses.Done (λ bytes. record { text_is = refl; status_is = refl })
+  owed : FindsFor demo_job t.left demo_line statuses.Done
+  owed = found_unread demo_job t.left demo_line statuses.Done (λ bytes. record { text_is = refl; status_is = refl })
 
-  at_end : AtEnd asked t
+  at_end : AtEnd demo_job t
   at_end = record { other = λ e. cc; few = λ reads. absurd reads }
 
-  pub demo_ran : (result : Result Status Halt) → DemoEnds line t.told t.told_now result → t.read_faults_now ≡ t.read_faults
-      → Counts halts.WriteFault t.write_faults t.write_faults_now result → Ran asked t result
+  pub demo_ran : (result : Result Status Halt) → DemoEnds demo_line t.told t.told_now result → t.read_faults_now ≡ t.read_faults
+      → Counts halts.WriteFault t.write_faults t.write_faults_now result → Ran demo_job t result
   demo_ran (Ok status) ends no_read write_faults =
-      ended_ran asked t at_end line statuses.Done (Ok status) owed ends no_read write_faults (λ judged reads. absurd reads) (λ task e. cc) (λ e. cc)
+      ended_ran demo_job t at_end demo_line statuses.Done (Ok status) owed ends no_read write_faults (λ judged reads. absurd reads) (λ task e. cc) (λ e. cc)
   demo_ran (Err halts.WriteFault) ends no_read write_faults =
-      cut_ran asked t at_end halts.WriteFault (front_found asked t.left t.told t.told_now line statuses.Done owed ends.0) ends.1 (λ e. cc) no_read write_faults
+      cut_ran demo_job t at_end halts.WriteFault (front_found demo_job t.left t.told t.told_now demo_line statuses.Done owed ends.0) ends.1 (λ e. cc) no_read write_faults
   demo_ran (Err halts.NoMemory) ends no_read write_faults =
-      cut_ran asked t at_end halts.NoMemory (front_found asked t.left t.told t.told_now line statuses.Done owed ends.0) ends.1 (λ e. cc) no_read write_faults
+      cut_ran demo_job t at_end halts.NoMemory (front_found demo_job t.left t.told t.told_now demo_line statuses.Done owed ends.0) ends.1 (λ e. cc) no_read write_faults
   demo_ran (Err halts.ReadFault) ends no_read write_faults = absurd ends
 
 -- ## A replay

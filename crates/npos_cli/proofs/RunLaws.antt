@@ -1,5 +1,5 @@
 -- From what a run owes and what was delivered to the clauses of `run`.
-use Rattle.std.proofs.Common.{◌≡◌, ◌≢◌, inl, inr, ℕ, ◌+◌, ◌≤◌, List, [], ◌++◌, length, Option, Some, None, IfSome, refl, sym, ◌∙◌, ap, subst, arith, length-append}
+use Rattle.std.proofs.Common.{◌≡◌, ◌≢◌, inl, inr, ℕ, ◌≤◌, List, [], ◌++◌, length, Option, Some, None, IfSome, refl, sym, ◌∙◌, ap, subst, arith, length-append}
 use Rattle.std.proofs.lemmas.List.{take_all, append-nil}
 use Rattle.std.proofs.lemmas.Bool.{cases_lt}
 use Rattle.npos_base.specs.Outside.{Told}
@@ -18,12 +18,11 @@ use Rattle.npos_runtime.specs.declared.chain.Chain.{Chain}
 use Rattle.npos_runtime.specs.Outcome.{Election}
 use Rattle.npos_cli.specs.Chain.{npos_machine}
 use Rattle.bundle_reports.specs.declared.asked.Task.{Task}
-use Rattle.bundle_reports.specs.Bundles.{Report, faulty}
-use Rattle.bundle_reports.specs.Verdicts.{long_line}
+use Rattle.bundle_reports.specs.Bundles.{Report}
 use Rattle.bundle_reports.specs.Demo.{demo_report}
 use Rattle.bundle_reports.specs.Rewriting.{rewrite_report}
 use Rattle.bundle_reports.specs.Tasks.{IsBundleReport, IsSound}
-use Rattle.npos_cli.specs.Owed.{ReadsUpTo, TakesAtMost, IsDrained, Delivers, DeliversFront, FindsFor, BeginsFor}
+use Rattle.npos_cli.specs.Owed.{ReadsUpTo, IsDrained, Delivers, DeliversFront, FindsFor, BeginsFor}
 use Rattle.std.specs.Prelude.{option_map}
 use Rattle.npos_words.specs.declared.command.Command.{Command}
 use Rattle.npos_words.specs.declared.command.Command.TheVariants as commands
@@ -156,9 +155,6 @@ bundle_within task bytes report is judged = elim (cases_lt 16777216 (length byte
 pub bundle_drained : (task : Task) (old now : Option (List ℕ)) (bytes : List ℕ) (report : Report) → ReadsUpTo 16777216 old now bytes
     → IsBundleReport task bytes report → IsJudged (status_of report.ending) → IsDrained old now
 bundle_drained task old now bytes report reads is judged = reads.ended (bundle_within task bytes report is judged)
-
-pub bundle_few : (old now : Option (List ℕ)) (bytes : List ℕ) → ReadsUpTo 16777216 old now bytes → TakesAtMost (16777217) old now
-bundle_few old now bytes reads = (bytes, reads.taken, reads.few)
 
 -- a run is done where its report is, and answers No where that is one
 pub is_done : (ending : Ending) → status_of ending ≡ statuses.Done → ending ≡ endings.Done

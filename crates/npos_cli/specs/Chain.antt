@@ -15,13 +15,13 @@ use Rattle.npos_runtime.specs.Genesis.{genesis_fault, genesis_chain}
 use Rattle.chain_params.specs.Faults.{fault_numbers}
 use Rattle.npos_runtime.specs.Step.{step}
 use Rattle.npos_base.specs.declared.account.AccountId.{AccountId}
-use Rattle.told_lines.specs.Texts.{newline, account_text}
+use Rattle.told_lines.specs.Texts.{newline, account_text, amount_text}
 use Rattle.bundle_reports.specs.Verdicts.{member_line, verdict_line}
 use Rattle.npos_cli.specs.Replay.{Machine}
 
 -- an account and an amount behind some words
 abbrev pub amount_line : List ℕ → AccountId → ℕ → List ℕ
-amount_line words who amount = words ++ (account_text who ++ (codes " " ++ (decimal amount ++ newline)))
+amount_line words who amount = words ++ (account_text who ++ amount_text amount)
 
 abbrev pub line_text : Line → List ℕ
 line_text (lines.Block number) = codes "block " ++ (decimal number ++ newline)

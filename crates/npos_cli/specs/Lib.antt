@@ -15,3 +15,4 @@ pub mod Laws
 pub mod Crowding
 pub mod Eras
 pub mod Streams
+pub mod Says

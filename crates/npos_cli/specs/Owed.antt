@@ -114,9 +114,6 @@ FindsReplay m old now text faulty =
 abbrev pub FindsFor : Option Job → Option (List ℕ) → List ℕ → Status → Type 0
 FindsFor job left text status = (bytes : List ℕ) × IsAll left bytes × JobOwes job bytes text status
 
-abbrev pub Finds : List (List ℕ) → Option (List ℕ) → List ℕ → Status → Type 0
-Finds words = FindsFor (job_of words)
-
 -- what is owed was delivered whole
 abbrev pub AnswersFor : Option Job → Option (List ℕ) → Option Told → Option Told → Status → Type 0
 AnswersFor job left old new status = (text : List ℕ) × FindsFor job left text status × Delivers old new text

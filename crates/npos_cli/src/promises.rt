@@ -13,12 +13,11 @@ use npos_base::{Sink, Source};
 use std::alloc::Global;
 use std::string::String;
 
-/// Runs the program, and promises of a replay whose source and sink tell their bytes: where neither
+/// Runs the program, and promises of a replay, as `run` does, whose source and sink tell their bytes: where neither
 /// failed and memory was not refused, exactly the replay of what was read was written; every
 /// committee in it has a member for each seat, follows nominations, spends no voter beyond its
 /// stake, and has at least r members among the nominees of each group that holds the stake of r
 /// seats and agrees on r targets; and all holdings equal genesis plus minted less burned.
-#[tactic(auto, using(crate::proofs::PromiseLaws::promised))]
 pub fn run_as_promised<S: Source, K: Sink>(
     alloc: Global,
     words: &[String],

@@ -165,8 +165,7 @@ fn tell_amount(
         &[
             Piece::Words(words),
             Piece::Account(who),
-            Piece::Detail(u128::from(amount)),
-            Piece::Words("\n"),
+            Piece::Amount(amount),
         ],
     )
 }

@@ -11,7 +11,7 @@ ghost use Rattle.npos_cli.specs.Words.{job_of, KeepsBounds};
 ghost use Rattle.bundle_reports.specs.Rounds.{TaskHasRounds};
 ghost use Rattle.npos_cli.specs.Report.{ReadsInput, ReadsBundle, IsAnswer, IsJudged};
 ghost use Rattle.npos_cli.specs.Books.{BooksBalance};
-ghost use Rattle.npos_cli.specs.Headline.{SeatsAreSound};
+ghost use Rattle.npos_cli.specs.Headline.{SeatsAreSound, IsPromised};
 ghost use Rattle.npos_cli.specs.Chain.{npos_machine};
 ghost use Rattle.npos_cli.specs.Crowding.{NoneIsCrowdedOut};
 ghost use Rattle.npos_cli.specs.Eras.{ErasAreKept};
@@ -203,6 +203,12 @@ pub fn run<S: Source, K: Sink>(
     ensures committees { IfSome (S.left source.old) SeatsAreSound }
     ensures crowding { IfSome (S.left source.old) NoneIsCrowdedOut }
     ensures eras { IfSome (S.left source.old) ErasAreKept }
+    ensures headline { job_of (map string_bytes words.now) ≡ Some jobs.Replay
+        → (Rose (S.faults source.old) (S.faults source.new) → ⊥)
+        → (Rose (K.faults sink.old) (K.faults sink.new) → ⊥)
+        → result ≢ Status.NoMemory
+        → IfSome (S.left source.old)
+        (λ bytes. IsPromised bytes (K.told sink.old) (K.told sink.new)) }
     ensures few { ReadsBundle (job_of (map string_bytes words.now))
         → TakesAtMost 16777217 (S.left source.old) (S.left source.new) }
     ensures accepted { (task : task_kind)

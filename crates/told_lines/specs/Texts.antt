@@ -15,6 +15,10 @@ account_text who = encode_lower (account_bytes who)
 abbrev pub number_text : ℕ → List ℕ
 number_text number = codes " " ++ decimal number
 
+-- a number behind a blank, and the end of the line
+abbrev pub amount_text : ℕ → List ℕ
+amount_text amount = codes " " ++ (decimal amount ++ newline)
+
 -- words, and then numbers behind a blank each
 abbrev pub numbers_line : List ℕ → List ℕ → List ℕ
 numbers_line words numbers = words ++ (flat_map number_text numbers ++ newline)

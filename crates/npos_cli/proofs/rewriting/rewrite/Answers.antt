@@ -1,4 +1,4 @@
-use Rattle.std.proofs.Common.{◌≡◌, Some, IfSome, refl, subst}
+use Rattle.std.proofs.Common.{◌≡◌, Some, refl}
 use Rattle.std.proofs.lemmas.Result.{err_from_is_err_and}
 use Rattle.npos_cli.specs.declared.job.Job.TheVariants as jobs
 use Rattle.npos_cli.specs.Status.{status_of}
@@ -21,7 +21,7 @@ returns-clause-ran g c =
     let ends : Ends answer.text.items (status_of answer.ending) (g.K.Sink.told c.args.sink.now) (g.K.Sink.told c.deliver.new.sink) c.deliver.result =
     rw (c.as_slice.ensures.value, c.status_of.ensures) at c.deliver.ensures.ends in
     ended_ran (Some (jobs.Rewrite c.args.way)) (traffic g.S.Source.left g.K.Sink.told g.S.Source.faults g.K.Sink.faults c.args.source.now c.rewrite_answer.new.source c.args.sink.now c.deliver.new.sink)
-    (record { other = λ e. cc; few = λ _. c.in_ok-answer.ensures.few }) answer.text.items (status_of answer.ending) c.deliver.result c.in_ok-answer.ensures.due ends refl
+    (record { other = λ e. cc; few = λ _. c.in_ok-answer.ensures.few }) answer.text.items (status_of answer.ending) c.deliver.result c.in_ok-answer.ensures.due ends c.in_ok-answer.ensures.faults
     c.deliver.ensures.faults (λ judged _. c.in_ok-answer.ensures.drained judged)
     (λ task e. cc)
     (λ e. cc)

@@ -1,3 +1,4 @@
+use Rattle.std.proofs.Common.{◌≡◌}
 use Rattle.std.proofs.lemmas.Result.{err_from_is_err_and}
 use Rattle.bundle_reports.specs.Demo.{demo_report}
 use Rattle.npos_cli.specs.declared.status.Status.TheVariants as statuses

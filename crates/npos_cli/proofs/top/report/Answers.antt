@@ -25,7 +25,7 @@ returns-clause-ran g c =
     let ends : Ends answer.text.items (status_of answer.ending) (g.K.Sink.told c.args.sink.now) (g.K.Sink.told c.deliver.new.sink) c.deliver.result =
     rw (c.as_slice.ensures.value, c.status_of.ensures) at c.deliver.ensures.ends in
     ended_ran (Some (jobs.OnBundle c.args.task)) (traffic g.S.Source.left g.K.Sink.told g.S.Source.faults g.K.Sink.faults c.args.source.now c.bundle_answer.new.source c.args.sink.now c.deliver.new.sink)
-    (record { other = λ e. cc; few = λ _. c.in_ok-answer.ensures.few }) answer.text.items (status_of answer.ending) c.deliver.result c.in_ok-answer.ensures.due ends refl
+    (record { other = λ e. cc; few = λ _. c.in_ok-answer.ensures.few }) answer.text.items (status_of answer.ending) c.deliver.result c.in_ok-answer.ensures.due ends c.in_ok-answer.ensures.faults
     c.deliver.ensures.faults (λ judged _. c.in_ok-answer.ensures.drained judged)
     (λ task e done. let same : c.args.task ≡ task = cc in subst (λ (t : Task). IfSome (g.S.Source.left c.args.source.now) (IsSound t)) same (c.in_ok-answer.ensures.sound done))
     (λ e. let same : c.args.task ≡ tasks.Mine miners.Fill = cc in c.in_ok-answer.ensures.passes same)

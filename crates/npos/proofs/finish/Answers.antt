@@ -1,0 +1,40 @@
+use Rattle.std.proofs.Common.{◌≡◌, ℕ, List, map, string_bytes, rules, subst}
+use Rattle.std.specs.Process.{exit_status}
+use Rattle.npos_cli.specs.Status.{number_of}
+use Rattle.npos_cli.specs.Ran.{Traffic, traffic}
+use Rattle.npos_cli.specs.Says.{Says}
+use Rattle.npos.proofs.finish.Goals as goal
+
+pub returns-in-Ok-clause-says : goal.returns-in-Ok-clause-says
+returns-in-Ok-clause-says g c =
+    let t : Traffic = traffic g.S.Source.left g.K.Sink.told g.S.Source.faults g.K.Sink.faults c.args.source.now c.run.new.source c.args.sink.now c.run.new.sink in
+    let says : Says (map string_bytes c.as_slice.result.now) t (c.run.new.source ≡ c.args.source.now) (c.run.new.sink ≡ c.args.sink.now) c.run.result = record {
+      answers = c.run.ensures.answers;
+      front = c.run.ensures.front;
+      read_fault = c.run.ensures.read_fault;
+      read_fault_comes = c.run.ensures.read_fault_comes;
+      write_fault = c.run.ensures.write_fault;
+      write_fault_comes = c.run.ensures.write_fault_comes;
+      unwritten = c.run.ensures.unwritten;
+      unflushed = c.run.ensures.unflushed;
+      halted_reading = c.run.ensures.halted_reading;
+      halted_writing = c.run.ensures.halted_writing;
+      starved = c.run.ensures.starved;
+      whole = c.run.ensures.whole;
+      wary = c.run.ensures.wary;
+      usage_memory = c.run.ensures.usage_memory;
+      unread = c.run.ensures.unread;
+      drained = c.run.ensures.drained;
+      books = c.run.ensures.books;
+      committees = c.run.ensures.committees;
+      crowding = c.run.ensures.crowding;
+      eras = c.run.ensures.eras;
+      headline = c.run.ensures.headline;
+      few = c.run.ensures.few;
+      accepted = c.run.ensures.accepted;
+      passes = c.run.ensures.passes;
+    } in (
+      c.run.result,
+      search rules,
+      rw c.as_slice.ensures.value at says,
+    )

@@ -1,0 +1,59 @@
+-- All that `run` says of a run: its clauses, gathered for who calls it.
+use Rattle.std.specs.Prelude.{◌≡◌, ◌≢◌, ◌⊎◌, ◌<◌, false, ℕ, List, Some, IfSome}
+use Rattle.npos_base.specs.Outside.{Rose}
+use Rattle.npos_cli.specs.declared.job.Job.TheVariants as jobs
+use Rattle.bundle_reports.specs.declared.asked.Task.{Task}
+use Rattle.bundle_reports.specs.declared.asked.Task.TheVariants as tasks
+use Rattle.bundle_reports.specs.declared.asked.Miner.TheVariants as miners
+use Rattle.bundle_reports.specs.Tasks.{IsSound}
+use Rattle.npos_words.specs.Words.{has_verb}
+use Rattle.npos_cli.specs.declared.status.Status.{Status}
+use Rattle.npos_cli.specs.declared.status.Status.TheVariants as statuses
+use Rattle.npos_cli.specs.Words.{job_of}
+use Rattle.npos_cli.specs.Report.{ReadsInput, ReadsBundle, IsAnswer, IsJudged}
+use Rattle.npos_cli.specs.Chain.{npos_machine}
+use Rattle.npos_cli.specs.Books.{BooksBalance}
+use Rattle.npos_cli.specs.Headline.{SeatsAreSound, IsPromised}
+use Rattle.npos_cli.specs.Crowding.{NoneIsCrowdedOut}
+use Rattle.npos_cli.specs.Eras.{ErasAreKept}
+use Rattle.npos_cli.specs.Streams.{LeavesStream}
+use Rattle.npos_cli.specs.Streaming.{HaltedReading, HaltedWriting, HaltedStarving, ReadsWhile}
+use Rattle.npos_cli.specs.Owed.{Answers, BeginsToAnswer, IsDrained, TakesAtMost, KeepsFlushed}
+use Rattle.npos_cli.specs.Ran.{Traffic}
+
+-- `Unread` and `Unwritten` say that the source and the sink are as they were.
+pub record Says (words : List (List ℕ)) (t : Traffic) (Unread Unwritten : Type 0) (status : Status) : Type 0 where
+  pub answers : IsAnswer status → Answers words t.left t.told t.told_now status
+  pub front : BeginsToAnswer words t.left t.told t.told_now
+  pub read_fault : status ≡ statuses.ReadFault
+      → ReadsInput (job_of words) × Rose t.read_faults t.read_faults_now
+  pub read_fault_comes : t.read_faults < t.read_faults_now → status ≡ statuses.ReadFault
+  pub write_fault : status ≡ statuses.WriteFault → Rose t.write_faults t.write_faults_now
+  pub write_fault_comes : t.write_faults < t.write_faults_now → status ≡ statuses.WriteFault
+  pub unwritten : (job_of words ≡ Some jobs.Replay → ⊥)
+      → (status ≡ statuses.ReadFault) ⊎ (status ≡ statuses.NoMemory) → Unwritten
+  pub unflushed : (IsAnswer status → ⊥) → KeepsFlushed t.told t.told_now
+  pub halted_reading : job_of words ≡ Some jobs.Replay → status ≡ statuses.ReadFault
+      → HaltedReading t.left t.left_now t.told t.told_now
+  pub halted_writing : job_of words ≡ Some jobs.Replay → status ≡ statuses.WriteFault
+      → HaltedWriting t.left t.left_now t.told t.told_now
+  pub starved : job_of words ≡ Some jobs.Replay → status ≡ statuses.NoMemory
+      → HaltedStarving t.left t.left_now t.told t.told_now
+  pub whole : job_of words ≡ Some jobs.Replay → LeavesStream npos_machine t.left
+      → (Rose t.read_faults t.read_faults_now → ⊥) → (Rose t.write_faults t.write_faults_now → ⊥)
+      → (status ≡ statuses.Done) ⊎ (status ≡ statuses.NoMemory)
+  pub wary : job_of words ≡ Some jobs.Replay → ReadsWhile t.left t.left_now
+  pub usage_memory : has_verb words ≡ false → status ≢ statuses.NoMemory
+  pub unread : (ReadsInput (job_of words) → ⊥) → Unread
+  pub drained : IsJudged status → ReadsInput (job_of words) → IsDrained t.left t.left_now
+  pub books : IfSome t.left BooksBalance
+  pub committees : IfSome t.left SeatsAreSound
+  pub crowding : IfSome t.left NoneIsCrowdedOut
+  pub eras : IfSome t.left ErasAreKept
+  pub headline : job_of words ≡ Some jobs.Replay → (Rose t.read_faults t.read_faults_now → ⊥)
+      → (Rose t.write_faults t.write_faults_now → ⊥) → status ≢ statuses.NoMemory
+      → IfSome t.left (λ bytes. IsPromised bytes t.told t.told_now)
+  pub few : ReadsBundle (job_of words) → TakesAtMost 16777217 t.left t.left_now
+  pub accepted : (task : Task) → job_of words ≡ Some (jobs.OnBundle task) → status ≡ statuses.Done
+      → IfSome t.left (IsSound task)
+  pub passes : job_of words ≡ Some (jobs.OnBundle (tasks.Mine miners.Fill)) → status ≢ statuses.No
