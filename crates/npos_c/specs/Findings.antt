@@ -33,7 +33,7 @@ figures kind numbers = record {
   second = slice_index_or numbers 2 0;
   third_high = slice_index_or numbers 3 0 / 2 ^ 64;
   third_low = slice_index_or numbers 3 0 % 2 ^ 64;
-  }
+}
 
 -- the numbers of its line
 abbrev pub told_as : Finding → NposFinding

@@ -41,7 +41,7 @@ mined_from snapshot weights bytes verdict = record {
   score = score_of weights;
   bytes = bytes;
   verdict = verdict;
-  }
+}
 
 -- of a solution its bytes are judged, and the weights are those that it expands to
 abbrev pub solution_mined : Snapshot → List (List Entry) → Outcome
@@ -81,7 +81,7 @@ outcome_of mined = record {
   score = mined.score;
   bytes = mined.bytes;
   verdict = mined.verdict;
-  }
+}
 
 abbrev pub due_of : Mining → Result Outcome Finding
 due_of (Done mined) = Ok (outcome_of mined)
@@ -107,7 +107,7 @@ told_outcome outcome = record {
   squares_high = outcome.score.squares / 2 ^ 64;
   squares_low = outcome.score.squares % 2 ^ 64;
   finding = told_as (Judged outcome.verdict);
-  }
+}
 
 -- where nothing was mined all but the finding is 0
 abbrev pub told_finding : Finding → NposMined
@@ -119,7 +119,7 @@ told_finding finding = record {
   squares_high = 0;
   squares_low = 0;
   finding = told_as finding;
-  }
+}
 
 -- members and bytes stand in the buffers where both have room
 abbrev pub handed : Result Outcome Finding → Hand → Hand

@@ -43,10 +43,15 @@ pub struct NposFinding {
 
 /// The kinds of findings.
 const JUDGED: u32 = 0;
+
 const LOST: u32 = 1;
+
 const REFUSED: u32 = 2;
+
 const UNELECTABLE: u32 = 3;
+
 const UNSOLVED: u32 = 4;
+
 const LONG: u32 = 5;
 
 /// The upper 64 bits of a number, and the lower ones.

@@ -61,15 +61,17 @@ fn mine_by_fill(alloc: Global, snapshot: Snapshot) -> Result<Mined, NoMemory>
     let score = weights.score();
     let mut checker = checker_of(alloc, snapshot)?;
     let verdict = checker.verdict(&weights);
-    Ok(as_mined(checker.snapshot(), weights, score, List::new(alloc), verdict))
+    Ok(as_mined(
+        checker.snapshot(),
+        weights,
+        score,
+        List::new(alloc),
+        verdict,
+    ))
 }
 
 /// What a solution that expands without a fault comes to.
-fn mine_solution(
-    alloc: Global,
-    snapshot: Snapshot,
-    solution: Solution,
-) -> Result<Mined, NoMemory>
+fn mine_solution(alloc: Global, snapshot: Snapshot, solution: Solution) -> Result<Mined, NoMemory>
     requires { expand_fault snapshot solution ≡ None }
     ensures { IfOk result (λ mined. outcome_of mined ≡ solution_mined snapshot solution) }
 {
