@@ -2,16 +2,17 @@
 //! nothing, or no more than the call that it speaks of.
 ghost use Rattle.std.specs.Prelude.{◌≡◌, ℕ, List};
 ghost use Rattle.npos_cli.specs.Chain.{npos_machine};
-ghost use Rattle.npos_cli.specs.Headline.{SeatsAreSound};
+ghost use Rattle.npos_cli.specs.Books.{DepositsAreKept};
+ghost use Rattle.npos_cli.specs.Headline.{SeatsAreSound, RoundsAreSeated};
 ghost use Rattle.npos_cli.specs.Crowding.{NoneIsCrowdedOut};
 ghost use Rattle.npos_cli.specs.Eras.{ErasAreKept};
 ghost use Rattle.npos_cli.specs.Laws.{OwesOnce, OwesAlways, PacksBack, IsReplayedOnce, IsAlwaysReplayed, IsWholeOnce, IsAlwaysWhole, BeginsWithWhole, WholeGrows, FaultsStand};
 
 pub use bundle_reports::laws::a_fill_is_sealed;
 use npos_runtime::laws::{
-    each_round_is_decided_once, every_seated_committee_is_sound,
-    nothing_valid_is_crowded_out_for_free, payouts_are_within_the_reward,
-    slashes_are_within_the_stake,
+    deposits_are_settled, each_round_is_decided_once, every_round_ends_as_it_began,
+    every_seated_committee_is_sound, nothing_valid_is_crowded_out_for_free,
+    payouts_are_within_the_reward, slashes_are_within_the_stake,
 };
 
 /// Every committee that a replay seats, from a signed solution or from the fill, has a member for
@@ -21,6 +22,26 @@ pub fn replays_seat_sound_committees()
     ensures { (bytes : List ℕ) → SeatsAreSound bytes }
 {
     every_seated_committee_is_sound();
+}
+
+/// Where a block of a replay takes the snapshot of a round, the block of its decision seats exactly
+/// one committee, elected from that very snapshot; or its line told that there were too few targets
+/// or too little stake, and nobody is seated.
+#[tactic(auto, using(crate::proofs::SeatLaws::rounds_seated))]
+pub fn replays_seat_each_round()
+    ensures { (bytes : List ℕ) → RoundsAreSeated bytes }
+{
+    every_round_ends_as_it_began();
+}
+
+/// Wherever a replay has come, what is held of an account is the deposits of its submissions that
+/// wait. Accepted submissions have the numbers from 1 on without gaps; each waits or was settled
+/// once, and by the time its round is decided it is settled for good.
+#[tactic(auto, using(crate::proofs::BookLaws::deposits_kept))]
+pub fn replays_settle_deposits()
+    ensures { (bytes : List ℕ) → DepositsAreKept bytes }
+{
+    deposits_are_settled();
 }
 
 /// Nothing valid is crowded out for free of a round that a replay decides: it is passed over only

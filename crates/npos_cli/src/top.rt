@@ -10,8 +10,8 @@ ghost use Rattle.npos_cli.specs.Status.{status_of};
 ghost use Rattle.npos_cli.specs.Words.{job_of, KeepsBounds};
 ghost use Rattle.bundle_reports.specs.Rounds.{TaskHasRounds};
 ghost use Rattle.npos_cli.specs.Report.{ReadsInput, ReadsBundle, IsAnswer, IsJudged};
-ghost use Rattle.npos_cli.specs.Books.{BooksBalance};
-ghost use Rattle.npos_cli.specs.Headline.{SeatsAreSound, IsPromised};
+ghost use Rattle.npos_cli.specs.Books.{BooksBalance, DepositsAreKept};
+ghost use Rattle.npos_cli.specs.Headline.{SeatsAreSound, IsPromised, RoundsAreSeated};
 ghost use Rattle.npos_cli.specs.Chain.{npos_machine};
 ghost use Rattle.npos_cli.specs.Crowding.{NoneIsCrowdedOut};
 ghost use Rattle.npos_cli.specs.Eras.{ErasAreKept};
@@ -30,7 +30,8 @@ use crate::halt::{Halt, end_of};
 use crate::input::read_up_to;
 use crate::job::{Job, job_of};
 use crate::laws::{
-    replays_crowd_nothing_out, replays_keep_the_bounds_of_eras, replays_seat_sound_committees,
+    replays_crowd_nothing_out, replays_keep_the_bounds_of_eras, replays_seat_each_round,
+    replays_seat_sound_committees, replays_settle_deposits,
 };
 use crate::replaying::replay;
 use crate::rewriting::rewrite;
@@ -153,7 +154,7 @@ fn run_words<S: Source, K: Sink>(
 /// Does all that the program does: finds the job that the words ask for, reads its input from the
 /// source, writes to the sink what is due, flushes it, and says how it ended. `words[0]` is the
 /// program's name and is not looked at.
-#[tactic(auto, using(crate::proofs::BookLaws::books_told, crate::proofs::SeatLaws::told_sound, crate::proofs::CrowdingLaws::told_crowded, crate::proofs::EraLaws::told_eras))]
+#[tactic(auto, using(crate::proofs::BookLaws::books_told, crate::proofs::SeatLaws::told_sound, crate::proofs::SeatLaws::told_rounds, crate::proofs::BookLaws::told_deposits, crate::proofs::CrowdingLaws::told_crowded, crate::proofs::EraLaws::told_eras))]
 pub fn run<S: Source, K: Sink>(
     alloc: Global,
     words: &[String],
@@ -200,7 +201,9 @@ pub fn run<S: Source, K: Sink>(
     ensures drained { IsJudged result → ReadsInput (job_of (map string_bytes words.now))
         → IsDrained (S.left source.old) (S.left source.new) }
     ensures books { IfSome (S.left source.old) BooksBalance }
+    ensures deposits { IfSome (S.left source.old) DepositsAreKept }
     ensures committees { IfSome (S.left source.old) SeatsAreSound }
+    ensures seats { IfSome (S.left source.old) RoundsAreSeated }
     ensures crowding { IfSome (S.left source.old) NoneIsCrowdedOut }
     ensures eras { IfSome (S.left source.old) ErasAreKept }
     ensures headline { job_of (map string_bytes words.now) ≡ Some jobs.Replay
@@ -217,8 +220,10 @@ pub fn run<S: Source, K: Sink>(
     ensures passes { job_of (map string_bytes words.now)
         ≡ Some (jobs.OnBundle (tasks.Mine miners.Fill)) → result ≢ Status.No }
 {
-    // three laws, which do nothing
+    // laws, which do nothing
     replays_seat_sound_committees();
+    replays_seat_each_round();
+    replays_settle_deposits();
     replays_crowd_nothing_out();
     replays_keep_the_bounds_of_eras();
     end_of(run_words(alloc, words, source, sink))
