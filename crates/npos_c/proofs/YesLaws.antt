@@ -53,16 +53,19 @@ done_alone endings.BadInput e = absurd (cc)
 
 -- ## A miner
 
-packed_done : (snapshot : Snapshot) (packed : Result (List (List Entry)) ℕ) → IsYes (packed_mined snapshot packed) → (packed_report snapshot packed).ending ≡ endings.Done
+packed_done : (snapshot : Snapshot) (packed : Result (List (List Entry)) ℕ) → IsYes (packed_mined snapshot packed)
+    → (packed_report snapshot packed).ending ≡ endings.Done
 packed_done snapshot (Ok solution) done = done_alone (verdict_ending (solution_mined snapshot solution).verdict) done
 packed_done snapshot (Err member) done = absurd (cc)
 
-mined_done : (miner : Miner) (snapshot : Snapshot) (weights : Weights) → IsYes (mined_as miner snapshot weights) → (mine_report miner snapshot weights).ending ≡ endings.Done
+mined_done : (miner : Miner) (snapshot : Snapshot) (weights : Weights) → IsYes (mined_as miner snapshot weights)
+    → (mine_report miner snapshot weights).ending ≡ endings.Done
 mined_done miners.Fill snapshot weights done = done_alone (verdict_ending (verdict_plain snapshot weights)) done
 mined_done miners.Seq snapshot weights done = packed_done snapshot (packed_of snapshot weights) done
 mined_done (miners.Mms rounds) snapshot weights done = packed_done snapshot (packed_of snapshot weights) done
 
-mining_sound : (miner : Miner) (election : Election) (due : Result Outcome Finding) → IsWellFormed election.snapshot → IsMining miner election.snapshot due → IsYes due
+mining_sound : (miner : Miner) (election : Election) (due : Result Outcome Finding) → IsWellFormed election.snapshot
+    → IsMining miner election.snapshot due → IsYes due
     → IsSoundElection (tasks.Mine miner) election
 mining_sound miner election due well (weights, mined, is) done =
     sound_task (tasks.Mine miner) 0 election (mine_report miner election.snapshot weights) well (weights, mined, refl)
@@ -81,8 +84,10 @@ sound_mined miner bytes election (Ok mining) is sound = λ done. sound_bytes (ta
 sound_mined miner bytes election (Err want) is sound = tt
 
 -- a fault in place of an election is never done
-pub fault_not_done : (miner : Miner) (bytes : List ℕ) (finding : Finding) → election_in bytes ≡ Err (reported finding) → answer_of finding ≡ 0 → IsSound (tasks.Mine miner) bytes
-fault_not_done miner bytes finding is done = refused_not_done (tasks.Mine miner) bytes (reported finding) is (done_alone (reported finding).ending done)
+pub fault_not_done : (miner : Miner) (bytes : List ℕ) (finding : Finding) → election_in bytes ≡ Err (reported finding)
+    → answer_of finding ≡ 0 → IsSound (tasks.Mine miner) bytes
+fault_not_done miner bytes finding is done =
+    refused_not_done (tasks.Mine miner) bytes (reported finding) is (done_alone (reported finding).ending done)
 
 small_or : (b : Bool) (answer : ℕ) → (if b then SMALL else answer) ≡ 0 → answer ≡ 0
 small_or true answer e = absurd (cc)
@@ -91,7 +96,8 @@ small_or false answer e = e
 -- what is handed out as done is done
 pub hand_done : (due : Result Outcome Finding) (old : Hand) → hand_answer due old ≡ 0 → IsYes due
 hand_done (Ok outcome) old e =
-    small_or (nat_lt (length old.committee) (length outcome.members) || nat_lt (length old.bytes) (length outcome.bytes)) (due_answer (Ok outcome)) e
+    small_or (nat_lt (length old.committee) (length outcome.members) || nat_lt (length old.bytes) (length outcome.bytes))
+    (due_answer (Ok outcome)) e
 hand_done (Err finding) old e = e
 
 -- ## What was mined
@@ -106,28 +112,36 @@ pub mined_is : (snapshot : Snapshot) (weights : Weights) (members : List ℕ) (s
 mined_is snapshot weights members score bytes verdict members_are score_is = λ i. outcome_with (members_are i) (score_is i) bytes verdict
 
 pub mining_is : (miner : Miner) (snapshot : Snapshot) (weights : Weights) (result : Result Mining NoMemory) → IsMined miner snapshot weights
-    → IfOk result (λ mining. due_of mining ≡ mined_as miner snapshot weights) → IfOk result (λ mining. IsMining miner snapshot (due_of mining))
+    → IfOk result (λ mining. due_of mining ≡ mined_as miner snapshot weights)
+    → IfOk result (λ mining. IsMining miner snapshot (due_of mining))
 mining_is miner snapshot weights (Ok mining) mined is = (weights, mined, is)
 mining_is miner snapshot weights (Err want) mined is = tt
 
-pub fill_is : (snapshot : Snapshot) (outcome : Outcome) → outcome ≡ mined_from snapshot (filled snapshot) [] (verdict_plain snapshot (filled snapshot)) → IsMining miners.Fill snapshot (Ok outcome)
+pub fill_is : (snapshot : Snapshot) (outcome : Outcome)
+    → outcome ≡ mined_from snapshot (filled snapshot) [] (verdict_plain snapshot (filled snapshot))
+    → IsMining miners.Fill snapshot (Ok outcome)
 fill_is snapshot outcome is = (filled snapshot, refl, λ i. Ok (is i))
 
 -- what a solution comes to by a checker of the snapshot, and by the snapshot that is seen in it
-pub solution_is : (snapshot checker seen : Snapshot) (solution : List (List Entry)) (weights : Weights) (bytes : List ℕ) (verdict : Verdict) (outcome : Outcome)
+pub solution_is : (snapshot checker seen : Snapshot) (solution : List (List Entry)) (weights : Weights) (bytes : List ℕ)
+    (verdict : Verdict) (outcome : Outcome)
     → seen ≡ checker → checker ≡ snapshot → weights ≡ expanded checker solution → bytes ≡ solution_form.spelling solution
     → verdict ≡ verdict_packed checker (score_of (expanded checker solution)) (solution_form.spelling solution)
     → outcome ≡ mined_from seen weights bytes verdict → outcome ≡ solution_mined snapshot solution
 solution_is snapshot checker seen solution weights bytes verdict outcome seen_is checker_is weights_are bytes_are verdict_is is =
-    is ∙ ((λ i. mined_from (seen_is i) (weights_are i) (bytes_are i) (verdict_is i)) ∙ ap (λ (s : Snapshot). solution_mined s solution) checker_is)
+    is ∙ ((λ i. mined_from (seen_is i) (weights_are i) (bytes_are i) (verdict_is i))
+    ∙ ap (λ (s : Snapshot). solution_mined s solution) checker_is)
 
 -- ## The fill
 
-pub fill_feasible : (snapshot : Snapshot) (weights : Weights) → IsWellFormed snapshot → weights ≡ filled snapshot → IsFeasible snapshot weights
+pub fill_feasible : (snapshot : Snapshot) (weights : Weights) → IsWellFormed snapshot → weights ≡ filled snapshot
+    → IsFeasible snapshot weights
 fill_feasible snapshot weights well is = subst (λ (w : Weights). IsFeasible snapshot w) (sym is) (fill_passes snapshot well).feasible
 
-pub some_members : (snapshot : Snapshot) (weights : Weights) → IsWellFormed snapshot → IsFeasible snapshot weights → 1 ≤ length weights.committee
+pub some_members : (snapshot : Snapshot) (weights : Weights) → IsWellFormed snapshot → IsFeasible snapshot weights
+    → 1 ≤ length weights.committee
 some_members snapshot weights well feasible = omega (arith, feasible.seats_filled, well.seats_some)
 
-pub amounts_fit : (snapshot : Snapshot) (weights : Weights) → IsWellFormed snapshot → IsFeasible snapshot weights → amount_sum weights.edges < 2 ^ 64
+pub amounts_fit : (snapshot : Snapshot) (weights : Weights) → IsWellFormed snapshot → IsFeasible snapshot weights
+    → amount_sum weights.edges < 2 ^ 64
 amounts_fit snapshot weights well feasible = omega (arith, amounts_within snapshot weights feasible, well.voters.total_fits)

@@ -17,7 +17,8 @@ abbrev pub miner_of : ℕ → ℕ → Option Miner
 miner_of number rounds =
     if nat_eq number 1 then Some miners.Fill else
     if nat_eq number 2 then Some miners.Seq else
-    if nat_eq number 3 && (nat_le 1 rounds && nat_le rounds MOST_ROUNDS) then Some (miners.Mms rounds) else None
+    if nat_eq number 3 && (nat_le 1 rounds && nat_le rounds MOST_ROUNDS) then Some (miners.Mms rounds)
+    else None
 
 abbrev pub mining_asked : Option Miner → Option Asked
 mining_asked (Some miner) = Some (jobs.OnBundle (tasks.Mine miner))

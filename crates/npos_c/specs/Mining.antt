@@ -124,7 +124,8 @@ told_finding finding = record {
 -- members and bytes stand in the buffers where both have room
 abbrev pub handed : Result Outcome Finding → Hand → Hand
 handed (Ok outcome) old =
-    if nat_lt (length old.committee) (length outcome.members) || nat_lt (length old.bytes) (length outcome.bytes)
+    if nat_lt (length old.committee) (length outcome.members)
+    || nat_lt (length old.bytes) (length outcome.bytes)
     then hand_of old.committee old.bytes (told_outcome outcome)
     else hand_of (over outcome.members old.committee) (over outcome.bytes old.bytes) (told_outcome outcome)
 handed (Err finding) old = hand_of old.committee old.bytes (told_finding finding)
@@ -135,7 +136,8 @@ due_answer (Err finding) = answer_of finding
 
 abbrev pub hand_answer : Result Outcome Finding → Hand → ℕ
 hand_answer (Ok outcome) old =
-    if nat_lt (length old.committee) (length outcome.members) || nat_lt (length old.bytes) (length outcome.bytes)
+    if nat_lt (length old.committee) (length outcome.members)
+    || nat_lt (length old.bytes) (length outcome.bytes)
     then SMALL else due_answer (Ok outcome)
 hand_answer (Err finding) old = due_answer (Err finding)
 

@@ -156,8 +156,9 @@ fn mine_bytes(alloc: Global, bytes: &[u8], miner: Miner) -> Result<Mining, NoMem
 /// `committee`, and the bytes of the packed solution to the front of `solution`; the fill is not
 /// packed and has none. The rest goes to `mined`. The answer is 0 where the verdict on what was
 /// mined is Yes, 1 where it is another one or a member is lost, 3 where the bundle has a fault, and
-/// 8 where a buffer is too small: then both stay as they are, and `mined` tells what sizes they need.
-/// It is 2 where there is no such miner and 6 where memory was refused, and then nothing is written.
+/// 8 where a buffer is too small: then both stay as they are, and `mined` tells what sizes they
+/// need. It is 2 where there is no such miner and 6 where memory was refused, and then nothing is
+/// written.
 #[unsafe(no_mangle)]
 pub extern "C" fn npos_c_mine(
     alloc: Global,

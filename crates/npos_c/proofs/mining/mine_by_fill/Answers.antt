@@ -10,7 +10,8 @@ score-score-requires-clause-some c = some_members c.args.snapshot c.in_ok-weight
 
 pub score-score-requires-clause-distinct : goal.score-score-requires-clause-distinct
 score-score-requires-clause-distinct c =
-    (fill_feasible c.args.snapshot c.in_ok-weights.weights.plain c.seats-seats.ensures.well_formed c.in_ok-weights.ensures.filled).follows.members_distinct
+    (fill_feasible c.args.snapshot c.in_ok-weights.weights.plain c.seats-seats.ensures.well_formed
+    c.in_ok-weights.ensures.filled).follows.members_distinct
 
 pub score-score-requires-clause-fits : goal.score-score-requires-clause-fits
 score-score-requires-clause-fits c = amounts_fit c.args.snapshot c.in_ok-weights.weights.plain c.seats-seats.ensures.well_formed
@@ -18,5 +19,6 @@ score-score-requires-clause-fits c = amounts_fit c.args.snapshot c.in_ok-weights
 
 pub as_mined-requires-clause-feasible : goal.as_mined-requires-clause-feasible
 as_mined-requires-clause-feasible c =
-    subst (λ (s : Snapshot). IsFeasible s c.in_ok-weights.weights.plain) (sym (c.snapshot-2.ensures ∙ (c.verdict-verdict.ensures.snapshot ∙ c.in_ok-checker.ensures)))
+    subst (λ (s : Snapshot). IsFeasible s c.in_ok-weights.weights.plain) (sym (c.snapshot-2.ensures ∙
+    (c.verdict-verdict.ensures.snapshot ∙ c.in_ok-checker.ensures)))
     (fill_feasible c.args.snapshot c.in_ok-weights.weights.plain c.seats-seats.ensures.well_formed c.in_ok-weights.ensures.filled)

@@ -10,7 +10,10 @@ pub returns : goal.returns
 returns c =
     let whole : c.in_ok-weights.weights.plain ≡ expanded c.in_ok-checker.checker c.args.solution = search rules in
     let spelled : c.in_ok-weights.bytes ≡ solution_form.spelling c.args.solution = search rules in
-    let judged : c.in_ok-weights.verdict ≡ verdict_packed c.in_ok-checker.checker (score_of (expanded c.in_ok-checker.checker c.args.solution)) (solution_form.spelling c.args.solution) = search rules in
-    let made : outcome_of c.as_mined.result ≡ mined_from c.snapshot.result.now c.in_ok-weights.weights.plain c.in_ok-weights.bytes c.in_ok-weights.verdict = search rules in
-    solution_is c.args.snapshot c.in_ok-checker.checker c.snapshot.result.now c.args.solution c.in_ok-weights.weights.plain c.in_ok-weights.bytes c.in_ok-weights.verdict
+    let judged : c.in_ok-weights.verdict ≡ verdict_packed c.in_ok-checker.checker (score_of
+    (expanded c.in_ok-checker.checker c.args.solution)) (solution_form.spelling c.args.solution) = search rules in
+    let made : outcome_of c.as_mined.result ≡ mined_from c.snapshot.result.now c.in_ok-weights.weights.plain c.in_ok-weights.bytes
+    c.in_ok-weights.verdict = search rules in
+    solution_is c.args.snapshot c.in_ok-checker.checker c.snapshot.result.now c.args.solution c.in_ok-weights.weights.plain
+    c.in_ok-weights.bytes c.in_ok-weights.verdict
     (outcome_of c.as_mined.result) (c.snapshot.ensures ∙ c.in_ok-weights.ensures.snapshot) c.in_ok-checker.ensures whole spelled judged made

@@ -6,4 +6,5 @@ use Rattle.npos_c.proofs.mining.npos_c_mine.Goals as goal
 
 pub returns-in-Ok-clause-sound : goal.returns-in-Ok-clause-sound
 returns-in-Ok-clause-sound c = λ done. subst (λ (m : Option Miner). IsSoundFor m c.args.bundle.now) c.in-Some.ensures.miner
-    (c.in-Ok.ensures.sound (hand_done (due_of c.in-Ok.mining) (hand_of c.args.committee.now c.args.solution.now c.args.mined.now) (sym c.hand_out.ensures.answer ∙ done)))
+    (c.in-Ok.ensures.sound (hand_done (due_of c.in-Ok.mining) (hand_of c.args.committee.now c.args.solution.now c.args.mined.now)
+    (sym c.hand_out.ensures.answer ∙ done)))
