@@ -12,8 +12,8 @@ use Rattle.npos_cli.specs.declared.status.Status.TheVariants as statuses
 use Rattle.npos_cli.specs.Words.{job_of}
 use Rattle.npos_cli.specs.Report.{ReadsInput, ReadsBundle, IsAnswer, IsJudged}
 use Rattle.npos_cli.specs.Chain.{npos_machine}
-use Rattle.npos_cli.specs.Books.{BooksBalance}
-use Rattle.npos_cli.specs.Headline.{SeatsAreSound, IsPromised}
+use Rattle.npos_cli.specs.Books.{BooksBalance, DepositsAreKept}
+use Rattle.npos_cli.specs.Headline.{SeatsAreSound, IsPromised, RoundsAreSeated}
 use Rattle.npos_cli.specs.Crowding.{NoneIsCrowdedOut}
 use Rattle.npos_cli.specs.Eras.{ErasAreKept}
 use Rattle.npos_cli.specs.Streams.{LeavesStream}
@@ -47,7 +47,9 @@ pub record Says (words : List (List ℕ)) (t : Traffic) (Unread Unwritten : Type
   pub unread : (ReadsInput (job_of words) → ⊥) → Unread
   pub drained : IsJudged status → ReadsInput (job_of words) → IsDrained t.left t.left_now
   pub books : IfSome t.left BooksBalance
+  pub deposits : IfSome t.left DepositsAreKept
   pub committees : IfSome t.left SeatsAreSound
+  pub seats : IfSome t.left RoundsAreSeated
   pub crowding : IfSome t.left NoneIsCrowdedOut
   pub eras : IfSome t.left ErasAreKept
   pub headline : job_of words ≡ Some jobs.Replay → (Rose t.read_faults t.read_faults_now → ⊥)
