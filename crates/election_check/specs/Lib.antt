@@ -1,6 +1,7 @@
 pub mod First
 pub mod Kept
 pub mod Laws
+pub mod Number
 pub mod Packed
 pub mod Plain
 pub mod Seats

@@ -1,4 +1,7 @@
 //! The verdict on a solution.
+ghost use Rattle.std.specs.Prelude.{◌≡◌};
+ghost use Rattle.election_check.specs.Number.{number_of};
+
 use npos_base::Score;
 use scale_wire::fault::Why;
 
@@ -29,4 +32,26 @@ pub enum Verdict {
     Outweighed { target: u16, prescore: u64 },
     /// The voter gives more than its stake.
     Overspent(u32),
+}
+
+impl Verdict {
+    /// The number of the verdict, from 0 for Yes.
+    pub fn number(self) -> u8
+        ensures { result ≡ number_of self }
+    {
+        match self {
+            Verdict::Yes => 0,
+            Verdict::Undecodable { .. } => 1,
+            Verdict::NoVoter(_) => 2,
+            Verdict::NoTarget(_) => 3,
+            Verdict::VoterTwice(_) => 4,
+            Verdict::TargetTwice(_) => 5,
+            Verdict::NotNominated { .. } => 6,
+            Verdict::BadShare(_) => 7,
+            Verdict::WrongSize(_) => 8,
+            Verdict::WrongScore(_) => 9,
+            Verdict::Outweighed { .. } => 10,
+            Verdict::Overspent(_) => 11,
+        }
+    }
 }
