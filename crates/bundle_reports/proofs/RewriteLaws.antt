@@ -1,5 +1,5 @@
 -- What is written of a bundle in its other form, and that the one form gives the other back.
-use Rattle.std.proofs.Common.{◌≡◌, ℕ, ◌<◌, ◌≤◌, Bool, true, false, List, ◌++◌, length, nat_lt, Result, Ok, Err, if◌then◌else◌, refl, sym, ◌∙◌, ap, subst, inl, inr}
+use Rattle.std.proofs.Common.{◌≡◌, ℕ, ◌<◌, ◌≤◌, Bool, List, ◌++◌, length, Result, Ok, Err, if◌then◌else◌, refl, sym, ◌∙◌, ap, subst, inl, inr}
 use Rattle.std.proofs.lemmas.Bool.{lt-ltb, le-ltb}
 use Rattle.serde_json.specs.Written.{compact_text}
 use Rattle.scale_wire.specs.declared.fault.WireFault.{WireFault}
@@ -9,9 +9,7 @@ use Rattle.scale_wire.specs.WholeReading.{read_as, read_value, read_fault}
 use Rattle.block_wire.specs.declared.bundle.Bundle.{Bundle}
 use Rattle.block_wire.specs.Bundles.{bundle_form}
 use Rattle.block_wire.specs.BundleLaws.{bundle_laws}
-use Rattle.bundle_json.specs.declared.fault.JsonFault.{JsonFault}
 use Rattle.bundle_json.specs.Json.{json_of}
-use Rattle.bundle_json.specs.Text.{bundle_in_text}
 use Rattle.bundle_json.proofs.Rereading.{line_stands}
 use Rattle.bundle_reports.specs.declared.asked.Rewriting.{Rewriting}
 use Rattle.bundle_reports.specs.declared.asked.Rewriting.TheVariants.{Pack, Show}

@@ -1,6 +1,6 @@
 -- What is reported of a generated election: its size, the score and the verdict of the greedy fill,
 -- and those of sequential Phragmén, packed and expanded again.
-use Rattle.std.specs.Prelude.{◌≡◌, ⊤, ℕ, List, [], ◌∷◌, ◌++◌, flat_map, length, codes, Result, Ok, Err}
+use Rattle.std.specs.Prelude.{◌≡◌, ⊤, ℕ, List, ◌++◌, flat_map, length, codes, Result, Ok, Err}
 use Rattle.npos_base.specs.declared.figures.Score.{Score}
 use Rattle.election_snapshot.specs.Snapshot.{Snapshot, total_stake}
 use Rattle.weight_book.specs.Weights.{Weights}

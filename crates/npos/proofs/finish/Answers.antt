@@ -1,4 +1,4 @@
-use Rattle.std.proofs.Common.{◌≡◌, ℕ, List, map, string_bytes, rules, subst}
+use Rattle.std.proofs.Common.{◌≡◌, Ok, map, string_bytes, rules}
 use Rattle.std.specs.Process.{exit_status}
 use Rattle.npos_cli.specs.Status.{number_of}
 use Rattle.npos_cli.specs.Ran.{Traffic, traffic}
@@ -33,8 +33,8 @@ returns-in-Ok-clause-says g c =
       few = c.run.ensures.few;
       accepted = c.run.ensures.accepted;
       passes = c.run.ensures.passes;
-    } in (
-      c.run.result,
-      search rules,
-      rw c.as_slice.ensures.value at says,
-    )
+    } in
+    let words : c.args.words ≡ Ok c.in-Ok.words = search rules in
+    let ends : exit_status c.from.result ≡ number_of c.run.result = search rules in
+    let same : Says (map string_bytes c.in-Ok.words.items) t (c.run.new.source ≡ c.args.source.now) (c.run.new.sink ≡ c.args.sink.now) c.run.result = rw c.as_slice.ensures.value at says in
+    rw words (c.run.result, ends, same)
