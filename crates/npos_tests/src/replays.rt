@@ -340,6 +340,10 @@ fn an_account_has_at_most_32_chunks(rt: HostRuntime) -> Result<(), Fail> {
 #[test]
 fn laws_are_called() {
     laws::replays_seat_sound_committees();
+    laws::replays_seat_each_round();
+    laws::replays_settle_deposits();
+    laws::replays_crowd_nothing_out();
+    laws::replays_keep_the_bounds_of_eras();
     laws::one_answer();
     laws::one_replay();
     laws::every_input_has_a_replay();

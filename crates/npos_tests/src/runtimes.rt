@@ -75,10 +75,14 @@ fn a_runtime_tells_its_parts(rt: HostRuntime) -> Result<(), Fail> {
 
 #[test]
 fn the_laws_hold(_rt: HostRuntime) {
+    laws::every_history_starts_ready();
     laws::every_seated_committee_is_sound();
     laws::every_open_round_seats_a_committee();
+    laws::every_round_ends_as_it_began();
     laws::deposits_are_held();
     laws::each_deposit_has_one_fate();
+    laws::deposits_are_settled();
+    laws::nothing_valid_is_crowded_out_for_free();
     laws::each_round_is_decided_once();
     laws::eras_follow_the_blocks();
     laws::payouts_are_within_the_reward();
