@@ -1,5 +1,5 @@
 -- The members of a committee in rising order.
-use Rattle.std.proofs.Common.{◌≡◌, ℕ, zero, suc, ◌+◌, ◌<◌, ◌≤◌, Bool, true, false, cond, nat_eq, ◌||◌, All, List, [], ◌∷◌, ◌++◌, filter, map, take, get_or, slice_get, Some, length, refl, sym, ◌∙◌, ap, ap₂, arith, IsPermutation}
+use Rattle.std.proofs.Common.{◌≡◌, ◌↔◌, ℕ, zero, suc, ◌+◌, ◌<◌, ◌≤◌, Bool, true, false, cond, nat_eq, ◌||◌, All, List, [], ◌∷◌, ◌++◌, filter, map, take, get_or, slice_get, Some, length, refl, sym, ◌∙◌, ap, ap₂, arith, IsPermutation}
 use Rattle.std.specs.List.{range_with_len, AllPairs}
 use Rattle.std.specs.List.Sorted.{IsStrictlyIncreasing}
 use Rattle.std.proofs.lemmas.Bool.Decides.{nat_tests}
@@ -93,3 +93,7 @@ pub stands_at : {A : Type 0} (xs : List A) (i : ℕ) (x d : A) → slice_get xs 
 stands_at [] i x d e = absurd (cc)
 stands_at (y ∷ ys) zero x d e = cc
 stands_at (y ∷ ys) (suc i) x d e = stands_at ys i x d e
+
+-- from what is the same as another thing to that other
+pub back : {A B : Type 0} → A ↔ B → B → A
+back (to, from) = from
