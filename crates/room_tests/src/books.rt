@@ -230,7 +230,10 @@ fn stake_is_minted(rt: HostRuntime) -> Result<(), Fail> {
 fn opening_mints(alloc: Global) -> Result<(u64, bool), LedgerRefusal> {
     let mut book = Book::new(alloc);
     book.mint_from(0, SECOND, 7)?;
-    let refused = matches!(book.mint_from(0, FIRST, u64::MAX), Err(LedgerRefusal::IssuanceCap));
+    let refused = matches!(
+        book.mint_from(0, FIRST, u64::MAX),
+        Err(LedgerRefusal::IssuanceCap)
+    );
     Ok((book.free(SECOND), refused && !book.knows(FIRST)))
 }
 

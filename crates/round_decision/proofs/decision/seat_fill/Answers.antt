@@ -12,11 +12,11 @@ use Rattle.round_decision.proofs.decision.seat_fill.Goals as goal
 pub seat-requires : goal.seat-requires
 seat-requires c =
     let is_filled : c.in_ok-weights.weights.plain ≡ filled c.args.checker =
-        c.in_ok-weights.ensures.filled ∙ ap filled c.snapshot-2.ensures in
+    c.in_ok-weights.ensures.filled ∙ ap filled c.snapshot-2.ensures in
     let yes : verdict_plain c.args.checker (filled c.args.checker) ≡ Yes =
-        back (c.a_plain_yes_is_passing.ensures c.args.checker (filled c.args.checker))
-        (c.every_fill_passes.ensures c.args.checker
-        (subst IsWellFormed c.snapshot.ensures c.seats-seats.ensures.well_formed)) in
+    back (c.a_plain_yes_is_passing.ensures c.args.checker (filled c.args.checker))
+    (c.every_fill_passes.ensures c.args.checker
+    (subst IsWellFormed c.snapshot.ensures c.seats-seats.ensures.well_formed)) in
     subst (λ (weights : Weights). verdict_plain c.args.checker weights ≡ Yes) (sym is_filled) yes
 
 pub returns-clause-weights : goal.returns-clause-weights
