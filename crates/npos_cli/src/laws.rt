@@ -27,7 +27,6 @@ pub fn replays_seat_sound_committees()
 /// Where a block of a replay takes the snapshot of a round, the block of its decision seats exactly
 /// one committee, elected from that very snapshot; or its line told that there were too few targets
 /// or too little stake, and nobody is seated.
-#[tactic(auto, using(crate::proofs::SeatLaws::rounds_seated))]
 pub fn replays_seat_each_round()
     ensures { (bytes : List ℕ) → RoundsAreSeated bytes }
 {
@@ -37,7 +36,6 @@ pub fn replays_seat_each_round()
 /// Wherever a replay has come, what is held of an account is the deposits of its submissions that
 /// wait. Accepted submissions have the numbers from 1 on without gaps; each waits or was settled
 /// once, and by the time its round is decided it is settled for good.
-#[tactic(auto, using(crate::proofs::BookLaws::deposits_kept))]
 pub fn replays_settle_deposits()
     ensures { (bytes : List ℕ) → DepositsAreKept bytes }
 {
