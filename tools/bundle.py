@@ -11,12 +11,12 @@ from scale import BadInput, Reader, compact, spelt_list
 MOST_SEATS = 512
 MOST_TARGETS = 2048
 MOST_VOTERS = 16384
-MOST_VOTES = 16
+MOST_VOTES = 24
 MOST_SPELT_VOTES = 64
 MOST_EDGES = 262144
 MOST_SOLUTION_BYTES = 2097152
 MOST_BYTES = 16777216
-GROUPS = 16
+PLAIN_GROUPS, WIDE_GROUPS, WIDE_MARK = 16, 24, b'\xff'  # the lists of the two forms of a solution
 
 Score = Tuple[int, int, int]
 Edge = Tuple[int, int, int]
@@ -87,9 +87,9 @@ def bundle_of_bytes(data: bytes) -> Bundle:
     reader = Reader(data, 'the bundle')
 
     def voter() -> Voter:
-        return Voter(reader.take(32), reader.compact(8), tuple(reader.many(MOST_SPELT_VOTES, lambda: reader.compact(2))))
+        return Voter(reader.take(32), reader.compact(64), tuple(reader.many(MOST_SPELT_VOTES, lambda: reader.compact(16))))
 
-    seats = reader.compact(4)
+    seats = reader.compact(32)
     targets = reader.many(MOST_TARGETS, lambda: reader.take(32))
     voters = reader.many(MOST_VOTERS, voter)
     bundle = Bundle(seats, targets, voters, work_of(reader))
@@ -103,10 +103,10 @@ def work_of(reader: Reader) -> Work:
     if tag == 0:
         return None
     if tag == 1:
-        claim = reader.compact(8), reader.compact(8), reader.fixed(16)
+        claim = reader.compact(64), reader.compact(64), reader.fixed(16)
         return Packed(claim, reader.take(reader.length(MOST_SOLUTION_BYTES)))
-    committee = reader.many(MOST_TARGETS, lambda: reader.compact(2))
-    return Plain(committee, reader.many(MOST_EDGES, lambda: (reader.compact(4), reader.compact(2), reader.compact(8))))
+    committee = reader.many(MOST_TARGETS, lambda: reader.compact(16))
+    return Plain(committee, reader.many(MOST_EDGES, lambda: (reader.compact(32), reader.compact(16), reader.compact(64))))
 
 
 # ## In JSON

@@ -11,9 +11,9 @@ from dataclasses import dataclass, field
 from typing import Any, Dict, List, NamedTuple, Optional, Tuple
 
 from accounts import Naming, account_of
-from bundle import (GROUPS, MOST_SOLUTION_BYTES, MOST_VOTERS, MOST_VOTES, Bundle, Packed, Score, Voter, fault_of, json_of)
+from bundle import (MOST_SOLUTION_BYTES, MOST_VOTERS, MOST_VOTES, WIDE_GROUPS, Bundle, Packed, Score, Voter, fault_of, json_of)
 from scale import BadInput, Reader, spelt_list
-from weights import Entry, Weights, expand, score_of, solution_bytes, take_entries
+from weights import Entry, Weights, expand, groups_bytes, score_of, solution_bytes, take_entries
 
 MOST_LISTED = 1 << 20  # how long a list of a chain may be before its reading is given up
 
@@ -242,9 +242,9 @@ def add_solution(moved: Moved, raw: RawSolution, own_score: bool) -> None:
     """Puts a chain's solution into the bundle as its work, with the chain's claim or its own score here."""
     entries, words = moved_entries(moved, raw.entries)
     widest = max((len(entry.targets()) for entry in entries), default=0)
-    if widest > GROUPS:
-        raise BadInput(f'an entry of the solution has {widest} targets, which do not fit: it has at most {GROUPS}')
-    longest = max((sum(1 for entry in entries if len(entry.shares) == j) for j in range(GROUPS)), default=0)
+    if widest > WIDE_GROUPS:
+        raise BadInput(f'an entry of the solution has {widest} targets, which do not fit: it has at most {WIDE_GROUPS}')
+    longest = max((sum(1 for entry in entries if len(entry.shares) == j) for j in range(WIDE_GROUPS)), default=0)
     if longest > MOST_VOTERS:
         raise BadInput(f'a group of {longest:,} entries does not fit: there are at most {MOST_VOTERS:,} voters')
     solution = solution_bytes(entries)
@@ -284,4 +284,4 @@ def snapshot_bytes(snapshot: RoundSnapshot) -> bytes:
 def raw_solution_bytes(raw: RawSolution, groups: int) -> bytes:
     """The spelling of a solution with its claim and its round."""
     score = b''.join(part.to_bytes(16, 'little') for part in raw.score)
-    return solution_bytes(raw.entries, groups) + score + raw.round.to_bytes(4, 'little')
+    return groups_bytes(raw.entries, groups) + score + raw.round.to_bytes(4, 'little')

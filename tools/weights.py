@@ -6,7 +6,7 @@ from __future__ import annotations
 
 from typing import Dict, List, NamedTuple, Optional, Set, Tuple
 
-from bundle import GROUPS, MOST_VOTERS, Bundle, Edge, Packed, Plain, Score
+from bundle import MOST_VOTERS, PLAIN_GROUPS, WIDE_GROUPS, WIDE_MARK, Bundle, Edge, Packed, Plain, Score
 from scale import REASONS, Misspelt, Reader, compact, spelt_list
 
 WHOLE = 65535  # a whole stake in parts
@@ -36,20 +36,37 @@ class Weights(NamedTuple):
 def take_entries(reader: Reader, groups: int, most: int = MOST_VOTERS) -> List[Entry]:
     """The entries of a solution with so many groups, which stands next; those of group j have j targets."""
     def entry(listed: int) -> Entry:
-        voter = reader.compact(4)
-        shares = tuple((reader.compact(2), reader.compact(2)) for _ in range(listed))
-        return Entry(voter, shares, reader.compact(2))
+        voter = reader.compact(32)
+        shares = tuple((reader.compact(16), reader.compact(16)) for _ in range(listed))
+        return Entry(voter, shares, reader.compact(16))
 
     return [one for j in range(groups) for one in reader.many(most, lambda: entry(j))]
 
 
-def solution_bytes(entries: List[Entry], groups: int = GROUPS) -> bytes:
-    """The spelling of a solution; entries with as many targets keep their order."""
+def groups_bytes(entries: List[Entry], groups: int) -> bytes:
+    """The spelling of so many groups; entries with as many targets keep their order."""
     spelt: List[List[bytes]] = [[] for _ in range(groups)]
     for entry in entries:
         shares = [compact(target) + compact(share) for target, share in entry.shares]
         spelt[len(shares)].append(b''.join([compact(entry.voter), *shares, compact(entry.last)]))
     return b''.join(map(spelt_list, spelt))
+
+
+def solution_bytes(entries: List[Entry]) -> bytes:
+    """The spelling of a solution: plain, or wide behind its mark where an entry has more than 16 targets."""
+    if any(len(entry.shares) >= PLAIN_GROUPS for entry in entries):
+        return WIDE_MARK + groups_bytes(entries, WIDE_GROUPS)
+    return groups_bytes(entries, PLAIN_GROUPS)
+
+
+def entries_of(solution: bytes) -> List[Entry]:
+    """The entries of a solution, plain or wide."""
+    reader = Reader(solution, 'the solution')
+    is_wide = solution.startswith(WIDE_MARK)
+    reader.take(len(WIDE_MARK) if is_wide else 0)
+    entries = take_entries(reader, WIDE_GROUPS if is_wide else PLAIN_GROUPS)
+    reader.end()
+    return entries
 
 
 def entry_fault(bundle: Bundle, entry: Entry, seen: Set[int]) -> Optional[Verdict]:
@@ -81,9 +98,7 @@ def edges_of(entry: Entry, stake: int) -> List[Edge]:
 def expand(bundle: Bundle, solution: bytes) -> Tuple[Optional[Weights], Verdict]:
     """The weights that a solution stands for, with (0,); or None with the verdict on its bytes or an entry."""
     try:
-        reader = Reader(solution, 'the solution')
-        entries = take_entries(reader, GROUPS)
-        reader.end()
+        entries = entries_of(solution)
     except Misspelt as fault:
         return None, (1, fault.at, REASONS[fault.why])
     seen: Set[int] = set()

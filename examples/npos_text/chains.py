@@ -24,9 +24,10 @@ class Told(NamedTuple):
 
 def stream_of(data: bytes) -> Reading:
     """The stream that the bytes spell, or its front where they are damaged further on."""
-    reading = Reading(data, is_bundle=False)
-    if reading.fault and not Reading(data, is_bundle=True).fault:
-        raise Fault('these bytes are a bundle, and a stream was expected')
+    reading = Reading(data, 'stream')
+    for other in ('bundle', 'pool') if reading.fault else ():
+        if not Reading(data, other).fault:
+            raise Fault(f'these bytes are a {other}, and a stream was expected')
     return reading
 
 

@@ -9,6 +9,7 @@ from .reading import Line, Reading
 from .scale import Entry, Fault, account, byte_list, compact, entries_of, listed, score, solution
 
 WHOLE = 65_535
+MOST_VOTES = 24
 
 
 @dataclass
@@ -44,8 +45,8 @@ class Election:
         if len(set(self.targets)) < count or len(set(names)) < len(names) or self.total >> 64:
             return 'an account stands twice among the targets or the voters, or the stakes sum to 2^64 or more'
         for number, voter in enumerate(self.voters):
-            if voter.stake == 0 or not 1 <= len(voter.votes) <= 16 or len(set(voter.votes)) < len(voter.votes):
-                return f'voter {number} has no stake, or not 1 to 16 different votes'
+            if voter.stake == 0 or not 1 <= len(voter.votes) <= MOST_VOTES or len(set(voter.votes)) < len(voter.votes):
+                return f'voter {number} has no stake, or not 1 to {MOST_VOTES} different votes'
             if max(voter.votes) >= count:
                 return f'voter {number} votes for {max(voter.votes)}, and there are {count} targets'
         if not 1 <= self.seats <= 512 or count < self.seats or self.total < self.seats ** 2:
@@ -134,17 +135,17 @@ class Bundle:
             return None
         if self.work == ['plain']:
             return plain_weights(self.election, self.committee, self.edges)
-        words = self.work[4:]
-        if words[0].startswith('hex:'):
+        words = self.work[4:][self.work[4] == 'wide':]
+        if words[:1] and words[0].startswith('hex:'):
             return expanded(self.election, entries_of(hex_of(words[0][4:])))
         return expanded(self.election, [entry_of(word) for word in words])
 
 
 def bundle_of(data: bytes) -> Bundle:
     """The bundle that the bytes spell, of an election that there is."""
-    reading = Reading(data, is_bundle=True)
+    reading = Reading(data, 'bundle')
     if reading.fault:
-        hint = '' if Reading(data, is_bundle=False).fault else '; these bytes are a stream, and a bundle was expected'
+        hint = '' if Reading(data, 'stream').fault else '; these bytes are a stream, and a bundle was expected'
         raise Fault(f'no bundle: {reading.fault}{hint}')
     bundle = Bundle(Election(0), [])
     for line in reading.lines:

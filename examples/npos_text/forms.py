@@ -7,7 +7,7 @@ from __future__ import annotations
 import re
 from typing import Dict, List, Sequence, Tuple
 
-from .scale import Fault, Reader, Refusal, account, byte_list, compact, entries_of, score, solution
+from .scale import PLAIN, Fault, Reader, Refusal, account, byte_list, compact, entries_of, is_wide, score, solution
 
 
 def shown(text: str) -> str:
@@ -46,8 +46,8 @@ def name_of(data: bytes) -> str:
 
 def entry_of(word: str) -> Tuple[int, List[Tuple[int, int]], int]:
     """An entry `voter:target/share,..,last`."""
-    if not re.fullmatch('[0-9]+:([0-9]+/[0-9]+,){0,15}[0-9]+', word):
-        raise Fault(f'there stands {shown(word)}, and an entry voter:target/share,..,last with at most 16 targets was expected')
+    if not re.fullmatch('[0-9]+:([0-9]+/[0-9]+,){0,23}[0-9]+', word):
+        raise Fault(f'there stands {shown(word)}, and an entry voter:target/share,..,last with at most 24 targets was expected')
     voter, targets = word.split(':')
     *shares, last = targets.split(',')
     pairs = [tuple(number_of(part, 16) for part in one.split('/')) for one in shares]
@@ -111,7 +111,7 @@ class Claim(Part):
 
 
 class Solution(Part):
-    """A solution: all words that are left."""
+    """A solution: all words that are left. The word `wide` says its form where its entries leave that open."""
 
     label = 'solution'
     limit = 2_097_152
@@ -122,7 +122,8 @@ class Solution(Part):
         if first.startswith('hex:') and not others:
             data = hex_of(first[4:])
         else:
-            data = solution(map(entry_of, [first, *others]))
+            entries = others if first == 'wide' else [first, *others]
+            data = solution(map(entry_of, entries), first == 'wide')
         if len(data) > self.limit:
             raise Fault(f'there stands a solution of {len(data)} bytes, and at most {self.limit} were expected')
         return byte_list(data)
@@ -130,10 +131,12 @@ class Solution(Part):
     def read(self, reader: Reader) -> List[str]:
         data = reader.take(reader.length(self.limit))
         try:
-            words = [entry_word(*entry) for entry in entries_of(data)]
+            entries = entries_of(data)
         except Refusal:
             return ['hex:' + data.hex()]
-        return words or ['hex:' + data.hex()]
+        words = [entry_word(*entry) for entry in entries]
+        is_open = is_wide(data) and all(len(shares) < PLAIN for _, shares, _ in entries)
+        return ['wide'] * is_open + words if is_open or words else ['hex:' + data.hex()]
 
 
 class Many(Part):
@@ -172,7 +175,15 @@ KINDS: Dict[str, Tuple[Part, ...]] = {
     'transfer': (Account(), U64), 'bond': (U64,), 'bond_extra': (U64,), 'unbond': (U64,), 'rebond': (U64,), 'withdraw': (),
     'nominate': (Many(64, Account()),), 'validate': (U32,), 'chill': (), 'rebag': (Account(),),
     'put_in_front': (Account(),), 'submit': (U32, Claim(), Solution()), 'points': (Many(512, Account(), U32),),
-    'payout': (U32, Account()), 'offence': (U32, Account(), U32),
+    'payout': (U32, Account()), 'offence': (U32, Account(), U32), 'cancel_slash': (U64,),
+}
+
+# the kinds of genesis in the order of their tags, each with its params behind the endowments
+GENESES: Dict[str, Dict[str, Part]] = {'plain': {}, 'full': PARAMS, 'deferred': {**PARAMS, 'defer_eras': U32}}
+
+# the kinds of item of a pool in the order of their tags
+ITEMS: Dict[str, Tuple[Part, ...]] = {
+    'join': (U64,), 'leave': (Number(64, 'points'),), 'redeem': (), 'reward': (U64,), 'claim': (), 'slash': (U64,), 'next_era': (),
 }
 
 ENDOW = (Account(), U64)

@@ -4,7 +4,7 @@ from __future__ import annotations
 from typing import Callable, List, NamedTuple, Optional
 
 from . import forms
-from .forms import KINDS, PARAMS, read_parts
+from .forms import GENESES, ITEMS, KINDS, read_parts
 from .scale import Reader, Refusal
 
 
@@ -16,16 +16,16 @@ class Line(NamedTuple):
 
 
 class Reading:
-    """The lines that bytes stand for, up to the first part that spells nothing."""
+    """The lines that bytes stand for, a stream, a bundle or a pool's input, up to the first part that spells nothing."""
 
-    def __init__(self, data: bytes, is_bundle: bool) -> None:
+    def __init__(self, data: bytes, form: str) -> None:
         self.lines: List[Line] = []
         self.fault: Optional[Refusal] = None
         # where the next line begins, and its first word, once it is begun
         self.rest, self.next = 0, ''
         self.reader = Reader(data)
         try:
-            self.take_bundle() if is_bundle else self.take_stream()
+            {'stream': self.take_stream, 'bundle': self.take_bundle, 'pool': self.take_pool}[form]()
             self.rest, self.next = self.reader.at, 'nothing'
             self.reader.end()
         except Refusal as refusal:
@@ -44,12 +44,12 @@ class Reading:
     def take_stream(self) -> None:
         """Reads a genesis, and blocks until the end."""
         reader = self.reader
-        self.add('genesis', lambda: ['genesis', ['plain', 'full'][reader.tag(2)]])
-        is_full = self.lines[0].words[1] == 'full'
+        self.add('genesis', lambda: ['genesis', list(GENESES)[reader.tag(len(GENESES))]])
+        params = GENESES[self.lines[0].words[1]]
         for _ in range(reader.length(forms.ENDOWMENTS)):
             self.add_parts('endow', *forms.ENDOW)
-        for name in PARAMS if is_full else ():
-            self.add_parts(name, PARAMS[name])
+        for name, part in params.items():
+            self.add_parts(name, part)
         while self.has_block():
             for _ in range(reader.length(forms.CALLS)):
                 self.add('call', self.call)
@@ -64,6 +64,27 @@ class Reading:
         who = read_parts([forms.Account()], self.reader)
         kind = list(KINDS)[self.reader.tag(len(KINDS))]
         return ['call', *who, kind, *read_parts(KINDS[kind], self.reader)]
+
+    def take_pool(self) -> None:
+        """Reads endowments, the pool's account and its bonding, and items until the end. The account stands first in the text."""
+        for _ in range(self.reader.length(forms.ENDOWMENTS)):
+            self.add_parts('endow', *forms.ENDOW)
+        self.add_parts('pool', forms.Account())
+        self.lines.insert(0, self.lines.pop())
+        self.add_parts('bonding_eras', forms.U32)
+        while self.has_item():
+            pass
+
+    def has_item(self) -> bool:
+        """Reads an item, or the end."""
+        self.add('item', lambda: self.item() if self.reader.tag(2) else ['end'])
+        return self.lines[-1].words[0] == 'item'
+
+    def item(self) -> List[str]:
+        """The words of an item."""
+        who = read_parts([forms.Account()], self.reader)
+        kind = list(ITEMS)[self.reader.tag(len(ITEMS))]
+        return ['item', *who, kind, *read_parts(ITEMS[kind], self.reader)]
 
     def take_bundle(self) -> None:
         """Reads an election and the work on it."""
@@ -94,6 +115,6 @@ class Reading:
         return '\n'.join(shown_lines) + '\n'
 
 
-def decode(data: bytes, is_bundle: bool) -> str:
-    """The text of a stream or a bundle, each line with its place. What has no text ends in a line of bytes."""
-    return Reading(data, is_bundle).text()
+def decode(data: bytes, form: str) -> str:
+    """The text of a stream, a bundle or a pool's input, each line with its place. What has no text ends in a line of bytes."""
+    return Reading(data, form).text()

@@ -7,28 +7,30 @@ from typing import Dict, List
 from .forms import shown
 from .scale import Fault
 
-# why a call is refused
+# why a call, or an item of a pool, is refused; 34 is not used
 REFUSALS: Dict[int, str] = dict(enumerate([
     'not enough free stake, or none active', 'not bonded', 'bonded already', 'below the least bond',
     'no more chunks: 32 stand', 'no chunk', 'the value is 0', 'the account itself', 'more than may ever be issued',
-    'no target', 'more than 16 targets', 'a target twice', 'a target is no validator, or the caller',
+    'no target', 'more than 24 targets', 'a target twice', 'a target is no validator, or the caller',
     '2,048 others are validators', 'a fraction that is 0 or above 10^9, or a commission above it', 'the account has no role',
     'the account is in its bag already', 'the two are in different bags', 'not heavier',
     'not better than the last of a full queue', 'no such era', 'the era is not over', 'not a member of that era',
     'paid already', 'not more than what was reported before', 'no points', 'not the root', 'not in a signed phase',
-    'another round', 'the solution is too long'], 1))
+    'another round', 'the solution is too long', 'no slash of this number waits', '256 slashes wait already', 'no member of the pool',
+    '', 'more points than stay', 'no leave is due', '4,096 others are members', 'no more leaves: 32 stand',
+    'the pool has points and no stake', 'points of 2^64 or more', 'nobody stays in the pool', 'nothing is credited', 'the last era'], 1))
 
 GENESIS: Dict[int, str] = dict(enumerate([
     'the account of this endowment stands earlier', 'the endowments up to this one sum above 2^63 - 1',
     'the seats are not 1 to 512', 'the phases do not fit an era of so many blocks', 'bonding_eras is not 1 to 84',
     'least_bond is 0', 'this threshold is 0 or not above the one before it', 'queue is not 1 to 16',
-    'solution_max is not 1 to 2,097,152'], 1))
+    'solution_max is not 1 to 2,097,152', 'defer_eras is not below bonding_eras', 'the account of this endowment is the pool'], 1))
 
 SNAPSHOT: Dict[int, str] = dict(enumerate([
     'fewer targets than seats', 'the total is below seats times seats', 'the account of this target stands already',
     'the account of this voter stands already', 'this voter votes for a position that is no target',
     'this voter votes twice for a target', 'this voter has no vote', 'this voter has no stake', 'too many targets',
-    'too many voters', 'this voter has more than 16 votes', 'the stakes sum to 2^64 or more up to this voter',
+    'too many voters', 'this voter has more than 24 votes', 'the stakes sum to 2^64 or more up to this voter',
     'the seats are 0 or above 512'], 1))
 
 # the reasons of bytes that spell no value, in the order of their numbers
@@ -47,10 +49,10 @@ FAULTS: Dict[str, str] = {
 # what each line looks like, where N is a number and H an account
 LINES: List[str] = [
     'block N', 'era N', 'snapshot N targets N voters N total N', 'void N (few|poor)', 'forfeit N N verdict W', 'return N N',
-    'reward N N', 'seat N (signed N|fill)', '(member|paid|slashed) H N', 'call N (ok|refused ([1-9]|[12][0-9]|30))',
-    'end free N active N unlocking N deposits N minted N burned N issuance N',
+    'reward N N', 'seat N (signed N|fill)', '(member|paid|slashed) H N', 'call N (ok|refused ([1-9]|[123][0-9]|4[0-3]))', 'deferred N N', 'apply N',
+    'end free N active N unlocking N deposits N minted N burned N issuance N', 'pool points N active N pot N credits N',
     'fault N (short|notshortest|toowide|badtag|toomany|trailing|nosolution|json|shape|long)', 'fault N number due N found N',
-    'fault 0 genesis [1-9] N', 'fault 0 snapshot ([1-9]|1[0-3]) N( N)?', 'score N N N', 'solution [0-9a-f]*', 'lost N', 'verdict W',
+    'fault 0 genesis ([1-9]|1[01]) N', 'fault 0 snapshot ([1-9]|1[0-3]) N( N)?', 'score N N N', 'solution [0-9a-f]*', 'lost N', 'verdict W',
     'demo targets N voters N total N', '(fill|seq) score N N N verdict W', 'seq lost N',
 ]
 LINE = re.compile('|'.join(LINES).replace('W', '(0|1 N [1-6]|[23458] N|(6|10) N N|(7|11) N|9 N N N)')

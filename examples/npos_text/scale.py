@@ -8,7 +8,8 @@ Item = TypeVar('Item')
 # an entry of a solution: the voter, each listed target with its share, and the last target, which gets the rest
 Entry = Tuple[int, Sequence[Tuple[int, int]], int]
 
-GROUPS = 16
+# the lists of the two forms of a solution, and the byte before the wide one
+PLAIN, WIDE, WIDE_MARK = 16, 24, b'\xff'
 GROUP_LIMIT = 16_384
 
 
@@ -59,13 +60,16 @@ def listed(items: Iterable[bytes]) -> bytes:
     return compact(len(spelled)) + b''.join(spelled)
 
 
-def solution(entries: Iterable[Entry]) -> bytes:
-    """A solution of entries, each in the list of its number of targets."""
-    groups: List[List[bytes]] = [[] for _ in range(GROUPS)]
+def solution(entries: Iterable[Entry], is_wide: bool = False) -> bytes:
+    """A solution of entries, each in the list of its number of targets. It is wide where that is asked for, or where an entry
+    has more than 16 targets."""
+    groups: List[List[bytes]] = [[] for _ in range(WIDE)]
     for voter, shares, last in entries:
         parts = b''.join(compact(target) + compact(share) for target, share in shares)
         groups[len(shares)].append(compact(voter) + parts + compact(last))
-    return b''.join(map(listed, groups))
+    if is_wide or any(groups[PLAIN:]):
+        return WIDE_MARK + b''.join(map(listed, groups))
+    return b''.join(map(listed, groups[:PLAIN]))
 
 
 # ## Reading
@@ -76,10 +80,14 @@ class Reader:
     def __init__(self, data: bytes) -> None:
         self.data, self.at = data, 0
 
+    def refusal(self, at: int, why: str) -> Fault:
+        """What is raised of the part at this place."""
+        return Refusal(at, why)
+
     def take(self, count: int) -> bytes:
         """So many bytes as they are."""
         if self.at + count > len(self.data):
-            raise Refusal(self.at, 'short')
+            raise self.refusal(self.at, 'short')
         self.at += count
         return self.data[self.at - count:self.at]
 
@@ -88,7 +96,7 @@ class Reader:
         at = self.at
         found = self.take(1)[0]
         if found >= count:
-            raise Refusal(at, 'badtag')
+            raise self.refusal(at, 'badtag')
         return found
 
     def compact(self, bits: int = 64) -> int:
@@ -99,15 +107,15 @@ class Reader:
         if mode == 3:
             width = (first >> 2) + 5
             if 8 * (width - 1) > bits:
-                raise Refusal(at, 'toowide')
+                raise self.refusal(at, 'toowide')
         if at + width > len(self.data):
-            raise Refusal(at, 'short')
+            raise self.refusal(at, 'short')
         self.at = at + width
         value = int.from_bytes(self.data[at:self.at], 'little') >> (8 if mode == 3 else 2)
         if value < (0, 1 << 6, 1 << 14, 1 << 30)[mode] or mode == 3 and self.data[self.at - 1] == 0:
-            raise Refusal(at, 'notshortest')
+            raise self.refusal(at, 'notshortest')
         if value >> bits:
-            raise Refusal(at, 'toowide')
+            raise self.refusal(at, 'toowide')
         return value
 
     def length(self, limit: int) -> int:
@@ -115,7 +123,7 @@ class Reader:
         at = self.at
         count = self.compact(32)
         if count > limit:
-            raise Refusal(at, 'toomany')
+            raise self.refusal(at, 'toomany')
         return count
 
     def many(self, limit: int, one: Callable[[], Item]) -> List[Item]:
@@ -125,18 +133,27 @@ class Reader:
     def end(self) -> None:
         """Nothing stands behind the value."""
         if self.at < len(self.data):
-            raise Refusal(self.at, 'trailing')
+            raise self.refusal(self.at, 'trailing')
+
+
+def is_wide(data: bytes) -> bool:
+    """Whether the bytes of a solution are of its wide form."""
+    return data[:1] == WIDE_MARK
 
 
 def entries_of(data: bytes) -> List[Entry]:
     """The entries of a solution's bytes."""
     reader = Reader(data)
+    groups = PLAIN
+    if is_wide(data):
+        reader.take(1)
+        groups = WIDE
 
     def entry(group: int) -> Entry:
         voter = reader.compact(32)
         shares = [(reader.compact(16), reader.compact(16)) for _ in range(group)]
         return voter, shares, reader.compact(16)
 
-    entries = [one for group in range(GROUPS) for one in reader.many(GROUP_LIMIT, lambda: entry(group))]
+    entries = [one for group in range(groups) for one in reader.many(GROUP_LIMIT, lambda: entry(group))]
     reader.end()
     return entries

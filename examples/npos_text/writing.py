@@ -4,10 +4,13 @@ from __future__ import annotations
 from typing import Callable, Dict, Iterator, List, Optional, Tuple
 
 from . import forms
-from .forms import KINDS, PARAMS, hex_of, number_of, shown, write_parts
+from .forms import GENESES, ITEMS, KINDS, hex_of, number_of, shown, write_parts
 from .scale import Fault, listed
 
 Numbered = Tuple[int, List[str]]
+
+# what a text begins with
+FIRST = 'genesis plain, genesis full, genesis deferred, bundle or pool'
 
 
 def lines_of(text: str) -> Iterator[Numbered]:
@@ -59,7 +62,7 @@ class Stream(Form):
 
     def __init__(self) -> None:
         super().__init__()
-        self.tag = 0
+        self.kind = 'plain'
         self.endowments: List[bytes] = []
         self.params: Dict[str, bytes] = {}
         self.blocks: List[Tuple[bytes, List[bytes]]] = []
@@ -68,25 +71,25 @@ class Stream(Form):
         """Takes the next line, which may be one of the params."""
         if 'end' in self.seen:
             raise Fault(f'there stands {shown(words[0])} behind the end, and nothing was expected but bytes or cut')
-        if words[0] in PARAMS:
+        if words[0] in GENESES['deferred']:
             self.number = number
             return self.take_param(*words)
         if self.number == 0 and words[0] != 'genesis':
-            raise Fault(f'there stands {shown(words[0])}, and genesis plain, genesis full or bundle was expected first')
+            raise Fault(f'there stands {shown(words[0])}, and {FIRST} was expected first')
         super().take(number, words)
 
     def take_param(self, name: str, *words: str) -> None:
         """A line of the params."""
-        if self.blocks or self.tag == 0:
-            raise Fault(f'there stands {name}, and params were expected only in a full genesis, before its blocks')
+        if self.blocks or name not in GENESES[self.kind]:
+            raise Fault(f'there stands {name}, and params were expected only in a genesis that has them, before its blocks')
         self.once(name, name)
-        self.params[name] = write_parts(name, [PARAMS[name]], words)
+        self.params[name] = write_parts(name, [GENESES[self.kind][name]], words)
 
     def on_genesis(self, words: List[str]) -> None:
         self.once('genesis', 'genesis')
-        if words not in (['plain'], ['full']):
-            raise Fault(f'genesis needs: plain or full; there stands: {shown(" ".join(words))}')
-        self.tag = ['plain', 'full'].index(words[0])
+        if len(words) != 1 or words[0] not in GENESES:
+            raise Fault(f'genesis needs: plain, full or deferred; there stands: {shown(" ".join(words))}')
+        self.kind = words[0]
 
     def on_endow(self, words: List[str]) -> None:
         if self.blocks:
@@ -117,16 +120,65 @@ class Stream(Form):
 
     def must_be_whole(self) -> None:
         """The genesis has all its params."""
-        if self.tag == 1:
-            self.must_have(*PARAMS)
+        self.must_have(*GENESES[self.kind])
 
     def spelled(self, is_whole: bool) -> bytes:
         """The bytes; a whole stream has its end."""
         self.must_be_whole()
         if is_whole:
             self.must_have('end')
-        out = [bytes([self.tag]), listed(self.endowments), *(self.params[name] for name in PARAMS if self.tag)]
+        out = [bytes([list(GENESES).index(self.kind)]), listed(self.endowments), *(self.params[name] for name in GENESES[self.kind])]
         out += [b'\x01' + number + listed(calls) for number, calls in self.blocks]
+        return b''.join(out) + (b'\x00' if 'end' in self.seen else b'')
+
+
+class Pool(Form):
+    """The genesis of a stake pool and its items."""
+
+    def __init__(self) -> None:
+        super().__init__()
+        self.account = self.bonding = b''
+        self.endowments: List[bytes] = []
+        self.items: List[bytes] = []
+
+    def must_come_first(self, word: str) -> None:
+        """The line stands before the items and the end."""
+        if self.items or 'end' in self.seen:
+            raise Fault(f'there stands {word}, which was expected before the items alone')
+
+    def on_pool(self, words: List[str]) -> None:
+        self.once('pool', 'pool')
+        self.account = write_parts('pool', [forms.Account()], words)
+
+    def on_bonding_eras(self, words: List[str]) -> None:
+        self.must_come_first('bonding_eras')
+        self.once('bonding_eras', 'bonding_eras')
+        self.bonding = write_parts('bonding_eras', [forms.U32], words)
+
+    def on_endow(self, words: List[str]) -> None:
+        self.must_come_first('endow')
+        self.endowments.append(write_parts('endow', forms.ENDOW, words))
+        must_be_few(len(self.endowments), forms.ENDOWMENTS, 'endowments')
+
+    def on_item(self, words: List[str]) -> None:
+        self.must_have('bonding_eras')
+        if 'end' in self.seen:
+            raise Fault('there stands item behind the end, and nothing was expected but bytes or cut')
+        if len(words) < 2:
+            raise Fault(f'item needs: account kind ..; there stands: {shown(" ".join(words))}')
+        who, kind, *rest = words
+        if kind not in ITEMS:
+            raise Fault(f'there stands {shown(kind)}, and a kind of item was expected: {", ".join(ITEMS)}')
+        self.items.append(forms.account_of(who) + bytes([list(ITEMS).index(kind)]) + write_parts(kind, ITEMS[kind], rest))
+
+    def on_end(self, words: List[str]) -> None:
+        write_parts('end', (), words)
+        self.once('end', 'end')
+
+    def spelled(self, is_whole: bool) -> bytes:
+        """The bytes; a whole input has its end."""
+        self.must_have('bonding_eras', *['end'] * is_whole)
+        out = [listed(self.endowments), self.account, self.bonding, *(b'\x01' + item for item in self.items)]
         return b''.join(out) + (b'\x00' if 'end' in self.seen else b'')
 
 
@@ -224,7 +276,7 @@ def encode(text: str) -> bytes:
     """The bytes of a text. Lines `bytes HEX` and `cut NUMBER` at the end make damaged inputs."""
     lines = list(lines_of(text))
     if not lines:
-        raise Fault('line 1: there stands nothing, and bundle, genesis plain or genesis full was expected')
+        raise Fault(f'line 1: there stands nothing, and {FIRST} was expected')
     first = next((at for at, (_, words) in enumerate(lines) if words[0] in ('bytes', 'cut')), len(lines))
     body, tail = lines[:first], lines[first:]
     for number, words in tail:
@@ -232,7 +284,7 @@ def encode(text: str) -> bytes:
             raise Fault(f'line {number}: there stands {shown(words[0])} behind bytes or cut, and only such lines were expected')
     if not body:
         return damaged(b'', tail)
-    form = Bundle() if body[0][1][0] == 'bundle' else Stream()
+    form = {'bundle': Bundle, 'pool': Pool}.get(body[0][1][0], Stream)()
     number = len(text.splitlines())
     try:
         for number, words in body:

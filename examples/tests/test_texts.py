@@ -1,4 +1,5 @@
 """Texts and their bytes: worked bytes, what encode refuses, what decode says of damaged bytes, and both ways of all examples."""
+import pathlib
 from typing import Tuple
 
 from support import EXAMPLES, TOP, Scripts, account, run
@@ -31,12 +32,14 @@ era_reward 1000'''
 
 BUNDLE = 'bundle\nseats 1\ntarget @1\nvoter @2 5 0\n'
 GENESIS = 'genesis plain\nendow @1 100\n'
+POOL = 'pool @9\nbonding_eras 1\nendow @1 100\n'
 
 # a text, and the sentence with which it is refused
+FIRST = 'genesis plain, genesis full, genesis deferred, bundle or pool'
 REFUSED = [
-    ('', 'line 1: there stands nothing, and bundle, genesis plain or genesis full was expected'),
-    ('hello', 'line 1: there stands hello, and genesis plain, genesis full or bundle was expected first'),
-    ('genesis', 'line 1: genesis needs: plain or full; there stands: nothing'),
+    ('', f'line 1: there stands nothing, and {FIRST} was expected'),
+    ('hello', f'line 1: there stands hello, and {FIRST} was expected first'),
+    ('genesis', 'line 1: genesis needs: plain, full or deferred; there stands: nothing'),
     (GENESIS + 'block 1\ncall @1 transfer @2\nend', 'line 4: transfer needs: account number; there stands: @2'),
     (GENESIS + 'block 1\ncall @1 points @1\nend', 'line 4: points needs: account number ..; there stands: @1'),
     (GENESIS + 'block 1\ncall @1 chill 5\nend', 'line 4: chill needs: nothing more; there stands: 5'),
@@ -49,7 +52,11 @@ REFUSED = [
     (f'genesis plain\nendow @1 {1 << 64}\nend',
      'line 2: there stands 18446744073709551616, and a number below 2^64 was expected'),
     ('genesis plain\ngenesis plain\nend', 'line 2: there stands genesis, which stands in line 1 already'),
-    ('genesis plain\nseats 2\nend', 'line 2: there stands seats, and params were expected only in a full genesis, before its blocks'),
+    ('genesis plain\nseats 2\nend',
+     'line 2: there stands seats, and params were expected only in a genesis that has them, before its blocks'),
+    ('genesis full\ndefer_eras 2\nend',
+     'line 2: there stands defer_eras, and params were expected only in a genesis that has them, before its blocks'),
+    ('genesis deferred\n' + FULL + '\nend', 'line 15: there is no line defer_eras, which was expected'),
     (GENESIS + 'block 1\nendow @2 1\nend', 'line 4: there stands endow, which was expected before the blocks alone'),
     (GENESIS, 'line 3: there is no line end, which was expected'),
     (GENESIS + 'end\nblock 1', 'line 4: there stands block behind the end, and nothing was expected but bytes or cut'),
@@ -63,13 +70,20 @@ REFUSED = [
     (BUNDLE + 'plain\ncommittee 0\nedge 0 0', 'line 7: edge needs: voter target amount; there stands: 0 0'),
     (BUNDLE + 'edge 0 0 5', 'line 5: there stands edge, and a line plain was expected before it'),
     (BUNDLE + 'packed 5 5 25', 'line 5: packed needs: least-support sum squares solution; there stands: 5 5 25'),
-    (BUNDLE + 'packed 5 5 25 0', 'line 5: there stands 0, and an entry voter:target/share,..,last with at most 16 targets was expected'),
+    (BUNDLE + 'packed 5 5 25 0', 'line 5: there stands 0, and an entry voter:target/share,..,last with at most 24 targets was expected'),
     (BUNDLE + 'packed 5 5 25 0:70000', 'line 5: there stands 70000, and a number below 2^16 was expected'),
     (BUNDLE + 'packed 5 5 25 hex:0', 'line 5: there stands 0, and hexadecimal digits, two a byte, were expected'),
     (BUNDLE + 'seats 1\nnothing', 'line 5: there stands seats, which stands in line 2 already'),
     (BUNDLE + 'nothing\nbytes 00\nseats 1', 'line 7: there stands seats behind bytes or cut, and only such lines were expected'),
     (BUNDLE + 'nothing\ncut 1000', 'line 6: there stands 1000, and at most the 71 bytes before it were expected'),
     (BUNDLE + 'nothing\nbytes 0', 'line 6: there stands 0, and hexadecimal digits, two a byte, were expected'),
+    ('pool @9\nitem @1 join 5\nend', 'line 2: there is no line bonding_eras, which was expected'),
+    (POOL + 'item @1 join\nend', 'line 4: join needs: number; there stands: nothing'),
+    (POOL + 'item @1 bond 5\nend',
+     'line 4: there stands bond, and a kind of item was expected: join, leave, redeem, reward, claim, slash, next_era'),
+    (POOL + 'item @1 redeem\nendow @2 5\nend', 'line 5: there stands endow, which was expected before the items alone'),
+    (POOL + 'end\nitem @1 redeem', 'line 5: there stands item behind the end, and nothing was expected but bytes or cut'),
+    (POOL + 'item @1 redeem', 'line 5: there is no line end, which was expected'),
 ]
 
 
@@ -95,6 +109,14 @@ class Bytes(Scripts):
         self.assertEqual(encode('genesis full\n' + FULL + '\nend').hex(), '0100' + ''.join(PARAMS.split()) + '00')
         work = encode(BUNDLE + 'packed 3 10 58 0:0/21845,1')
         self.assertTrue(work.hex().endswith('000400005655010004' + '00' * 14))
+        deferred = encode('genesis deferred\n' + FULL + '\ndefer_eras 1\nblock 1\ncall @9 cancel_slash 1\nend')
+        self.assertEqual(deferred.hex(), '0200' + ''.join(PARAMS.split()) + f'04 010404{NINE}0f0400'.replace(' ', ''))
+        wide = encode(BUNDLE + 'packed 5 5 25 wide 0:0')
+        self.assertTrue(wide.hex().endswith('6cff040000' + '00' * 23), wide.hex())
+        items = 'item @1 join 60\nitem @1 leave 6\nitem @1 redeem\nitem @1 reward 1\nitem @1 claim\nitem @9 slash 5\nitem @9 next_era\n'
+        spelled = f'04{ONE}9101{NINE}04' + ''.join(
+            f'01{who}{kind}' for who, kind in [(ONE, '00f0'), (ONE, '0118'), (ONE, '02'), (ONE, '0304'), (ONE, '04'), (NINE, '0514'), (NINE, '06')])
+        self.assertEqual(encode(POOL + items + 'end').hex(), spelled + '00')
 
     def test_refused_texts(self) -> None:
         for text, sentence in REFUSED:
@@ -112,9 +134,14 @@ class Bytes(Scripts):
             if path.name.startswith('fault-') and path.with_suffix('.out').read_text().split()[-1].isalpha():
                 continue
             data = encode(path.read_text())
-            reading = Reading(data, path.parent.name != 'replay')
+            reading = Reading(data, form_of(path))
             self.assertIsNone(reading.fault, path)
             self.assertEqual(encode(reading.text()), data, path)
+
+
+def form_of(path: pathlib.Path) -> str:
+    """What the bytes of an example are."""
+    return {'replay': 'stream', 'pools': 'pool'}.get(path.parent.name, 'bundle')
 
 
 class Decoding(Scripts):
@@ -136,13 +163,14 @@ class Decoding(Scripts):
         last, said = self.decoded(data)
         self.assertEqual(last, 'bytes 07 # at 39: badtag')
         self.assertEqual(said, 'the bytes cannot be read as a stream at 39: badtag')
-        self.assertEqual(encode(Reading(data, is_bundle=False).text()), data)
+        self.assertEqual(encode(Reading(data, 'stream').text()), data)
 
     def test_hints(self) -> None:
         bundle = encode((EXAMPLES / 'check/yes.txt').read_text())
         stream = (EXAMPLES / 'transfers.scale').read_bytes()
         self.assertIn('as a bundle they can be: examples/decode bundle', self.decoded(bundle)[1])
         self.assertIn('as a stream they can be: examples/decode stream', self.decoded(stream, 'bundle')[1])
+        self.assertIn('as a pool they can be: examples/decode pool', self.decoded(encode(POOL + 'end'))[1])
 
     def test_words(self) -> None:
         self.assertIn(b'target @1', self.written('decode', 'bundle', data=encode((EXAMPLES / 'check/yes.txt').read_text())))
@@ -151,7 +179,7 @@ class Decoding(Scripts):
 class Words(Scripts):
     def test_help_and_unknown_words(self) -> None:
         paths = [EXAMPLES / name for name in ['encode', 'decode', 'rounds', 'expand', 'explain', 'generate', 'tiny-miner', 'shape', 'run']]
-        for path in [*paths, TOP / 'bench/run']:
+        for path in [*paths, TOP / 'bench/run', TOP / 'bench/failures']:
             with self.subTest(path=path.name):
                 helped = run(path, '--help')
                 self.assertEqual((helped.returncode, helped.stderr), (0, b''))

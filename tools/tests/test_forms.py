@@ -20,12 +20,12 @@ class CompactNumbers(unittest.TestCase):
     def test_published_values(self):
         for value, digits in COMPACT.items():
             self.assertEqual(compact(value).hex(), digits)
-            self.assertEqual(Reader(bytes.fromhex(digits)).compact(8), value)
+            self.assertEqual(Reader(bytes.fromhex(digits)).compact(64), value)
 
     def test_what_spells_no_number(self):
         for digits, size, why in REFUSED:
             with self.subTest(digits), self.assertRaises(Misspelt) as refused:
-                Reader(bytes.fromhex(digits)).compact(size)
+                Reader(bytes.fromhex(digits)).compact(8 * size)
             self.assertEqual((refused.exception.at, refused.exception.why), (0, why))
 
     def test_lists_tags_and_ends(self):
@@ -107,7 +107,7 @@ class Bundles(unittest.TestCase):
         one, two = read.voters
         for change in ({'seats': 0}, {'seats': 513}, {'seats': 3}, {'voters': [one._replace(stake=0)]}, {'voters': [one, one]},
                        {'voters': [one._replace(votes=())]}, {'voters': [one._replace(votes=(0, 0))]}, {'targets': read.targets[:1] * 2},
-                       {'voters': [one._replace(votes=(2,))]}, {'voters': [one._replace(votes=tuple(range(17)))]},
+                       {'voters': [one._replace(votes=(2,))]}, {'voters': [one._replace(votes=tuple(range(25)))]},
                        {'voters': [one._replace(stake=1 << 63), two._replace(stake=1 << 63)]}, {'voters': [one._replace(stake=3)]}):
             with self.subTest(change):
                 self.assertIsNotNone(bundle.fault_of(bundle.Bundle(**{**vars(read), **change})))

@@ -144,16 +144,13 @@ class FromSubstrate(unittest.TestCase):
                 (voters(2, 1 << 63) + targets(2), '2', 'a total stake of 18,446,744,073,709,551,616 does not fit: it is below 2^64'),
                 (voters(2) + targets(64), '65', '64 targets are too few for 65 seats'),
                 (voters(2) + targets(512), '400', 'too little for 400 seats'),
-                ('04' + account(7) + '09' + '00' * 7 + '44' + ''.join(map(account, range(17))) + targets(64), '2',
-                 'nominates 17 targets, which do not fit: a voter has at most 16 votes'),
+                ('04' + account(7) + '09' + '00' * 7 + '64' + ''.join(map(account, range(25))) + targets(64), '2',
+                 'nominates 25 targets, which do not fit: a voter has at most 24 votes'),
                 (voters(2) + '08' + account(3) * 2, '1', 'targets 0 and 1 of the snapshot have one account')):
             with self.subTest(says):
                 self.refused(data=bytes.fromhex(data), seats=seats, says=says)
 
     def test_a_solution_over_the_limits(self):
-        seventeen = '00' * 16 + '04' + '00' + '0004' * 16 + '04' + '00' * 7
-        self.refused('--groups', '24', '--solution', self.file('0x' + seventeen + SCORE + ROUND),
-                     says='an entry of the solution has 17 targets, which do not fit: it has at most 16')
         great = VOTES + '00' * 14 + '00' * 8 + '01' + '00' * 7 + SCORE[32:] + ROUND
         self.refused('--solution', self.file('0x' + great), says='below 2^64')
 

@@ -18,7 +18,7 @@ pub struct Voter {
     pub account: [u8; 32],
     /// Its stake in units, above 0.
     pub stake: u64,
-    /// The positions of the 1 to 16 different targets that it nominates.
+    /// The positions of the 1 to 24 different targets that it nominates.
     pub votes: Vec<u16>,
 }
 

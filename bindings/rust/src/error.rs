@@ -46,7 +46,7 @@ pub enum ElectionFault {
     TooManyTargets,
     /// There are more than 16,384 voters.
     TooManyVoters,
-    /// The voter at this position has more than 16 votes.
+    /// The voter at this position has more than 24 votes.
     TooManyVotes(u32),
     /// With the voter at this position the stakes sum to 2^64 or more.
     TotalTooLarge(u32),
@@ -105,7 +105,7 @@ impl fmt::Display for ElectionFault {
             ElectionFault::ZeroStake(voter) => write!(f, "voter {voter} has no stake"),
             ElectionFault::TooManyTargets => f.write_str("there are more than 2048 targets"),
             ElectionFault::TooManyVoters => f.write_str("there are more than 16384 voters"),
-            ElectionFault::TooManyVotes(voter) => write!(f, "voter {voter} has more than 16 votes"),
+            ElectionFault::TooManyVotes(voter) => write!(f, "voter {voter} has more than 24 votes"),
             ElectionFault::TotalTooLarge(voter) => {
                 write!(f, "with voter {voter} the stakes sum to 2^64 or more")
             }

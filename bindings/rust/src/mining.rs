@@ -68,11 +68,11 @@ pub struct Mined {
     pub verdict: Verdict,
 }
 
-/// As many bytes as the packed solution of an election may have: the lengths of its sixteen lists,
-/// and of each voter itself and two numbers for each vote, all of at most 4 bytes.
+/// As many bytes as the packed solution of an election may have: the mark of a wide one, the lengths
+/// of its 24 lists, and of each voter itself and two numbers for each vote, all of at most 4 bytes.
 fn most_bytes(election: &Election) -> usize {
     let votes: usize = election.voters.iter().map(|voter| voter.votes.len()).sum();
-    64 + 4 * election.voters.len() + 8 * votes
+    1 + 4 * 24 + 4 * election.voters.len() + 8 * votes
 }
 
 /// Has a proved miner make a committee for an election.

@@ -79,4 +79,13 @@ pub enum Line {
         who: AccountId,
         amount: u64,
     },
+    /// What an offence makes due waits under this number, for the era in which it is due.
+    Deferred {
+        number: u64,
+        due: u32,
+    },
+    /// The slash with this number is applied now.
+    Applied {
+        number: u64,
+    },
 }

@@ -64,7 +64,7 @@ genesis_further begun old more is =
     items_further (λ start end. IsGenesisHead start begun.tag begun.count end) endowment_form begun.count begun.size begun.endowments.items old more
     (λ counted head. (
       further more head.0,
-      read_grows (tag_form 2) old head.0 begun.tag more head.1,
+      read_grows (tag_form 3) old head.0 begun.tag more head.1,
       read_grows (length_form MOST_ENDOWMENTS) head.0 counted begun.count more head.2,
     )) is
 

@@ -7,6 +7,7 @@ use Rattle.scale_wire.specs.Form.{Form}
 use Rattle.scale_wire.specs.Parts.{tag_form, length_form}
 use Rattle.scale_wire.specs.Reading.{Place, IsRead, IsFault, Reads}
 use Rattle.npos_base.specs.declared.limits.TheConstants.{MOST_ENDOWMENTS}
+use Rattle.block_wire.specs.declared.limits.TheConstants.{GENESES}
 use Rattle.block_wire.specs.declared.begun_genesis.BegunGenesis.{BegunGenesis}
 use Rattle.block_wire.specs.declared.begun_genesis.GenesisStep.{GenesisStep}
 use Rattle.block_wire.specs.declared.begun_genesis.GenesisStep.TheVariants.{Whole, Stopped}
@@ -16,7 +17,7 @@ use Rattle.block_wire.specs.Begun.{behind, HasItems}
 -- here stand the head of a genesis, its tag and the count of its endowments, and then these
 abbrev pub IsGenesisHead : Place → ℕ → ℕ → Place → Type 0
 IsGenesisHead old tag count new =
-    (tagged : Place) × IsRead (tag_form 2) old tag tagged
+    (tagged : Place) × IsRead (tag_form GENESES) old tag tagged
     × IsRead (length_form MOST_ENDOWMENTS) tagged count new
 
 -- a head was read, or its bytes are refused

@@ -76,7 +76,7 @@ kinds_are = (
                             (
                               triple_laws compact_u32 account_form compact_u32 compact_u32_laws account_laws compact_u32_laws,
                               (λ values. (calls.Offence values.0 values.1 values.2, refl)),
-                              tt,
+                              (compact_u64_laws, (λ values. (calls.CancelSlash values, refl)), tt),
                             ),
                           ),
                         ),

@@ -31,6 +31,7 @@ kinds =
     ∷ fields (list (pair account_form compact_u32) MOST_POINTS)
     ∷ fields (pair compact_u32 account_form)
     ∷ fields (triple compact_u32 account_form compact_u32)
+    ∷ fields compact_u64
     ∷ []
 
 -- the tag and the fields of a kind
@@ -51,6 +52,7 @@ kind_choice (calls.Points items) = record { tag = 12; values = items }
 kind_choice (calls.Payout era validator) = record { tag = 13; values = (era, validator) }
 kind_choice (calls.Offence era validator fraction) =
     record { tag = 14; values = (era, validator, fraction) }
+kind_choice (calls.CancelSlash number) = record { tag = 15; values = number }
 
 abbrev pub kind_form : Form CallKind
 kind_form = seen (choice kinds) kind_choice

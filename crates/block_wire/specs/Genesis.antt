@@ -8,7 +8,7 @@ use Rattle.npos_base.specs.declared.limits.TheConstants.{MOST_THRESHOLDS, MOST_E
 use Rattle.block_wire.specs.declared.genesis.Endowment.{Endowment}
 use Rattle.block_wire.specs.declared.genesis.Params.{Params}
 use Rattle.block_wire.specs.declared.genesis.Genesis.{Genesis}
-use Rattle.block_wire.specs.declared.genesis.Genesis.TheVariants.{Plain, Full}
+use Rattle.block_wire.specs.declared.genesis.Genesis.TheVariants.{Plain, Full, Deferred}
 
 abbrev pub endowment_form : Form Endowment
 endowment_form =
@@ -57,13 +57,19 @@ endowments_form = list endowment_form MOST_ENDOWMENTS
 abbrev pub full_form : Form (List Endowment × Params)
 full_form = pair endowments_form params_form
 
--- the fields of the two kinds of genesis: without elections, and with them
+-- and the number of eras that a slash waits
+abbrev pub deferred_form : Form (List Endowment × Params × ℕ)
+deferred_form = triple endowments_form params_form compact_u32
+
+-- the fields of each form of a genesis: without elections, with them, and where slashes wait
 abbrev pub geneses : List Fields
-geneses = fields endowments_form ∷ fields full_form ∷ []
+geneses = fields endowments_form ∷ fields full_form ∷ fields deferred_form ∷ []
 
 abbrev pub genesis_choice : Genesis → Choice geneses
 genesis_choice (Plain endowments) = record { tag = 0; values = endowments }
 genesis_choice (Full endowments params) = record { tag = 1; values = (endowments, params) }
+genesis_choice (Deferred endowments params defer_eras) =
+    record { tag = 2; values = (endowments, params, defer_eras) }
 
 abbrev pub genesis_form : Form Genesis
 genesis_form = seen (choice geneses) genesis_choice

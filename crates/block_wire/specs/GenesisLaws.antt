@@ -11,7 +11,7 @@ use Rattle.scale_wire.specs.AccountLaws.{account_laws}
 use Rattle.block_wire.specs.Genesis.{endowment_form, head_form, tail_form, params_form, params_fields, endowments_form, geneses, genesis_choice, genesis_form}
 use Rattle.npos_base.specs.declared.limits.TheConstants.{MOST_THRESHOLDS, MOST_ENDOWMENTS}
 use Rattle.block_wire.specs.declared.genesis.Genesis.{Genesis}
-use Rattle.block_wire.specs.declared.genesis.Genesis.TheVariants.{Plain, Full}
+use Rattle.block_wire.specs.declared.genesis.Genesis.TheVariants.{Plain, Full, Deferred}
 
 pub endowment_laws : IsWire endowment_form
 endowment_laws = seen_laws (pair account_form compact_u64) (λ endowment. (endowment.who, endowment.value))
@@ -59,13 +59,22 @@ abbrev geneses_are : AreVariants geneses (HasChoice geneses genesis_choice)
 geneses_are = (
   endowments_laws,
   (λ values. (Plain values, refl)),
-  (pair_laws endowments_form params_form endowments_laws params_laws, (λ values. (Full values.0 values.1, refl)), tt),
+  (
+    pair_laws endowments_form params_form endowments_laws params_laws,
+    (λ values. (Full values.0 values.1, refl)),
+    (
+      triple_laws endowments_form params_form compact_u32 endowments_laws params_laws compact_u32_laws,
+      (λ values. (Deferred values.0 values.1 values.2, refl)),
+      tt,
+    ),
+  ),
 )
 
 genesis_back : (genesis : Genesis)
     → (given_at geneses (HasChoice geneses genesis_choice) geneses_are (genesis_choice genesis).tag (genesis_choice genesis).values).0 ≡ genesis
 genesis_back (Plain endowments) = refl
 genesis_back (Full endowments params) = refl
+genesis_back (Deferred endowments params defer_eras) = refl
 
 pub genesis_laws : IsWire genesis_form
-genesis_laws = enum_laws geneses genesis_choice geneses_are genesis_back (tag_laws 2)
+genesis_laws = enum_laws geneses genesis_choice geneses_are genesis_back (tag_laws 3)

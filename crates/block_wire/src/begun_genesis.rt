@@ -4,10 +4,12 @@ ghost use Rattle.std.specs.Prelude.{◌≡◌, ◌+◌, ◌^◌, ◌<◌, ◌≤
 ghost use Rattle.scale_wire.specs.Form.{IsBytes};
 ghost use Rattle.scale_wire.specs.Reading.{Reads};
 ghost use Rattle.block_wire.specs.Genesis.{genesis_form};
+ghost use Rattle.block_wire.specs.declared.genesis.Genesis.TheVariants.{Plain, Full, Deferred};
+ghost use Rattle.block_wire.specs.declared.begun_genesis.GenesisStep.TheVariants.{Whole};
 ghost use Rattle.block_wire.specs.BegunGenesis.{ReadsGenesisHead, OpensGenesis, IsBegunGenesis, ReadsAt, GenesisSteps};
 
 use crate::begun::read_on;
-use crate::limits::MOST_ENDOWMENTS;
+use crate::limits::{GENESES, MOST_ENDOWMENTS};
 use crate::{Endowment, Genesis, Params};
 use npos_base::List;
 use scale_wire::fault::{ReadFault, WireFault};
@@ -41,7 +43,7 @@ const LEAST_ENDOWMENT_BYTES: usize = 33;
 fn read_head(cursor: &mut Cursor<'_>) -> Result<(u8, u32), WireFault>
     ensures { ReadsGenesisHead cursor.old result cursor.new }
 {
-    let tag = cursor.take_tag(2)?;
+    let tag = cursor.take_tag(GENESES)?;
     let count = cursor.take_length(MOST_ENDOWMENTS)?;
     Ok((tag, count))
 }
@@ -94,36 +96,76 @@ fn read_at<T: Wire>(alloc: Global, bytes: &[u8], at: u64) -> Result<(T, usize), 
     Ok((value, size))
 }
 
-/// The genesis whose endowments were all read: a plain one is whole, and of a full one the
-/// parameters are read, which are few bytes and are read anew where they are cut.
-#[tactic(auto, using(crate::proofs::GenesisLemmas::plain_whole, crate::proofs::GenesisLemmas::full_whole, crate::proofs::GenesisLemmas::params_cut))]
+/// A plain genesis is whole behind its endowments.
+fn whole_plain(begun: BegunGenesis) -> GenesisStep
+    ensures { result ≡ Whole (Plain begun.endowments.items) begun.size }
+{
+    let BegunGenesis {
+        endowments,
+        size,
+        ..
+    } = begun;
+    let endowments = List::from_vec(endowments);
+    GenesisStep::Whole(Genesis::Plain { endowments }, size)
+}
+
+/// A full genesis is whole behind its parameters, which have `more` bytes.
+fn whole_full(begun: BegunGenesis, params: Params, more: usize) -> GenesisStep
+    requires { begun.size + more < 2 ^ 64 }
+    ensures { result ≡ Whole (Full begun.endowments.items params) (begun.size + more) }
+{
+    let BegunGenesis {
+        endowments,
+        size,
+        ..
+    } = begun;
+    let endowments = List::from_vec(endowments);
+    GenesisStep::Whole(Genesis::Full { endowments, params }, size + more)
+}
+
+/// A genesis whose slashes wait is whole behind the number of eras that they do.
+fn whole_deferred(begun: BegunGenesis, tail: (Params, u32), more: usize) -> GenesisStep
+    requires { begun.size + more < 2 ^ 64 }
+    ensures { result ≡ Whole (Deferred begun.endowments.items tail.0 tail.1) (begun.size + more) }
+{
+    let BegunGenesis {
+        endowments,
+        size,
+        ..
+    } = begun;
+    let endowments = List::from_vec(endowments);
+    let (params, defer_eras) = tail;
+    GenesisStep::Whole(
+        Genesis::Deferred {
+            endowments,
+            params,
+            defer_eras,
+        },
+        size + more,
+    )
+}
+
+/// The genesis whose endowments were all read: a plain one is whole. What another has behind them is
+/// few bytes, and is read anew where it is cut.
+#[tactic(auto, using(crate::proofs::GenesisLemmas::plain_whole, crate::proofs::GenesisLemmas::full_whole, crate::proofs::GenesisLemmas::params_cut, crate::proofs::GenesisLemmas::deferred_whole, crate::proofs::GenesisLemmas::tail_cut))]
 fn finish(alloc: Global, begun: BegunGenesis, bytes: &[u8], at: u64) -> GenesisStep
     requires fits { at + length bytes.now < 2 ^ 64 }
     requires begun { IsBegunGenesis begun (record { at = at; rest = bytes.now }) }
     requires filled { length begun.endowments.items ≡ begun.count }
     ensures { GenesisSteps (record { at = at; rest = bytes.now }) result }
 {
-    if begun.tag == 0 {
-        let BegunGenesis {
-            endowments,
-            size,
-            ..
-        } = begun;
-        let endowments = List::from_vec(endowments);
-        return GenesisStep::Whole(Genesis::Plain { endowments }, size);
-    }
     let (_, rest) = bytes.split_at(begun.size);
-    match read_at::<Params>(alloc, rest, at + begun.size as u64) {
-        Ok((params, more)) => {
-            let BegunGenesis {
-                endowments,
-                size,
-                ..
-            } = begun;
-            let endowments = List::from_vec(endowments);
-            GenesisStep::Whole(Genesis::Full { endowments, params }, size + more)
-        }
-        Err(fault) => GenesisStep::Stopped(Some(begun), fault),
+    let at = at + begun.size as u64;
+    match begun.tag {
+        0 => whole_plain(begun),
+        1 => match read_at::<Params>(alloc, rest, at) {
+            Ok((params, more)) => whole_full(begun, params, more),
+            Err(fault) => GenesisStep::Stopped(Some(begun), fault),
+        },
+        _ => match read_at::<(Params, u32)>(alloc, rest, at) {
+            Ok((tail, more)) => whole_deferred(begun, tail, more),
+            Err(fault) => GenesisStep::Stopped(Some(begun), fault),
+        },
     }
 }
 

@@ -5,10 +5,10 @@ ghost use Rattle.scale_wire.specs.Composite.{behind_tag};
 ghost use Rattle.block_wire.specs.Bundles.{plain_form, works, work_choice, work_form};
 
 use crate::limits::{MOST_EDGES, MOST_SOLUTION_BYTES, MOST_TARGETS, MOST_VOTERS, MOST_VOTES};
-use crate::writing::{write_fields, write_listed, write_packed};
+use crate::writing::{write_listed, write_packed};
 use npos_base::{AccountId, Edge, List, NoMemory, Score};
 use scale_wire::fault::ReadFault;
-use scale_wire::{BytesUpTo, Cursor, Pen, UpTo, Wire, write_list};
+use scale_wire::{BytesUpTo, Cursor, Pen, UpTo, Wire, write_fields, write_list};
 use std::alloc::Global;
 
 /// A voter: its stake, in units, and the positions of the targets that it votes for.

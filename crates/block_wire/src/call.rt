@@ -6,10 +6,10 @@ ghost use Rattle.block_wire.specs.Calls.{kinds, kind_choice, kind_form};
 ghost use Rattle.block_wire.specs.declared.limits.TheConstants.{KINDS};
 
 use crate::limits::{KINDS, MOST_NAMED, MOST_POINTS, MOST_SOLUTION_BYTES};
-use crate::writing::{write_fields, write_listed, write_packed};
+use crate::writing::{write_listed, write_packed};
 use npos_base::{AccountId, List, NoMemory, Score};
 use scale_wire::fault::ReadFault;
-use scale_wire::{BytesUpTo, Cursor, Pen, UpTo, Wire, write_both};
+use scale_wire::{BytesUpTo, Cursor, Pen, UpTo, Wire, write_both, write_fields};
 use std::alloc::Global;
 
 /// One call of a block, and the account that makes it.
@@ -107,6 +107,10 @@ pub enum CallKind {
         validator: AccountId,
         fraction: u32,
     },
+    /// Cancels a slash that waits, by its number; for the root alone.
+    CancelSlash {
+        number: u64,
+    },
 }
 
 impl Wire for CallKind {
@@ -159,6 +163,7 @@ fn write_kind(kind: &CallKind, pen: &mut Pen) -> Result<(), NoMemory>
             validator,
             fraction,
         } => write_fields(14, &(*era, *validator, *fraction), pen),
+        CallKind::CancelSlash { number } => write_fields(15, number, pen),
     }
 }
 
@@ -183,7 +188,8 @@ fn read_fields(alloc: Global, tag: u8, cursor: &mut Cursor<'_>) -> Result<CallKi
         11 => read_submit(alloc, cursor),
         12 => read_points(alloc, cursor),
         13 => read_payout(alloc, cursor),
-        _ => read_offence(alloc, cursor),
+        14 => read_offence(alloc, cursor),
+        _ => read_cancel_slash(alloc, cursor),
     }
 }
 
@@ -285,6 +291,13 @@ fn read_offence(alloc: Global, cursor: &mut Cursor<'_>) -> Result<CallKind, Read
         validator,
         fraction,
     })
+}
+
+fn read_cancel_slash(alloc: Global, cursor: &mut Cursor<'_>) -> Result<CallKind, ReadFault>
+    ensures { Reads (behind_tag kinds kind_choice 15) cursor.old result cursor.new }
+{
+    let number = u64::read(alloc, cursor)?;
+    Ok(CallKind::CancelSlash { number })
 }
 
 type Solution = BytesUpTo<MOST_SOLUTION_BYTES>;

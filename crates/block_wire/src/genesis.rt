@@ -2,13 +2,14 @@
 ghost use Rattle.std.specs.Prelude.{◌<◌, ◌∷◌};
 ghost use Rattle.scale_wire.specs.Reading.{Reads, Writes};
 ghost use Rattle.scale_wire.specs.Composite.{behind_tag};
-ghost use Rattle.block_wire.specs.Genesis.{full_form, geneses, genesis_choice, genesis_form};
+ghost use Rattle.block_wire.specs.Genesis.{full_form, deferred_form, geneses, genesis_choice, genesis_form};
+ghost use Rattle.block_wire.specs.declared.limits.TheConstants.{GENESES};
 
-use crate::limits::{MOST_ENDOWMENTS, MOST_THRESHOLDS};
+use crate::limits::{GENESES, MOST_ENDOWMENTS, MOST_THRESHOLDS};
 use crate::writing::write_listed;
 use npos_base::{AccountId, List, NoMemory};
 use scale_wire::fault::ReadFault;
-use scale_wire::{Cursor, Pen, UpTo, Wire, write_list};
+use scale_wire::{Cursor, Pen, UpTo, Wire, write_both, write_list};
 use std::alloc::Global;
 
 /// An account and the units that it has at the beginning, free.
@@ -127,6 +128,12 @@ pub enum Genesis {
         endowments: List<Endowment>,
         params: Params,
     },
+    /// The same, and the number of eras that a slash waits.
+    Deferred {
+        endowments: List<Endowment>,
+        params: Params,
+        defer_eras: u32,
+    },
 }
 
 type Endowments = UpTo<Endowment, MOST_ENDOWMENTS>;
@@ -145,7 +152,7 @@ impl Wire for Genesis {
 
     fn read(alloc: Global, cursor: &mut Cursor<'_>) -> Result<Genesis, ReadFault> {
         let mut here = cursor.fork();
-        let tag = here.take_tag(2)?;
+        let tag = here.take_tag(GENESES)?;
         let genesis = read_fields(alloc, tag, &mut here)?;
         *cursor = here;
         Ok(genesis)
@@ -160,22 +167,51 @@ fn write_genesis(genesis: &Genesis, pen: &mut Pen) -> Result<(), NoMemory>
     match genesis {
         Genesis::Plain { endowments } => write_listed(0, endowments, pen),
         Genesis::Full { endowments, params } => write_full(endowments, params, pen),
+        Genesis::Deferred {
+            endowments,
+            params,
+            defer_eras,
+        } => write_deferred(endowments, params, defer_eras, pen),
     }
 }
 
 // The fields of the genesis with this tag.
 fn read_fields(alloc: Global, tag: u8, cursor: &mut Cursor<'_>) -> Result<Genesis, ReadFault>
-    requires { tag < 2 }
+    requires { tag < GENESES }
     ensures { Reads (behind_tag geneses genesis_choice tag) cursor.old result cursor.new }
 {
-    if tag == 0 {
-        let endowments = Endowments::read(alloc, cursor)?.into_list();
-        Ok(Genesis::Plain { endowments })
-    } else {
-        let (endowments, params) = <(Endowments, Params)>::read(alloc, cursor)?;
-        let endowments = endowments.into_list();
-        Ok(Genesis::Full { endowments, params })
+    match tag {
+        0 => read_plain(alloc, cursor),
+        1 => read_full(alloc, cursor),
+        _ => read_deferred(alloc, cursor),
     }
+}
+
+fn read_plain(alloc: Global, cursor: &mut Cursor<'_>) -> Result<Genesis, ReadFault>
+    ensures { Reads (behind_tag geneses genesis_choice 0) cursor.old result cursor.new }
+{
+    let endowments = Endowments::read(alloc, cursor)?.into_list();
+    Ok(Genesis::Plain { endowments })
+}
+
+fn read_full(alloc: Global, cursor: &mut Cursor<'_>) -> Result<Genesis, ReadFault>
+    ensures { Reads (behind_tag geneses genesis_choice 1) cursor.old result cursor.new }
+{
+    let (endowments, params) = <(Endowments, Params)>::read(alloc, cursor)?;
+    let endowments = endowments.into_list();
+    Ok(Genesis::Full { endowments, params })
+}
+
+fn read_deferred(alloc: Global, cursor: &mut Cursor<'_>) -> Result<Genesis, ReadFault>
+    ensures { Reads (behind_tag geneses genesis_choice 2) cursor.old result cursor.new }
+{
+    let (endowments, params, defer_eras) = <(Endowments, Params, u32)>::read(alloc, cursor)?;
+    let endowments = endowments.into_list();
+    Ok(Genesis::Deferred {
+        endowments,
+        params,
+        defer_eras,
+    })
 }
 
 #[tactic(auto, using(scale_wire::proofs::ReadLemmas::writes_behind))]
@@ -185,4 +221,19 @@ fn write_full(endowments: &List<Endowment>, params: &Params, pen: &mut Pen) -> R
 {
     write_listed(1, endowments, pen)?;
     params.write(pen)
+}
+
+#[tactic(auto, using(scale_wire::proofs::ReadLemmas::writes_behind))]
+fn write_deferred(
+    endowments: &List<Endowment>,
+    params: &Params,
+    defer_eras: &u32,
+    pen: &mut Pen,
+) -> Result<(), NoMemory>
+    requires { deferred_form.in_range (endowments.now, params.now, defer_eras.now) }
+    ensures { Writes (2 ∷ deferred_form.spelling (endowments.now, params.now, defer_eras.now))
+        pen.old result pen.new }
+{
+    write_listed(2, endowments, pen)?;
+    write_both(params, defer_eras, pen)
 }

@@ -3,7 +3,10 @@
 pub(crate) use npos_base::{MOST_ENDOWMENTS, MOST_SOLUTION_BYTES, MOST_THRESHOLDS};
 
 /// Kinds of call.
-pub(crate) const KINDS: u8 = 15;
+pub(crate) const KINDS: u8 = 16;
+
+/// Forms of a genesis.
+pub(crate) const GENESES: u8 = 3;
 
 /// Calls of a block.
 pub(crate) const MOST_CALLS: u32 = 64;

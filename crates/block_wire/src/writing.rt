@@ -6,17 +6,7 @@ ghost use Rattle.scale_wire.specs.Composite.{list_bytes};
 ghost use Rattle.scale_wire.specs.Reading.{Writes};
 
 use npos_base::{List, NoMemory};
-use scale_wire::{Pen, Wire, write_bytes, write_list, write_tag};
-
-// A variant with these fields.
-#[tactic(auto, using(scale_wire::proofs::ReadLemmas::writes_behind))]
-pub(crate) fn write_fields<T: Wire>(tag: u8, fields: &T, pen: &mut Pen) -> Result<(), NoMemory>
-    requires { T.form.in_range fields.now }
-    ensures { Writes (tag ∷ T.form.spelling fields.now) pen.old result pen.new }
-{
-    write_tag(tag, pen)?;
-    fields.write(pen)
-}
+use scale_wire::{Pen, Wire, write_bytes, write_fields, write_list, write_tag};
 
 // A variant with one field, a list.
 #[tactic(auto, using(scale_wire::proofs::ReadLemmas::writes_behind))]

@@ -12,8 +12,9 @@ use Rattle.phragmms_miner.proofs.AnyLemmas.{any_run}
 use Rattle.compact_solution.specs.Solution.{Entry, solution_form}
 use Rattle.compact_solution.specs.SolutionLaws.{solution_laws}
 use Rattle.compact_solution.specs.Decoded.{decoded}
-use Rattle.compact_solution.specs.Packing.{kept_of, groups_of, lost_among, packed_or_lost}
+use Rattle.compact_solution.specs.Packing.{kept_of, groups_for, groups_of, lost_among, packed_or_lost}
 use Rattle.compact_solution.proofs.FitLemmas.{packed_fits}
+use Rattle.compact_solution.proofs.GroupLemmas.{in_form}
 use Rattle.scale_wire.specs.WholeReading.{read_value}
 use Rattle.election_check.specs.Laws.{packed_of}
 use Rattle.election_check.proofs.PackingLemmas.{packable}
@@ -52,16 +53,20 @@ small most [] few all i = omega arith
 small most (number ∷ numbers) few all zero = omega (arith, few, All-head (λ n. n < most) number numbers all)
 small most (number ∷ numbers) few all (suc i) = small most numbers few (All-tail (λ n. n < most) number numbers all) i
 
+abbrev kept_by : Snapshot → Weights → List (List Edge)
+kept_by snapshot weights = kept_of (stakes_of snapshot.voters) weights.edges
+
 -- the solution that they pack to can be spelled
 in_range : (snapshot : Snapshot) (weights : Weights) → IsWellFormed snapshot → IsGiving snapshot weights → (solution : List (List Entry)) → packed_of snapshot weights ≡ Ok solution
     → solution_form.in_range solution
-in_range snapshot weights well giving solution is = by (lost_among (kept_of (stakes_of snapshot.voters) weights.edges) weights.committee) is where
-  by : (lost : Option ℕ) → packed_or_lost lost (groups_of (stakes_of snapshot.voters) (kept_of (stakes_of snapshot.voters) weights.edges) (length (stakes_of snapshot.voters))) ≡ Ok solution → solution_form.in_range solution
+in_range snapshot weights well giving solution is = by (lost_among (kept_by snapshot weights) weights.committee) is where
+  by : (lost : Option ℕ) → packed_or_lost lost (groups_of (stakes_of snapshot.voters) (kept_by snapshot weights)) ≡ Ok solution → solution_form.in_range solution
   by None is =
-      let same : groups_of (stakes_of snapshot.voters) (kept_of (stakes_of snapshot.voters) weights.edges) (length (stakes_of snapshot.voters)) ≡ solution = cc in
+      let same : groups_of (stakes_of snapshot.voters) (kept_by snapshot weights) ≡ solution = cc in
       subst (λ (s : List (List Entry)). solution_form.in_range s) same
+      (in_form (kept_by snapshot weights) (groups_of (stakes_of snapshot.voters) (kept_by snapshot weights))
       (packed_fits (stakes_of snapshot.voters) weights.committee weights.edges (packable snapshot weights well giving.feasible giving.above)
-      (small (length snapshot.targets) weights.committee (omega (arith, well.voters.targets_few)) giving.feasible.follows.members_in_range))
+      (small (length snapshot.targets) weights.committee (omega (arith, well.voters.targets_few)) giving.feasible.follows.members_in_range) (groups_for (kept_by snapshot weights))))
   by (Some member) is = absurd (cc)
 
 -- and its bytes spell it

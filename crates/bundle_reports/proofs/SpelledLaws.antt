@@ -7,8 +7,9 @@ use Rattle.scale_wire.specs.LittleEndianLaws.{are_bytes-little_endian}
 use Rattle.scale_wire.specs.Compact.{compact_bytes, least_bytes}
 use Rattle.scale_wire.specs.Composite.{row_bytes}
 use Rattle.scale_wire.specs.FormLaws.{IsBytes-append}
+use Rattle.scale_wire.specs.Marked.{marked_bytes}
 use Rattle.compact_solution.specs.declared.entry.Share.{Share}
-use Rattle.compact_solution.specs.Solution.{Entry, share_form, entry_form, group_form, solution_form}
+use Rattle.compact_solution.specs.Solution.{Entry, plain_groups, wide_groups, is_wide, share_form, entry_form, group_form, groups_form, solution_form}
 
 few_bytes : (number : ℕ) → least_bytes number ≤ 8
 unfolding least_bytes
@@ -55,4 +56,7 @@ bytes_groups first (group ∷ groups) =
     IsBytes-append ((group_form first).spelling group) (row_bytes group_form (suc first) groups) (bytes_group first group) (bytes_groups (suc first) groups)
 
 pub bytes_solution : (solution : List (List Entry)) → IsBytes (solution_form.spelling solution)
-bytes_solution solution = bytes_groups 0 solution
+bytes_solution solution = at (is_wide solution) where
+  at : (wide : Bool) → IsBytes (marked_bytes 255 (groups_form plain_groups) (groups_form wide_groups) wide solution)
+  at true = (omega arith, bytes_groups 0 solution)
+  at false = bytes_groups 0 solution

@@ -1,10 +1,10 @@
 -- The faults of params, the first of them in order, and the numbers of all faults of a genesis.
-use Rattle.std.specs.Prelude.{◌≡◌, ℕ, ◌+◌, Bool, List, [], ◌∷◌, Option, Some, None, nat_lt, nat_le, ◌==◌, ◌&&◌, not, if◌then◌else◌}
+use Rattle.std.specs.Prelude.{◌≡◌, ℕ, ◌+◌, ◌<◌, Bool, List, [], ◌∷◌, Option, Some, None, nat_lt, nat_le, ◌==◌, ◌&&◌, not, if◌then◌else◌}
 use Rattle.std.specs.Option.{option_or}
 use Rattle.npos_base.specs.declared.limits.TheConstants.{MOST_PAST_ERAS, MOST_QUEUED, MOST_SEATS, MOST_SOLUTION_BYTES}
 use Rattle.block_wire.specs.declared.genesis.Params.{Params}
 use Rattle.chain_params.specs.declared.fault.GenesisFault.{GenesisFault}
-use Rattle.chain_params.specs.declared.fault.GenesisFault.TheVariants.{RepeatedAccount, TooMuch, BadSeats, BadPhases, BadBonding, BadMinimum, BadThreshold, BadQueue, BadSolutionMax, NoMemory}
+use Rattle.chain_params.specs.declared.fault.GenesisFault.TheVariants.{RepeatedAccount, TooMuch, BadSeats, BadPhases, BadBonding, BadMinimum, BadThreshold, BadQueue, BadSolutionMax, BadDefer, NoMemory}
 
 -- the first threshold, from this place on, that is not above the one before it; the first is above 0
 abbrev pub threshold_fault : ℕ → ℕ → List ℕ → Option GenesisFault
@@ -38,6 +38,21 @@ abbrev pub params_fault : Params → Option GenesisFault
 params_fault params =
     option_or (numbers_fault params) (option_or (threshold_fault 0 0 params.thresholds) (limits_fault params))
 
+-- what was unbonded before an offence is still there when its slash is applied
+abbrev pub defer_fault : Params → ℕ → Option GenesisFault
+defer_fault params defer_eras =
+    if nat_lt defer_eras params.bonding_eras then None else Some (BadDefer defer_eras)
+
+-- the first fault of the params and of the number of eras that a slash waits
+abbrev pub terms_fault : Option Params → ℕ → Option GenesisFault
+terms_fault None defer_eras = None
+terms_fault (Some params) defer_eras = option_or (params_fault params) (defer_fault params defer_eras)
+
+-- slashes may wait so many eras; without params there are none
+abbrev pub CanWait : Option Params → ℕ → Type 0
+CanWait None defer_eras = defer_eras ≡ 0
+CanWait (Some params) defer_eras = defer_eras < params.bonding_eras
+
 -- the params are without a fault
 abbrev pub AreSound : Option Params → Type 0
 AreSound None = Unit {0}
@@ -54,4 +69,5 @@ fault_numbers BadMinimum = (6, 0)
 fault_numbers (BadThreshold place) = (7, place)
 fault_numbers (BadQueue queue) = (8, queue)
 fault_numbers (BadSolutionMax most) = (9, most)
+fault_numbers (BadDefer eras) = (10, eras)
 fault_numbers NoMemory = (0, 0)

@@ -1,7 +1,7 @@
 //! Whether params are without a fault, and else the first one.
-ghost use Rattle.std.specs.Prelude.{◌≡◌, ◌≤◌, length, None, Some, OnOk, IfErr};
+ghost use Rattle.std.specs.Prelude.{◌≡◌, ◌≤◌, length, None, Some, IfSome, OnOk, IfErr};
 ghost use Rattle.npos_base.specs.declared.limits.TheConstants.{MOST_THRESHOLDS};
-ghost use Rattle.chain_params.specs.Faults.{threshold_fault, numbers_fault, limits_fault, params_fault, phases_fit};
+ghost use Rattle.chain_params.specs.Faults.{threshold_fault, numbers_fault, limits_fault, params_fault, defer_fault, terms_fault, phases_fit};
 
 use crate::GenesisFault;
 use block_wire::Params;
@@ -68,7 +68,7 @@ fn check_limits(params: &Params) -> Result<(), GenesisFault>
 
 /// The seats, phases and times first, then the thresholds, then what a round takes of submissions.
 #[tactic(auto, using(crate::proofs::FaultLemmas::fault_first, crate::proofs::FaultLemmas::fault_then, crate::proofs::FaultLemmas::no_fault))]
-pub fn check_params(params: &Params) -> Result<(), GenesisFault>
+fn check_params(params: &Params) -> Result<(), GenesisFault>
     requires { length params.now.thresholds ≤ MOST_THRESHOLDS }
     ensures ok { OnOk result (params_fault params.now ≡ None) }
     ensures refused { IfErr result (λ fault. params_fault params.now ≡ Some fault) }
@@ -76,4 +76,29 @@ pub fn check_params(params: &Params) -> Result<(), GenesisFault>
     check_numbers(params)?;
     check_thresholds(params.thresholds.as_slice())?;
     check_limits(params)
+}
+
+/// Whether a slash waits fewer eras than stake stays bonded.
+fn check_defer(params: &Params, defer_eras: u32) -> Result<(), GenesisFault>
+    ensures ok { OnOk result (defer_fault params.now defer_eras ≡ None) }
+    ensures refused { IfErr result (λ fault. defer_fault params.now defer_eras ≡ Some fault) }
+{
+    if defer_eras >= params.bonding_eras {
+        return Err(GenesisFault::BadDefer(defer_eras));
+    }
+    Ok(())
+}
+
+/// The params first, where there are some, and then the number of eras that a slash waits.
+#[tactic(auto, using(crate::proofs::FaultLemmas::fault_first, crate::proofs::FaultLemmas::fault_then, crate::proofs::FaultLemmas::no_fault))]
+pub fn check_terms(params: &Option<Params>, defer_eras: u32) -> Result<(), GenesisFault>
+    requires { IfSome params.now (λ params. length params.thresholds ≤ MOST_THRESHOLDS) }
+    ensures ok { OnOk result (terms_fault params.now defer_eras ≡ None) }
+    ensures refused { IfErr result (λ fault. terms_fault params.now defer_eras ≡ Some fault) }
+{
+    let Some(params) = params else {
+        return Ok(());
+    };
+    check_params(params)?;
+    check_defer(params, defer_eras)
 }

@@ -28,6 +28,8 @@ pub enum GenesisFault {
     BadQueue(u32),
     #[error("solutions of {0} bytes")]
     BadSolutionMax(u32),
+    #[error("slashes that wait {0} eras")]
+    BadDefer(u32),
     #[error("no memory")]
     NoMemory,
 }
@@ -47,6 +49,7 @@ impl GenesisFault {
             GenesisFault::BadThreshold(_) => 7,
             GenesisFault::BadQueue(_) => 8,
             GenesisFault::BadSolutionMax(_) => 9,
+            GenesisFault::BadDefer(_) => 10,
             GenesisFault::NoMemory => 0,
         }
     }
@@ -61,7 +64,7 @@ impl GenesisFault {
             | GenesisFault::BadThreshold(place) => *place,
             GenesisFault::BadSeats(seats) => *seats,
             GenesisFault::BadPhases(era_blocks) => *era_blocks,
-            GenesisFault::BadBonding(eras) => *eras,
+            GenesisFault::BadBonding(eras) | GenesisFault::BadDefer(eras) => *eras,
             GenesisFault::BadQueue(queue) => *queue,
             GenesisFault::BadSolutionMax(most) => *most,
             GenesisFault::BadMinimum | GenesisFault::NoMemory => 0,

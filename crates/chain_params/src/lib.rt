@@ -6,7 +6,7 @@ mod checks;
 mod fault;
 mod rules;
 
-pub use checks::check_params;
+pub use checks::check_terms;
 pub use fault::GenesisFault;
 pub use rules::{
     begun_era, begun_round, bonding_eras_of, copy_thresholds, deposit_of, era_of, era_reward_of,

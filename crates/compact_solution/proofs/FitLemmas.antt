@@ -12,8 +12,9 @@ use Rattle.std.proofs.lemmas.List.Sums.{sum_by-cons}
 use Rattle.std.proofs.lemmas.Bool.{cases_lt}
 use Rattle.std.proofs.lemmas.Bool.Decides.{nat_tests, eqb_tells}
 use Rattle.npos_base.specs.declared.figures.Edge.{Edge}
+use Rattle.npos_base.specs.declared.limits.TheConstants.{MOST_NOMINATIONS}
 use Rattle.compact_solution.specs.Solution.{Entry, share_form, entry_form, group_form, groups_form}
-use Rattle.compact_solution.specs.Packing.{choice_of, chosen_from, choices_of, chosen, kept_of, kept_at, edges_of, stake_at, parts_in, has_part, by_target, placed, greater, greatest, share_of, entry_of, entries_with, grouped, IsPackableIn}
+use Rattle.compact_solution.specs.Packing.{choice_of, chosen_from, choices_of, chosen, kept_of, kept_at, edges_of, stake_at, parts_in, has_part, by_target, placed, greater, greatest, share_of, entry_of, entries_with, grouped, IsPackable}
 use Rattle.compact_solution.specs.Choosing.{Fits, AllFit, AllKeptFit, no_choice}
 use Rattle.compact_solution.proofs.PackLemmas.{choices_many}
 use Rattle.compact_solution.proofs.GroupLemmas.{many_groups}
@@ -125,7 +126,7 @@ amount_within voter (edge ∷ edges) (suc i) d h own = at (nat_eq edge.voter vot
   at true within = omega (arith, within, sum_by-cons (λ (edge : Edge). edge.amount) edge (edges_of edges voter))
   at false within = within
 
-module _ {groups : ℕ} (stakes committee : List ℕ) (edges : List Edge) (fit : IsPackableIn groups stakes committee edges) where
+module _ (stakes committee : List ℕ) (edges : List Edge) (fit : IsPackable stakes committee edges) where
   fits_at : (i : ℕ) (d : Edge) → i < length edges → Fits (stake_at stakes (get_or edges i d).voter) (get_or edges i d)
   fits_at i d h =
       let range : (get_or edges i d).voter < length stakes = All-get_or (λ (edge : Edge). edge.voter < length stakes) edges i d h fit.voters_in_range in
@@ -162,7 +163,7 @@ module _ {groups : ℕ} (stakes committee : List ℕ) (edges : List Edge) (fit :
       ∙ (get_or-map chosen (choices_of stakes edges) voter no_choice
       ∙ ap chosen (get_or-map-range_with_len (λ (v : ℕ). choice_of (stake_at stakes v) (edges_of edges v)) 0 (length stakes) voter voter no_choice h (zero-add voter)))
 
-  pub few_kept : All (λ (own : List Edge). length own ≤ groups) (kept_of stakes edges)
+  pub few_kept : All (λ (own : List Edge). length own ≤ MOST_NOMINATIONS) (kept_of stakes edges)
   few_kept voter d h =
       let short : voter < length stakes = omega (arith, h, many_kept) in
       omega (arith, ap length (kept_is voter d short), few_chosen (stake_at stakes voter) (edges_of edges voter), fit.few_edges voter)
@@ -240,8 +241,8 @@ module _ {groups : ℕ} (stakes committee : List ℕ) (edges : List Edge) (fit :
       entry : ℕ → Entry
       entry voter = entry_of voter (stake_at stakes voter) (kept_at (kept_of stakes edges) voter)
 
-    pub packed_fits : (groups_form groups).in_range (grouped groups stakes (kept_of stakes edges) (length stakes))
-    packed_fits =
+    pub packed_fits : (groups : ℕ) → (groups_form groups).in_range (grouped groups stakes (kept_of stakes edges) (length stakes))
+    packed_fits groups =
         row_from group_form 0 groups (grouped groups stakes (kept_of stakes edges) (length stakes)) (many_groups groups stakes (kept_of stakes edges) 0 (length stakes))
         (λ i d h. subst (λ (entries : List Entry). (group_form (0 + i)).in_range entries)
         (sym (get_or-map-range_with_len (λ group. entries_with stakes (kept_of stakes edges) (length stakes) (group + 1)) 0 groups i i d h (zero-add i)))

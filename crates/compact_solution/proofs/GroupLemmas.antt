@@ -1,17 +1,19 @@
 -- One voter more: how the groups grow.
-use Rattle.std.proofs.Common.{◌≡◌, ◌≢◌, inl, inr, ℕ, ◌+◌, ◌-◌, ◌<◌, ◌≤◌, Bool, true, false, cond, nat_eq, List, [], ◌∷◌, ◌++◌, length, map, filter, get_or, refl, sym, ◌∙◌, ap, arith}
-use Rattle.std.specs.List.{range_with_len, slice_set}
+use Rattle.std.proofs.Common.{◌≡◌, ◌≢◌, inl, inr, ℕ, ◌+◌, ◌-◌, ◌<◌, ◌≤◌, Bool, true, false, not, cond, nat_eq, nat_le, All, List, [], ◌∷◌, ◌++◌, length, map, filter, get_or, refl, sym, ◌∙◌, ap, ap₂, take, ◌&&◌, arith}
+use Rattle.std.specs.List.{range_with_len, slice_set, list_all}
+use Rattle.std.proofs.lemmas.List.Folds.{list_all_at, list_all_more}
 use Rattle.std.proofs.Math.Nat.{zero-add}
 use Rattle.std.proofs.lemmas.List.{same_lists, append-nil, map-append, map-id, get_or-set_other, get_or-set_same, length-set}
 use Rattle.std.proofs.lemmas.List.Elements.{filter-append}
+use Rattle.std.proofs.lemmas.List.Sums.{AllPass-from_list_all}
 use Rattle.std.proofs.lemmas.List.FromFn.{map-range_with_len_more, get_or-map-range_with_len, length-map-range_with_len}
-use Rattle.std.proofs.lemmas.Bool.{cases_lt}
+use Rattle.std.proofs.lemmas.Bool.{cases_lt, leb-true}
 use Rattle.std.proofs.lemmas.Bool.Decides.{nat_tests, eqb_tells}
 use Rattle.npos_base.specs.declared.figures.Edge.{Edge}
 use Rattle.npos_base.specs.declared.limits.TheConstants.{MOST_NOMINATIONS}
-use Rattle.compact_solution.specs.Solution.{Entry, plain_groups}
+use Rattle.compact_solution.specs.Solution.{Entry, plain_groups, wide_groups, groups_in, groups_form, solution_form}
 use Rattle.compact_solution.specs.Choosing.{empty_groups}
-use Rattle.compact_solution.specs.Packing.{stake_at, kept_at, entry_of, entries_with, grouped}
+use Rattle.compact_solution.specs.Packing.{stake_at, kept_at, entry_of, entries_with, grouped, fits_plain, groups_for}
 
 abbrev no_entries : List Entry
 no_entries = []
@@ -97,7 +99,51 @@ voter_listed groups stakes kept n edges old new here few before none some = elim
       none nothing ∙ (before ∙ entry_none groups stakes kept n (sym (ap length here) ∙ nothing)))
 ]
 
--- a plain solution has a group for each number of targets that a voter can nominate
-pub all_nominations : plain_groups ≡ MOST_NOMINATIONS
-unfolding plain_groups
+-- ## How many groups
+
+-- a wide solution has a group for each number of targets that a voter can nominate
+pub all_nominations : wide_groups ≡ MOST_NOMINATIONS
+unfolding wide_groups
 all_nominations = refl
+
+pub groups_most : (wide : Bool) → groups_in wide ≤ MOST_NOMINATIONS
+unfolding plain_groups wide_groups
+groups_most true = omega arith
+groups_most false = omega arith
+
+-- what fits into a plain solution, by voter
+plain_few : (kept : List (List Edge)) → fits_plain kept ≡ true → All (λ (own : List Edge). length own ≤ plain_groups) kept
+plain_few kept fits k d h =
+    leb-true (length (get_or kept k d)) plain_groups (AllPass-from_list_all (λ (own : List Edge). nat_le (length own) plain_groups) kept fits k d h)
+
+-- there are groups enough for what is kept
+pub enough_groups : (kept : List (List Edge)) → All (λ (own : List Edge). length own ≤ MOST_NOMINATIONS) kept
+    → All (λ (own : List Edge). length own ≤ groups_for kept) kept
+enough_groups kept few = at (fits_plain kept) refl where
+  at : (b : Bool) → fits_plain kept ≡ b → All (λ (own : List Edge). length own ≤ groups_in (not b)) kept
+  at true fits = plain_few kept fits
+  at false over = λ k d h. omega (arith, few k d h, all_nominations)
+
+-- groups in that number make a solution
+pub in_form : (kept : List (List Edge)) (groups : List (List Entry)) → (groups_form (groups_for kept)).in_range groups → solution_form.in_range groups
+in_form kept groups = at (fits_plain kept) where
+  at : (b : Bool) → (groups_form (groups_in (not b))).in_range groups → solution_form.in_range groups
+  at true fits = inl fits
+  at false fits = inr fits
+
+-- one list more
+abbrev fits_one : List Edge → Bool
+fits_one own = nat_le (length own) plain_groups
+
+pub over_plain : (kept : List (List Edge)) (i : ℕ) (own : List Edge) → i < length kept → own ≡ get_or kept i own → 16 < length own → false ≡ fits_plain kept
+unfolding plain_groups
+over_plain kept i own h is over =
+    let test : nat_le (length own) 16 ≡ false = grind (arith, nat_tests, over) in
+    sym (list_all_at fits_one kept i own h (ap fits_one (sym is) ∙ test))
+
+pub within_plain : (kept : List (List Edge)) (i : ℕ) (own : List Edge) → i < length kept → own ≡ get_or kept i own → length own ≤ 16
+    → list_all fits_one (take i kept) ≡ true → list_all fits_one (take (i + 1) kept) ≡ true
+unfolding plain_groups
+within_plain kept i own h is within so_far =
+    let test : nat_le (length own) 16 ≡ true = grind (arith, nat_tests, within) in
+    list_all_more fits_one kept i own h ∙ ap₂ (λ a b. a && b) so_far (ap fits_one (sym is) ∙ test)

@@ -3,3 +3,4 @@ pub mod SolutionLaws
 pub mod Decoded
 pub mod Packing
 pub mod Choosing
+pub mod Widths

@@ -1,11 +1,11 @@
 -- Packing: how weights become a solution. What a voter gives is rounded down to parts of its stake,
 -- and what is too little for one part is dropped.
-use Rattle.std.specs.Prelude.{ℕ, ◌+◌, ◌-◌, ◌*◌, ◌/◌, ◌<◌, ◌≤◌, ◌&&◌, Bool, not, nat_eq, nat_lt, IsTrue, if◌then◌else◌, min, List, [], ◌∷◌, length, map, filter, take, fold, sum_by, All, slice_index_or, Option, Some, None, option_to_list, Result, Ok, Err}
-use Rattle.std.specs.List.{list_any, range_with_len, IsDistinct}
+use Rattle.std.specs.Prelude.{ℕ, ◌+◌, ◌-◌, ◌*◌, ◌/◌, ◌<◌, ◌≤◌, ◌&&◌, Bool, not, nat_eq, nat_lt, nat_le, IsTrue, if◌then◌else◌, min, List, [], ◌∷◌, length, map, filter, take, fold, sum_by, All, slice_index_or, Option, Some, None, option_to_list, Result, Ok, Err}
+use Rattle.std.specs.List.{list_all, list_any, range_with_len, IsDistinct}
 use Rattle.npos_base.specs.declared.figures.Edge.{Edge}
-use Rattle.npos_base.specs.declared.limits.TheConstants.{MOST_VOTERS}
+use Rattle.npos_base.specs.declared.limits.TheConstants.{MOST_NOMINATIONS, MOST_VOTERS}
 use Rattle.compact_solution.specs.declared.entry.Share.{Share}
-use Rattle.compact_solution.specs.Solution.{Entry, plain_groups, whole_stake}
+use Rattle.compact_solution.specs.Solution.{Entry, plain_groups, groups_in, whole_stake}
 
 -- ## What a voter keeps
 
@@ -99,9 +99,17 @@ abbrev pub grouped : ℕ → List ℕ → List (List Edge) → ℕ → List (Lis
 grouped groups stakes kept voters =
     map (λ group. entries_with stakes kept voters (group + 1)) (range_with_len 0 groups)
 
--- the groups of a plain solution
-abbrev pub groups_of : List ℕ → List (List Edge) → ℕ → List (List Entry)
-groups_of stakes kept voters = grouped plain_groups stakes kept voters
+-- no voter keeps more edges than an entry of a plain solution can name targets
+abbrev pub fits_plain : List (List Edge) → Bool
+fits_plain kept = list_all (λ edges. nat_le (length edges) plain_groups) kept
+
+-- the solution is plain where what is kept fits into it, and wide otherwise
+abbrev pub groups_for : List (List Edge) → ℕ
+groups_for kept = groups_in (not (fits_plain kept))
+
+-- the groups of the solution
+abbrev pub groups_of : List ℕ → List (List Edge) → List (List Entry)
+groups_of stakes kept = grouped (groups_for kept) stakes kept (length stakes)
 
 -- ## Members that are lost
 
@@ -130,15 +138,11 @@ abbrev pub packed_or_lost : Option ℕ → List (List Entry) → Result (List (L
 packed_or_lost None groups = Ok groups
 packed_or_lost (Some member) groups = Err member
 
--- so many groups that the weights of these voters pack to, or the lowest member that would be lost
-abbrev pub packed_in : ℕ → List ℕ → List ℕ → List Edge → Result (List (List Entry)) ℕ
-packed_in groups stakes committee edges =
-    packed_or_lost (lost_among (kept_of stakes edges) committee)
-    (grouped groups stakes (kept_of stakes edges) (length stakes))
-
--- the plain solution that they pack to
+-- the solution that the weights of these voters pack to, or the lowest member that would be lost
 abbrev pub packed : List ℕ → List ℕ → List Edge → Result (List (List Entry)) ℕ
-packed stakes committee edges = packed_in plain_groups stakes committee edges
+packed stakes committee edges =
+    packed_or_lost (lost_among (kept_of stakes edges) committee)
+    (groups_of stakes (kept_of stakes edges))
 
 -- ## What can be packed
 
@@ -146,17 +150,13 @@ abbrev pub same_pair : Edge → Edge → Bool
 same_pair a b = nat_eq a.voter b.voter && nat_eq a.target b.target
 
 -- There are no more voters than an election can have; each has at most one edge to a member, no more in
--- all than there are groups, and gives no more than its stake.
-pub record IsPackableIn (groups : ℕ) (stakes committee : List ℕ) (edges : List Edge) : Type 0 where
+-- all than it can nominate, and gives no more than its stake.
+pub record IsPackable (stakes committee : List ℕ) (edges : List Edge) : Type 0 where
   pub few_voters : length stakes ≤ MOST_VOTERS
   pub voters_in_range : All (λ edge. edge.voter < length stakes) edges
   pub pairs_distinct : IsDistinct same_pair edges
   pub to_members : All (λ edge. IsTrue (list_any (λ member. nat_eq member edge.target) committee)) edges
   pub above : All (λ edge. 0 < edge.amount) edges
-  pub few_edges : (voter : ℕ) → length (edges_of edges voter) ≤ groups
+  pub few_edges : (voter : ℕ) → length (edges_of edges voter) ≤ MOST_NOMINATIONS
   pub within : (voter : ℕ) → voter < length stakes
       → sum_by (λ edge. edge.amount) (edges_of edges voter) ≤ stake_at stakes voter
-
--- the same for a plain solution
-abbrev pub IsPackable : List ℕ → List ℕ → List Edge → Type 0
-IsPackable stakes committee edges = IsPackableIn plain_groups stakes committee edges

@@ -1,17 +1,27 @@
 -- Compact solutions, after Substrate: who backs whom with which part of its stake, in groups of
--- entries. An entry of the first group names one target, one of the second group two, and so on.
-use Rattle.std.specs.Prelude.{ℕ, List, [], ◌∷◌, ◌++◌, map}
+-- entries. An entry of the first group names one target, one of the second group two, and so on. A
+-- plain solution has 16 groups, and a wide one a group for each number of targets that a voter can
+-- nominate.
+use Rattle.std.specs.Prelude.{ℕ, Bool, true, false, nat_eq, List, [], ◌∷◌, ◌++◌, length, map}
 use Rattle.std.specs.List.{flat_map}
 use Rattle.scale_wire.specs.Form.{Form}
 use Rattle.scale_wire.specs.Parts.{compact_u16, compact_u32}
 use Rattle.scale_wire.specs.Composite.{pair, triple, seen, items, list, row}
+use Rattle.scale_wire.specs.Marked.{marked}
 use Rattle.npos_base.specs.declared.limits.TheConstants.{MOST_VOTERS}
 use Rattle.compact_solution.specs.declared.entry.Share.{Share}
-use Rattle.compact_solution.specs.declared.entry.TheConstants.{GROUPS}
+use Rattle.compact_solution.specs.declared.entry.TheConstants.{PLAIN_GROUPS, WIDE_GROUPS, WIDE_MARK}
 
--- how many groups a plain solution has
 unfoldable pub plain_groups : ℕ
-plain_groups = GROUPS
+plain_groups = PLAIN_GROUPS
+
+unfoldable pub wide_groups : ℕ
+wide_groups = WIDE_GROUPS
+
+-- how many groups a wide or a plain solution has
+abbrev pub groups_in : Bool → ℕ
+groups_in true = wide_groups
+groups_in false = plain_groups
 
 -- A voter and its targets. Each target but the last is listed with its share, and the last one gets
 -- the rest of the voter's stake.
@@ -31,6 +41,10 @@ targets_of entry = map (λ share. share.target) entry.shares ++ entry.last ∷ [
 -- the shares of its targets but the last, in parts of whole_stake
 abbrev pub parts_of : Entry → List ℕ
 parts_of entry = map (λ share. share.parts) entry.shares
+
+-- a solution is wide where it has the groups of a wide one, whether there are entries in them or not
+abbrev pub is_wide : List (List Entry) → Bool
+is_wide solution = nat_eq (length solution) wide_groups
 
 -- the entries of all groups, in listed order
 abbrev pub entries_of : List (List Entry) → List Entry
@@ -55,6 +69,7 @@ group_form shares = list (entry_form shares) MOST_VOTERS
 abbrev pub groups_form : ℕ → Form (List (List Entry))
 groups_form groups = row group_form 0 groups
 
--- a plain solution
+-- The byte ff stands before the groups of a wide solution. Bytes that begin with it are read as a wide
+-- solution, and all others as a plain one.
 abbrev pub solution_form : Form (List (List Entry))
-solution_form = groups_form plain_groups
+solution_form = marked WIDE_MARK is_wide (groups_form plain_groups) (groups_form wide_groups)

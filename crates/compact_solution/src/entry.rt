@@ -1,12 +1,18 @@
 //! Entries: a voter, its targets and their shares.
 ghost use Rattle.std.specs.Prelude.{◌≡◌, ◌+◌, ◌<◌, ◌≤◌, length, slice_index};
-ghost use Rattle.compact_solution.specs.Solution.{plain_groups, targets_of, parts_of};
+ghost use Rattle.compact_solution.specs.Solution.{groups_in, targets_of, parts_of};
 
 use npos_base::{List, MOST_NOMINATIONS};
 use std::marker::Model;
 
-/// How many groups a plain solution has: one for each number of targets that a voter can name.
-pub const GROUPS: usize = MOST_NOMINATIONS;
+/// How many groups a plain solution has: its entries name up to 16 targets.
+pub const PLAIN_GROUPS: usize = 16;
+
+/// How many groups a wide solution has: one for each number of targets that a voter can nominate.
+pub const WIDE_GROUPS: usize = MOST_NOMINATIONS;
+
+/// The byte that stands before a wide solution. No length of a plain group begins with it.
+pub(crate) const WIDE_MARK: u8 = 0xff;
 
 /// The whole of a voter's stake, of which the shares of a solution are parts.
 pub const WHOLE_STAKE: u64 = 65_535;
@@ -103,10 +109,10 @@ impl Entry {
     }
 }
 
-/// How many groups a plain solution has.
-pub(crate) fn plain_groups() -> usize
-    ensures number { result ≡ plain_groups }
+/// How many groups a wide or a plain solution has.
+pub(crate) fn groups_in(wide: bool) -> usize
+    ensures number { result ≡ groups_in wide }
     ensures most { result ≤ MOST_NOMINATIONS }
 {
-    GROUPS
+    if wide { WIDE_GROUPS } else { PLAIN_GROUPS }
 }

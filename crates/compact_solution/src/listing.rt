@@ -1,11 +1,11 @@
 //! The entries of kept edges, and the members that are lost.
 ghost use Rattle.std.specs.Prelude.{◌≡◌, ◌≢◌, ◌<◌, ◌≤◌, ◌-◌, ◌||◌, ℕ, All, [], ◌∷◌, ◌++◌, false, not, map, length, IfOk, OnOk, slice_index_or, slice_set};
 ghost use Rattle.std.specs.List.{list_any};
-ghost use Rattle.compact_solution.specs.Packing.{leads_to, lost_among, lowest_where, entry_of, share_of, grouped, lower as lower_of};
+ghost use Rattle.compact_solution.specs.Packing.{leads_to, lost_among, lowest_where, entry_of, share_of, fits_plain, groups_for, grouped, lower as lower_of};
 ghost use Rattle.compact_solution.specs.Choosing.{Fits, AreKeptMarks, AllKeptFit, empty_groups};
 
 use crate::choosing::parts_in;
-use crate::entry::{Entry, Share};
+use crate::entry::{Entry, PLAIN_GROUPS, Share, groups_in};
 use npos_base::{Edge, List, MOST_NOMINATIONS, MOST_VOTERS, NoMemory};
 use std::alloc::Global;
 
@@ -82,6 +82,28 @@ fn lower(lowest: Option<u16>, member: u16) -> Option<u16>
         Some(least) => Some(least.min(member)),
         None => Some(member),
     }
+}
+
+/// How many groups the solution of kept edges has: those of the plain form where they fit into it.
+pub(crate) fn groups_for(kept: &[List<Edge>]) -> usize
+    requires { All (λ edges. length edges ≤ MOST_NOMINATIONS) kept.now }
+    ensures count { result ≡ groups_for kept.now }
+    ensures enough { All (λ edges. length edges ≤ result) kept.now }
+    ensures most { result ≤ MOST_NOMINATIONS }
+{
+    groups_in(!fits_plain(kept))
+}
+
+/// Whether no voter keeps more edges than an entry of a plain solution can name targets.
+fn fits_plain(kept: &[List<Edge>]) -> bool
+    ensures { result ≡ fits_plain kept.now }
+{
+    for edges in kept {
+        if edges.len() > PLAIN_GROUPS {
+            return false;
+        }
+    }
+    true
 }
 
 /// The entries in this many groups by the number of their targets, each group by rising voter.

@@ -1,14 +1,12 @@
 //! Packing weights into a solution.
-ghost use Rattle.std.specs.Prelude.{◌≡◌, ◌≢◌, ◌≤◌, ℕ, IfOk, IfErr, Ok, Err};
+ghost use Rattle.std.specs.Prelude.{◌≡◌, ◌≢◌, ℕ, IfOk, IfErr, Ok, Err};
 ghost use Rattle.compact_solution.specs.declared.packing.PackFault.TheVariants.{NoMemory as NoMemoryFault};
-ghost use Rattle.compact_solution.specs.Solution.{groups_form};
-ghost use Rattle.compact_solution.specs.Packing.{IsPackable, IsPackableIn, packed, packed_in, kept_of, grouped};
+ghost use Rattle.compact_solution.specs.Packing.{IsPackable, packed};
 
 use crate::choosing::keep;
-use crate::entry::{Entry, plain_groups};
-use crate::listing::{list_entries, lowest_lost};
+use crate::listing::{groups_for, list_entries, lowest_lost};
 use crate::solution::Solution;
-use npos_base::{Edge, List, MOST_NOMINATIONS, NoMemory};
+use npos_base::{Edge, NoMemory};
 use std::alloc::Global;
 
 /// Why weights have no packed form: no edge to this member is kept, the lowest such one, or memory
@@ -31,7 +29,8 @@ impl From<NoMemory> for PackFault {
 /// edges from voters to members. Of each voter's edges those are kept that give at least one part
 /// in 65,535 of its stake, or else the first of its greatest. They stand by rising target; the last
 /// gets the rest of the stake. Entries stand in the group of the number of their targets, by rising
-/// voter. The rule is this project's; the form is that of Substrate's compact solutions.
+/// voter. The solution is plain where no voter keeps more than 16 edges, and wide otherwise. The rule
+/// is this project's; the form is that of Substrate's compact solutions.
 pub fn pack(
     alloc: Global,
     stakes: &[u64],
@@ -45,31 +44,11 @@ pub fn pack(
         × (fault ≡ PackFault.LostWinner member)
         × (packed stakes.now committee.now edges.now ≡ Err member)) }
 {
-    let groups = pack_groups(alloc, stakes, committee, edges, plain_groups())?;
-    Ok(Solution::of_groups(groups))
-}
-
-/// The groups of such a solution, this many.
-fn pack_groups(
-    alloc: Global,
-    stakes: &[u64],
-    committee: &[u16],
-    edges: &[Edge],
-    count: usize,
-) -> Result<List<List<Entry>>, PackFault>
-    requires packable { IsPackableIn count stakes.now committee.now edges.now }
-    requires most { count ≤ MOST_NOMINATIONS }
-    ensures groups { IfOk result (λ groups.
-        packed_in count stakes.now committee.now edges.now ≡ Ok groups) }
-    ensures spelled { IfOk result (λ groups. (groups_form count).in_range groups) }
-    ensures lost { IfErr result (λ fault. fault ≢ PackFault.NoMemory → (member : ℕ)
-        × (fault ≡ PackFault.LostWinner member)
-        × (packed_in count stakes.now committee.now edges.now ≡ Err member)) }
-{
     let kept = keep(alloc, stakes, edges)?;
-    if let Some(member) = lowest_lost(alloc, kept.as_slice(), committee)? {
+    let lists = kept.as_slice();
+    if let Some(member) = lowest_lost(alloc, lists, committee)? {
         return Err(PackFault::LostWinner(member));
     }
-    let groups = list_entries(alloc, stakes, kept.as_slice(), count)?;
-    Ok(groups)
+    let groups = list_entries(alloc, stakes, lists, groups_for(lists))?;
+    Ok(Solution::of_groups(groups))
 }

@@ -1,17 +1,50 @@
 //! Reading the groups of a solution.
 ghost use Rattle.std.specs.Prelude.{◌≡◌, ◌<◌, ◌≤◌, ◌+◌, ◌*◌, ◌/◌, min};
+ghost use Rattle.scale_wire.specs.Marked.{begins_with};
 ghost use Rattle.scale_wire.specs.Composite.{items as items_of};
 ghost use Rattle.scale_wire.specs.Reading.{Takes, Reads};
-ghost use Rattle.compact_solution.specs.Solution.{share_form, entry_form, group_form, groups_form};
+ghost use Rattle.compact_solution.specs.Solution.{share_form, entry_form, group_form, groups_form, solution_form};
+ghost use Rattle.compact_solution.specs.Widths.{behind_mark};
 
-use crate::entry::{Entry, Share};
+use crate::entry::{Entry, Share, WIDE_MARK, groups_in};
 use npos_base::{List, MOST_NOMINATIONS, MOST_VOTERS};
 use scale_wire::Cursor;
 use scale_wire::fault::{ReadFault, WireFault};
 use std::alloc::Global;
 
+// The groups of a solution: those of a wide one where the bytes begin with its mark, and those of a
+// plain one otherwise.
+pub(crate) fn read_solution(
+    alloc: Global,
+    cursor: &mut Cursor<'_>,
+) -> Result<List<List<Entry>>, ReadFault>
+    ensures { Reads solution_form cursor.old result cursor.new }
+{
+    let mut here = cursor.fork();
+    let wide = take_mark(&mut here);
+    let groups = read_groups(alloc, &mut here, groups_in(wide))?;
+    *cursor = here;
+    Ok(groups)
+}
+
+// Whether the bytes begin with the mark of a wide solution. Then the cursor moves behind it.
+fn take_mark(cursor: &mut Cursor<'_>) -> bool
+    ensures wide { result ≡ begins_with WIDE_MARK cursor.old.rest }
+    ensures place { cursor.new ≡ behind_mark result cursor.old }
+{
+    let mut here = cursor.fork();
+    let Ok(first) = here.take_u8() else {
+        return false;
+    };
+    if first != WIDE_MARK {
+        return false;
+    }
+    *cursor = here;
+    true
+}
+
 // This many groups, one behind the other. The entries of the first have no share.
-pub(crate) fn read_groups(
+fn read_groups(
     alloc: Global,
     cursor: &mut Cursor<'_>,
     count: usize,

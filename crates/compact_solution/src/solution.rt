@@ -1,21 +1,21 @@
 //! Solutions: decoded from bytes, read by groups, encoded again.
 ghost use Rattle.std.specs.Prelude.{◌≡◌, ◌-◌, ◌≤◌, [], length, IfOk, slice_index_or};
 ghost use Rattle.scale_wire.specs.Reading.{ReadsWhole};
-ghost use Rattle.compact_solution.specs.Solution.{solution_form};
+ghost use Rattle.compact_solution.specs.Solution.{is_wide, groups_in, solution_form};
 ghost use Rattle.scale_wire.specs.WholeReading.{AnswersAs};
 ghost use Rattle.compact_solution.specs.SolutionLaws.{solution_laws};
 
-use crate::entry::{Entry, GROUPS, plain_groups};
-use crate::reading::read_groups;
-use crate::writing::write_groups;
+use crate::entry::{Entry, WIDE_GROUPS};
+use crate::reading::read_solution;
+use crate::writing::write_solution;
 use npos_base::{List, NoMemory};
 use scale_wire::fault::ReadFault;
 use scale_wire::{Cursor, Pen, Wire, read_whole};
 use std::alloc::Global;
 use std::marker::Model;
 
-/// A solution, after Substrate's compact ones: groups of entries by the number of their targets.
-/// Contracts see the list of the groups, which has a spelling.
+/// A solution, after Substrate's compact ones: groups of entries by the number of their targets, in
+/// the plain form or in the wide one. Contracts see the list of the groups, which has a spelling.
 #[derive(Drop)]
 pub struct Solution {
     groups: List<List<Entry>>,
@@ -63,10 +63,18 @@ impl Solution {
         Ok(pen.finish())
     }
 
-    /// How many groups there are.
+    /// Whether the solution is in the wide form.
+    pub fn wide(&self) -> bool
+        ensures { result ≡ is_wide self.now }
+    {
+        self.groups.len() == WIDE_GROUPS
+    }
+
+    /// How many groups there are: 24 in the wide form and 16 in the plain one.
     pub fn groups(&self) -> usize
         ensures count { result ≡ length self.now }
-        ensures number { result ≡ GROUPS }
+        ensures number { result ≡ groups_in (is_wide self.now) }
+        ensures most { result ≤ WIDE_GROUPS }
     {
         self.groups.len()
     }
@@ -74,14 +82,14 @@ impl Solution {
     /// The entries with `j` targets.
     pub fn group(&self, j: usize) -> &[Entry]
         requires some { 1 ≤ j }
-        requires most { j ≤ GROUPS }
+        requires most { j ≤ length self.now }
         ensures { result.now ≡ slice_index_or self.now (j - 1) [] }
     {
         self.groups.as_slice()[j - 1].as_slice()
     }
 }
 
-/// The groups in order, each a list.
+/// The groups in order, each a list, and the mark before those of a wide solution.
 impl Wire for Solution {
     ghost use Rattle.compact_solution.specs.Solution.{solution_form};
     ghost use Rattle.compact_solution.specs.SolutionLaws.{solution_laws};
@@ -91,11 +99,11 @@ impl Wire for Solution {
     ghost laws = { solution_laws };
 
     fn write(&self, pen: &mut Pen) -> Result<(), NoMemory> {
-        write_groups(self.groups.as_slice(), pen)
+        write_solution(self.groups.as_slice(), pen)
     }
 
     fn read(alloc: Global, cursor: &mut Cursor<'_>) -> Result<Solution, ReadFault> {
-        let groups = read_groups(alloc, cursor, plain_groups())?;
+        let groups = read_solution(alloc, cursor)?;
         Ok(Solution { groups })
     }
 }

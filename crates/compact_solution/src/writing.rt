@@ -1,16 +1,38 @@
 //! Writing the groups of a solution.
 ghost use Rattle.std.specs.Prelude.{◌≡◌, ◌≤◌, length};
+ghost use Rattle.scale_wire.specs.Writing.{Appends};
 ghost use Rattle.scale_wire.specs.Composite.{IsRow, row_bytes};
 ghost use Rattle.std.specs.List.{AllByRecursion, flat_map};
 ghost use Rattle.scale_wire.specs.Reading.{Writes};
-ghost use Rattle.compact_solution.specs.Solution.{share_form, entry_form, group_form};
+ghost use Rattle.compact_solution.specs.Solution.{share_form, entry_form, group_form, solution_form};
+ghost use Rattle.compact_solution.specs.Widths.{mark_before};
 
-use crate::entry::{Entry, Share};
+use crate::entry::{Entry, Share, WIDE_GROUPS, WIDE_MARK};
 use npos_base::{List, NoMemory};
-use scale_wire::{Pen, Wire};
+use scale_wire::{Pen, Wire, write_tag};
+
+// The groups in order, behind the mark where they are those of a wide solution.
+pub(crate) fn write_solution(groups: &[List<Entry>], pen: &mut Pen) -> Result<(), NoMemory>
+    requires { solution_form.in_range groups.now }
+    ensures { Writes (solution_form.spelling groups.now) pen.old result pen.new }
+{
+    write_mark(groups.len() == WIDE_GROUPS, pen)?;
+    write_groups(groups, pen)
+}
+
+// What stands before the groups of a wide or a plain solution.
+fn write_mark(wide: bool, pen: &mut Pen) -> Result<(), NoMemory>
+    ensures { Appends (mark_before wide) result pen.old pen.new }
+{
+    if wide {
+        write_tag(WIDE_MARK, pen)
+    } else {
+        Ok(())
+    }
+}
 
 // The groups in order. The entries of the first have no share.
-pub(crate) fn write_groups(groups: &[List<Entry>], pen: &mut Pen) -> Result<(), NoMemory>
+fn write_groups(groups: &[List<Entry>], pen: &mut Pen) -> Result<(), NoMemory>
     requires { IsRow group_form 0 (length groups.now) groups.now }
     ensures { Writes (row_bytes group_form 0 groups.now) pen.old result pen.new }
 {

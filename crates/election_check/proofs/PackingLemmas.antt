@@ -13,11 +13,11 @@ use Rattle.npos_base.specs.declared.limits.TheConstants.{MOST_NOMINATIONS}
 use Rattle.election_snapshot.specs.Snapshot.{Snapshot, Voter, IsWellFormed, IsVoterOf, nobody, has, nominates, stake_of, votes_of, stakes_of}
 use Rattle.weight_book.specs.Weights.{Weights, IsFeasible}
 use Rattle.weight_book.proofs.SumLemmas.{sum_covered, sum_of_ones}
-use Rattle.compact_solution.specs.Solution.{Entry, plain_groups, targets_of, entries_of}
-use Rattle.compact_solution.specs.Packing.{edges_of, stake_at, choice_of, choices_of, chosen, kept_of, kept_at, entry_of, entries_with, groups_of, leads_to, is_kept, lower, lost_among, packed, packed_or_lost, IsPackable}
+use Rattle.compact_solution.specs.Solution.{Entry, targets_of, entries_of}
+use Rattle.compact_solution.specs.Packing.{edges_of, stake_at, choice_of, choices_of, chosen, kept_of, kept_at, entry_of, entries_with, groups_for, groups_of, leads_to, is_kept, lower, lost_among, packed, packed_or_lost, IsPackable}
 use Rattle.compact_solution.specs.Choosing.{no_choice}
 use Rattle.compact_solution.proofs.PackLemmas.{choices_many}
-use Rattle.compact_solution.proofs.GroupLemmas.{all_nominations}
+use Rattle.compact_solution.proofs.GroupLemmas.{enough_groups}
 use Rattle.compact_solution.proofs.FitLemmas.{all_chosen, few_chosen}
 use Rattle.election_check.specs.declared.fault.Fault.{Fault}
 use Rattle.election_check.specs.declared.fault.Fault.TheVariants.{NoVoter, NoTarget, VoterTwice, TargetTwice, NotNominated, BadShare, WrongSize}
@@ -165,7 +165,7 @@ module _ (snapshot : Snapshot) (weights : Weights) (formed : IsWellFormed snapsh
     to_members = feasible.follows.to_members;
     above = above;
     few_edges = λ voter. elim (cases_lt voter (length snapshot.voters)) [
-      | inl h ↦ omega (arith, few_own voter h, all_nominations)
+      | inl h ↦ few_own voter h
       | inr h ↦ omega (arith, none_own voter h)
     ];
     within = λ voter h. omega (arith, stake_is voter, feasible.within_stakes voter (omega (arith, h, many)));
@@ -316,7 +316,7 @@ module _ (snapshot : Snapshot) (weights : Weights) (formed : IsWellFormed snapsh
       )
 
   abbrev all_groups : List (List Entry)
-  all_groups = groups_of stakes kept (length stakes)
+  all_groups = groups_of stakes kept
 
   named : (before : List Entry) (voter : ℕ) → has (voters_in before) voter ≡ list_any (λ (other : Entry). nat_eq other.voter voter) before
   named [] voter = refl
@@ -326,28 +326,35 @@ module _ (snapshot : Snapshot) (weights : Weights) (formed : IsWellFormed snapsh
   no_entry_fault = none_bad same_voter IsGood (λ before entry. entry_fault snapshot (has (voters_in before) entry.voter) entry) (entries_fault snapshot)
       (λ _. refl) (λ _ _ _. refl) (λ before entry good new. ap (λ b. entry_fault snapshot b entry) (named before entry.voter ∙ new) ∙ good.0) [] (entries_of all_groups)
       (all_weaker (λ (entry : Entry). IsGood entry × (0 < count_at entry.voter)) (λ (entry : Entry). IsGood entry × (false ≡ false)) (λ entry is. (is.0, refl))
-      (entries_of all_groups) (groups_good 0 plain_groups).0) (groups_good 0 plain_groups).1
+      (entries_of all_groups) (groups_good 0 (groups_for kept)).0) (groups_good 0 (groups_for kept)).1
 
   -- ## Who is listed
 
   listed_members : (target : ℕ) → has (listed_in (entries_of all_groups)) target ≡ true → has weights.committee target ≡ true
   listed_members target there = within (λ target. has weights.committee target ≡ true) (listed_in (entries_of all_groups)) target
       (All-flat_map (λ target. has weights.committee target ≡ true) targets_of (entries_of all_groups)
-      (λ k d l. (All-from_recursion (λ (entry : Entry). IsGood entry × (0 < count_at entry.voter)) (entries_of all_groups) (groups_good 0 plain_groups).0 k d l).0.1)) there
+      (λ k d l. (All-from_recursion (λ (entry : Entry). IsGood entry × (0 < count_at entry.voter)) (entries_of all_groups) (groups_good 0 (groups_for kept)).0 k d l).0.1)) there
 
   few_kept : (voter : ℕ) → voter < length snapshot.voters → count_at voter ≤ MOST_NOMINATIONS
   few_kept voter h = omega (arith, ap length (kept_is voter h), few_chosen (stake_at stakes voter) (own voter), few_own voter h)
 
+  many_kept : length kept ≡ length snapshot.voters
+  many_kept = length-map (choices_of stakes weights.edges) chosen ∙ (choices_many stakes weights.edges ∙ many)
+
+  all_few : All (λ (edges : List Edge). length edges ≤ MOST_NOMINATIONS) kept
+  all_few k d h = omega (arith, ap length (get_or_default kept k d [] h), few_kept k (omega (arith, h, many_kept)))
+
+  -- the solution, plain or wide, has a group for each number of edges that is kept
+  enough : (voter : ℕ) → voter < length snapshot.voters → count_at voter ≤ groups_for kept
+  enough voter h = enough_groups kept all_few voter [] (omega (arith, h, many_kept))
+
   kept_listed : (target : ℕ) → is_kept kept target ≡ true → has (listed_in (entries_of all_groups)) target ≡ true
   kept_listed target there =
       let any = Any-from_list_any (λ edges. list_any (leads_to target) edges) kept there in
-      let h : any.0 < length snapshot.voters = omega (arith, any.2, count) in
+      let h : any.0 < length snapshot.voters = omega (arith, any.2, many_kept) in
       of_voter any.0 h (ap (list_any (leads_to target)) (get_or_default kept any.0 [] any.1 any.2 ∙ any.3) ∙ any.4) where
         names : Entry → Bool
         names entry = has (targets_of entry) target
-
-        count : length kept ≡ length snapshot.voters
-        count = length-map (choices_of stakes weights.edges) chosen ∙ (choices_many stakes weights.edges ∙ many)
 
         of_voter : (voter : ℕ) → voter < length snapshot.voters → list_any (leads_to target) (kept_at kept voter) ≡ true → has (listed_in (entries_of all_groups)) target ≡ true
         of_voter voter h leads =
@@ -361,12 +368,12 @@ module _ (snapshot : Snapshot) (weights : Weights) (formed : IsWellFormed snapsh
             any_map names entry_at (filter (λ v. nat_eq (count_at v) (low + 1)) (range_with_len 0 (length stakes)))
             ∙ any_filter (λ v. names (entry_at v)) (λ v. nat_eq (count_at v) (low + 1)) (range_with_len 0 (length stakes)) voter
             (has_range 0 (length stakes) voter (omega arith) (omega (arith, h, many))) (eq-eqb (count_at voter) (low + 1) (sym right)) in_entry in
-            let short : low < plain_groups = omega (arith, few_kept voter h, all_nominations, right) in
+            let short : low < groups_for kept = omega (arith, enough voter h, right) in
             any_flat (λ n. nat_eq n target) targets_of (entries_of all_groups)
             ∙ (any_flat names (λ (group : List Entry). group) all_groups
-            ∙ (any_map (λ (group : List Entry). list_any names group) group_at (range_with_len 0 plain_groups)
-            ∙ list_any_at (λ group. list_any names (group_at group)) (range_with_len 0 plain_groups) low 0 (omega (arith, short, length-range_with_len 0 plain_groups))
-            (ap (λ group. list_any names (group_at group)) (get_or-range_with_len 0 plain_groups low 0 short ∙ zero-add low) ∙ in_group)))
+            ∙ (any_map (λ (group : List Entry). list_any names group) group_at (range_with_len 0 (groups_for kept))
+            ∙ list_any_at (λ group. list_any names (group_at group)) (range_with_len 0 (groups_for kept)) low 0 (omega (arith, short, length-range_with_len 0 (groups_for kept)))
+            (ap (λ group. list_any names (group_at group)) (get_or-range_with_len 0 (groups_for kept) low 0 short ∙ zero-add low) ∙ in_group)))
           where
             nonempty : (edges : List Edge) → list_any (leads_to target) edges ≡ true → 1 ≤ length edges
             nonempty [] e = absurd (true≢false (sym e))

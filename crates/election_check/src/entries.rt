@@ -11,7 +11,7 @@ ghost use Rattle.election_check.specs.Taking.{AreTaken, IsTaken};
 
 use crate::fault::Fault;
 use crate::prescores::check_size;
-use compact_solution::{Entry, GROUPS, Solution, WHOLE_STAKE};
+use compact_solution::{Entry, PLAIN_GROUPS, Solution, WHOLE_STAKE, WIDE_GROUPS};
 use election_snapshot::Snapshot;
 use npos_base::{Edge, MOST_NOMINATIONS, Score};
 use weight_book::Weights;
@@ -76,7 +76,7 @@ fn take_group(
     weights: &mut Weights,
 ) -> Result<(), Fault>
     requires place { place < length solution.now }
-    requires few { place < GROUPS }
+    requires few { place < WIDE_GROUPS }
     requires taken { AreTaken snapshot.now (entries_of (take place solution.now))
         has_entry.old stamps.old weights.old }
     requires voters { length has_entry.old ≡ length snapshot.now.voters }
@@ -275,14 +275,16 @@ fn first_unnominated(snapshot: &Snapshot, entry: &Entry) -> Option<u16>
     }
 }
 
-/// Whether the target is among the votes. Most voters have as many votes as there may be, and so
-/// many are gone through without counting.
+/// Whether the target is among the votes. Most voters have as many votes as there may be, or as an
+/// entry of a plain solution can name, and so many are gone through without counting.
 #[inline(always)]
 fn is_vote(votes: &[u16], target: u16) -> bool
     ensures { result ≡ has votes.now target }
 {
     if votes.len() == MOST_NOMINATIONS {
         is_among(&votes[..MOST_NOMINATIONS], target)
+    } else if votes.len() == PLAIN_GROUPS {
+        is_among(&votes[..PLAIN_GROUPS], target)
     } else {
         is_among(votes, target)
     }

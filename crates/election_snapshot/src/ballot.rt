@@ -8,7 +8,7 @@ use std::marker::Model;
 #[derive(Drop)]
 pub(crate) struct Ballot {
     votes: [u16; MOST_NOMINATIONS],
-    count: usize,
+    count: u16,
 }
 
 impl Model for Ballot {
@@ -31,13 +31,13 @@ impl Ballot {
         kept[..votes.len()].copy_from_slice(votes);
         Ballot {
             votes: kept,
-            count: votes.len(),
+            count: votes.len() as u16,
         }
     }
 
     pub(crate) fn votes(&self) -> &[u16]
         ensures { result.now ≡ self.now }
     {
-        &self.votes[..self.count]
+        &self.votes[..usize::from(self.count)]
     }
 }

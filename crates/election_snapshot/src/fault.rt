@@ -23,7 +23,7 @@ pub enum SnapshotFault {
     TooManyTargets,
     /// 16,384 voters stand already.
     TooManyVoters,
-    /// There are more than 16 votes.
+    /// There are more than 24 votes.
     TooManyVotes(u32),
     /// The stakes would sum to 2^64 or more.
     TotalTooLarge(u32),

@@ -90,7 +90,7 @@ impl Snapshot {
         self.parts.stakes()
     }
 
-    /// The nominations of a voter, in the order in which they were added: 1 to 16 different
+    /// The nominations of a voter, in the order in which they were added: 1 to 24 different
     /// positions of targets.
     pub fn votes(&self, i: u32) -> &[u16]
         requires { i < length self.now.voters }

@@ -10,6 +10,7 @@ use Rattle.std.proofs.lemmas.Map.Views.{IfSome-lookup_from_All}
 use Rattle.npos_base.specs.declared.account.AccountId.{AccountId}
 use Rattle.npos_base.specs.declared.limits.TheConstants.{MOST_PAST_ERAS}
 use Rattle.npos_base.specs.Account.{account_cmp}
+use Rattle.era_book.specs.declared.deferred.DeferredSlash.{DeferredSlash}
 use Rattle.era_book.specs.declared.exposure.Exposure.{Exposure}
 use Rattle.era_book.specs.Exposures.{IsSound}
 use Rattle.era_book.specs.Members.{Member, Members, member_of, members_with, with_member, gaining, with_points}
@@ -36,14 +37,14 @@ pub sound_newcomers : (exposures : List Exposure) → All IsSound exposures → 
 sound_newcomers exposures sound = all_with (λ member. IsSound member.exposure) [] exposures sound (All-nil (λ (member : Member). IsSound member.exposure))
 
 -- the latest era, or an earlier one, has other members
-pub kept_first : (current : ℕ) (first other : Members) (later : List Members) → AreKept (record { current = current; kept = first ∷ later }) → AreMembers other
-    → AreKept (record { current = current; kept = other ∷ later })
-kept_first current first other later kept sound =
+pub kept_first : {queue : List DeferredSlash} {next : ℕ} (current : ℕ) (first other : Members) (later : List Members) → AreKept (record { current = current; kept = first ∷ later; queue = queue; next_slash = next }) → AreMembers other
+    → AreKept (record { current = current; kept = other ∷ later; queue = queue; next_slash = next })
+kept_first {queue} {next} current first other later kept sound =
     record { count = kept.count; sound = All-cons AreMembers other later sound (All-tail AreMembers first later kept.sound) }
 
-pub kept_later : (current : ℕ) (first other : Members) (later : List Members) (n : ℕ) → AreKept (record { current = current; kept = first ∷ later }) → AreMembers other
-    → AreKept (record { current = current; kept = first ∷ slice_set later n other })
-kept_later current first other later n kept sound =
+pub kept_later : {queue : List DeferredSlash} {next : ℕ} (current : ℕ) (first other : Members) (later : List Members) (n : ℕ) → AreKept (record { current = current; kept = first ∷ later; queue = queue; next_slash = next }) → AreMembers other
+    → AreKept (record { current = current; kept = first ∷ slice_set later n other; queue = queue; next_slash = next })
+kept_later {queue} {next} current first other later n kept sound =
     record {
       count = omega (arith, kept.count, length-set later n other);
       sound =
@@ -74,19 +75,19 @@ found_sound None later n is all = tt
 found_sound (Some members) later n is all = subst (λ (o : Option Members). IfSome o AreMembers) (sym is) (all_at AreMembers later n all)
 
 -- an earlier era stands behind the latest one
-pub earlier_era : (current era : ℕ) (first : Members) (later : List Members) → AreKept (record { current = current; kept = first ∷ later })
-    → era ≤ current → (current - era ≡ 0 → ⊥) → slice_get later (current - era - 1) ≡ era_of (record { current = current; kept = first ∷ later }) era
-earlier_era current era first later kept begun behind = at (is_unknown (record { current = current; kept = first ∷ later }) era) refl where
-  next : (n : ℕ) → (n ≡ 0 → ⊥) → slice_get later (n - 1) ≡ slice_get (first ∷ later) n
-  next zero some = absurd (some refl)
-  next (suc n) some = ap (λ k. slice_get later k) (omega arith)
+pub earlier_era : {queue : List DeferredSlash} {next : ℕ} (current era : ℕ) (first : Members) (later : List Members) → AreKept (record { current = current; kept = first ∷ later; queue = queue; next_slash = next })
+    → era ≤ current → (current - era ≡ 0 → ⊥) → slice_get later (current - era - 1) ≡ era_of (record { current = current; kept = first ∷ later; queue = queue; next_slash = next }) era
+earlier_era {queue} {next} current era first later kept begun behind = at (is_unknown (record { current = current; kept = first ∷ later; queue = queue; next_slash = next }) era) refl where
+  behind_first : (n : ℕ) → (n ≡ 0 → ⊥) → slice_get later (n - 1) ≡ slice_get (first ∷ later) n
+  behind_first zero some = absurd (some refl)
+  behind_first (suc n) some = ap (λ k. slice_get later k) (omega arith)
 
-  at : (b : Bool) → is_unknown (record { current = current; kept = first ∷ later }) era ≡ b
+  at : (b : Bool) → is_unknown (record { current = current; kept = first ∷ later; queue = queue; next_slash = next }) era ≡ b
       → slice_get later (current - era - 1) ≡ cond b None (slice_get (first ∷ later) (current - era))
   at true old =
       let past : era + MOST_PAST_ERAS < current = grind (arith, nat_tests) in
       slice_get_past later (current - era - 1) (omega (arith, kept.count, past))
-  at false known = next (current - era) behind
+  at false known = behind_first (current - era) behind
 
 -- an exposed account stands in an era that is kept
 pub known_exposed : (eras : Eras) (era : ℕ) (who : AccountId) (P : Member → Type 0) → IsSomeAnd (member_in eras era who) P → is_unknown eras era ≡ false
@@ -103,17 +104,17 @@ known_within eras era kept known =
     (begun, omega (arith, begun, late, kept.count))
 
 -- a change of a member of an earlier era
-pub earlier_changed : (current era : ℕ) (who : AccountId) (change : Member → Member) (first old d : Members) (later : List Members)
-    → AreKept (record { current = current; kept = first ∷ later }) → is_unknown (record { current = current; kept = first ∷ later }) era ≡ false
+pub earlier_changed : {queue : List DeferredSlash} {next : ℕ} (current era : ℕ) (who : AccountId) (change : Member → Member) (first old d : Members) (later : List Members)
+    → AreKept (record { current = current; kept = first ∷ later; queue = queue; next_slash = next }) → is_unknown (record { current = current; kept = first ∷ later; queue = queue; next_slash = next }) era ≡ false
     → (current - era ≡ 0 → ⊥) → old ≡ get_or later (current - era - 1) d
-    → record { current = current; kept = first ∷ slice_set later (current - era - 1) (with_member who change old) }
-    ≡ with_member_in era who change (record { current = current; kept = first ∷ later })
-earlier_changed current era who change first old d later kept known behind is =
-    ap (λ (members : List Members). record { current = current; kept = members })
+    → record { current = current; kept = first ∷ slice_set later (current - era - 1) (with_member who change old); queue = queue; next_slash = next }
+    ≡ with_member_in era who change (record { current = current; kept = first ∷ later; queue = queue; next_slash = next })
+earlier_changed {queue} {next} current era who change first old d later kept known behind is =
+    ap (λ (members : List Members). record { current = current; kept = members; queue = queue; next_slash = next })
     (at (current - era) behind (omega arith)
     ∙ ap (λ (members : Members). slice_set (first ∷ later) (current - era) (with_member who change members)) found) where
       eras : Eras
-      eras = record { current = current; kept = first ∷ later }
+      eras = record { current = current; kept = first ∷ later; queue = queue; next_slash = next }
 
       within : (era ≤ current) × (current - era < length (first ∷ later))
       within = known_within eras era kept known
@@ -127,13 +128,13 @@ earlier_changed current era who change first old d later kept known behind is =
       at (suc n) some e = ap (λ k. first ∷ slice_set later k (with_member who change old)) (omega arith)
 
 -- and its era stays sound
-pub earlier_sound : (current era : ℕ) (who : AccountId) (change : Member → Member) (first old d : Members) (later : List Members)
+pub earlier_sound : {queue : List DeferredSlash} {next : ℕ} (current era : ℕ) (who : AccountId) (change : Member → Member) (first old d : Members) (later : List Members)
     → ((member : Member) → (change member).exposure ≡ member.exposure)
-    → AreKept (record { current = current; kept = first ∷ later }) → is_unknown (record { current = current; kept = first ∷ later }) era ≡ false
+    → AreKept (record { current = current; kept = first ∷ later; queue = queue; next_slash = next }) → is_unknown (record { current = current; kept = first ∷ later; queue = queue; next_slash = next }) era ≡ false
     → (current - era ≡ 0 → ⊥) → old ≡ get_or later (current - era - 1) d
-    → AreKept (record { current = current; kept = first ∷ slice_set later (current - era - 1) (with_member who change old) })
-earlier_sound current era who change first old d later same kept known behind is =
-    let within = known_within (record { current = current; kept = first ∷ later }) era kept known in
+    → AreKept (record { current = current; kept = first ∷ slice_set later (current - era - 1) (with_member who change old); queue = queue; next_slash = next })
+earlier_sound {queue} {next} current era who change first old d later same kept known behind is =
+    let within = known_within (record { current = current; kept = first ∷ later; queue = queue; next_slash = next }) era kept known in
     kept_later current first (with_member who change old) later (current - era - 1) kept
     (sound_changed who change same old
     (subst AreMembers (sym is) (All-get_or AreMembers later (current - era - 1) d (omega (arith, within.1, behind)) (All-tail AreMembers first later kept.sound))))

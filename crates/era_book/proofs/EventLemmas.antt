@@ -2,7 +2,7 @@
 use Rattle.std.proofs.Common.{◌≡◌, ℕ, ◌+◌, List, [], ◌∷◌, ◌++◌, refl, ap, arith}
 use Rattle.era_book.specs.declared.exposure.Exposure.{Exposure}
 use Rattle.era_book.specs.Eras.{Eras}
-use Rattle.era_book.specs.Events.{Event, Started, Pointed, Paid, Reported, AreAccepted, after, after_all, given_by, begun}
+use Rattle.era_book.specs.Events.{Event, Started, Pointed, Paid, Reported, Queued, Cancelled, Taken, AreAccepted, after, after_all, given_by, begun}
 
 pub accepted_append : (first second : List Event) (eras : Eras) → AreAccepted first eras → AreAccepted second (after_all first eras) → AreAccepted (first ++ second) eras
 accepted_append [] second eras here there = there
@@ -31,3 +31,6 @@ begun_append (Started exposures ∷ more) second = ap (λ (rest : List (List Exp
 begun_append (Pointed items ∷ more) second = begun_append more second
 begun_append (Paid era who ∷ more) second = begun_append more second
 begun_append (Reported era who fraction ∷ more) second = begun_append more second
+begun_append (Queued due lines ∷ more) second = begun_append more second
+begun_append (Cancelled number ∷ more) second = begun_append more second
+begun_append (Taken ∷ more) second = begun_append more second

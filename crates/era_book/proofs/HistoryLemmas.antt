@@ -14,7 +14,8 @@ use Rattle.era_book.specs.Exposures.{IsSound}
 use Rattle.era_book.specs.Members.{Member, Members, members_with, with_member, gaining, with_points}
 use Rattle.era_book.specs.Eras.{Eras, started, is_unknown, members_in, member_in, with_members, AreMembers, AreKept}
 use Rattle.era_book.specs.Calls.{payout_refusal, claim_refusal, claiming, slash_refusal, fraction_refusal, keeping}
-use Rattle.era_book.specs.Events.{Event, Started, Pointed, Paid, Reported, IsAccepted, after}
+use Rattle.era_book.specs.Events.{Event, Started, Pointed, Paid, Reported, Queued, Cancelled, Taken, IsAccepted, after}
+use Rattle.era_book.specs.Course.{IsFine, AreFine}
 use Rattle.era_book.proofs.MemberLemmas.{all_changed, all_with}
 use Rattle.era_book.proofs.EraLemmas.{sound_changed, sound_pointed, kept_started, known_within, all_at}
 
@@ -162,14 +163,9 @@ kept_after (Paid era who) eras ok kept =
 kept_after (Reported era who fraction) eras ok kept =
     kept_set eras era (with_member who (keeping fraction) (members_in eras era)) kept
     (sound_changed who (keeping fraction) (λ member. refl) (members_in eras era) (members_sound eras era kept))
-
--- kept fractions are at most the whole, and nothing is claimed before the era is over
-pub record IsFine (era current : ℕ) (member : Member) : Type 0 where
-  pub fraction : member.fraction ≤ WHOLE_FRACTION
-  pub unclaimed : current ≤ era → member.claimed ≡ false
-
-abbrev pub AreFine : ℕ → Eras → Type 0
-AreFine era eras = All (IsFine era eras.current) (values_of (members_in eras era))
+kept_after (Queued due lines) eras ok kept = record { count = kept.count; sound = kept.sound }
+kept_after (Cancelled number) eras ok kept = record { count = kept.count; sound = kept.sound }
+kept_after Taken eras ok kept = record { count = kept.count; sound = kept.sound }
 
 pub all_pointed : (P : Member → Type 0) → ((member : Member) (points : ℕ) → P member → P (gaining points member))
     → (members : Members) (items : List (AccountId × ℕ)) → All P (values_of members) → All P (values_of (fold with_points members items))
@@ -239,3 +235,6 @@ fine_after era (Reported other who fraction) eras ok kept fine =
     (λ e. all_changed (IsFine era eras.current) who (keeping fraction) (λ member p. record { fraction = facts.0; unclaimed = p.unclaimed }) (members_in eras other)
     (subst (λ n. All (IsFine era eras.current) (values_of (members_in eras n))) (sym (number_tie other era e)) fine))
     fine)
+fine_after era (Queued due lines) eras ok kept fine = fine
+fine_after era (Cancelled number) eras ok kept fine = fine
+fine_after era Taken eras ok kept fine = fine

@@ -1,5 +1,5 @@
 -- What all payouts of one era are together, and all that is due from one account.
-use Rattle.std.proofs.Common.{◌≡◌, ◌≢◌, ℕ, zero, suc, ◌+◌, ◌-◌, ◌<◌, ◌≤◌, Bool, true, false, cond, ◌||◌, nat_eq, nat_lt, List, [], ◌∷◌, map, filter, fold, slice_get, unwrap_or, sum_by, All, IsSomeAnd, Option, Some, None, refl, ap, sym, subst, ◌∙◌, true≢false, arith}
+use Rattle.std.proofs.Common.{◌≡◌, ◌≢◌, ℕ, zero, suc, ◌+◌, ◌-◌, ◌<◌, ◌≤◌, Bool, true, false, cond, ◌||◌, nat_eq, nat_lt, nat_le, List, [], ◌∷◌, map, filter, fold, slice_get, unwrap_or, sum_by, All, IsSomeAnd, Option, Some, None, refl, ap, sym, subst, ◌∙◌, true≢false, lit≤, arith}
 use Rattle.std.specs.Map.{values_of}
 use Rattle.std.proofs.lemmas.Bool.Decides.{nat_tests}
 use Rattle.std.proofs.lemmas.List.Elements.{All-nil, All-cons, All-head, All-tail}
@@ -7,21 +7,24 @@ use Rattle.std.proofs.lemmas.List.Sums.{sum_by-cons}
 use Rattle.npos_base.specs.declared.account.AccountId.{AccountId}
 use Rattle.npos_base.specs.declared.limits.TheConstants.{MOST_PAST_ERAS, WHOLE_FRACTION}
 use Rattle.npos_base.specs.Account.{same_account}
+use Rattle.era_book.specs.declared.deferred.DeferredSlash.{DeferredSlash}
 use Rattle.era_book.specs.declared.exposure.Backer.{Backer}
 use Rattle.era_book.specs.declared.exposure.Exposure.{Exposure}
-use Rattle.era_book.specs.Exposures.{amount_sum, amount_for, exposed_for, IsSound}
+use Rattle.era_book.specs.Exposures.{amount_sum, amount_for, exposed_for, AreApart, IsSound}
 use Rattle.era_book.specs.Payouts.{part, line, payout_lines}
 use Rattle.era_book.specs.Slashes.{due, slash_lines}
 use Rattle.era_book.specs.Members.{Member, Members, member_of, members_with, total_points, with_member, gaining, with_points}
 use Rattle.era_book.specs.Eras.{Eras, first_era, started, is_unknown, members_in, member_in, AreMembers, AreKept}
 use Rattle.era_book.specs.Calls.{claiming, keeping, paid_to, payout_in, due_behind, slash_in}
-use Rattle.era_book.specs.Events.{Event, Started, Pointed, Paid, Reported, IsAccepted, after, AreAccepted, given_by, pays, makes_due, begun}
-use Rattle.era_book.specs.Laws.{RewardLaw, DueLaw}
+use Rattle.era_book.specs.Events.{Event, Started, Pointed, Paid, Reported, Queued, Cancelled, Taken, IsAccepted, after, AreAccepted, given_by, pays, makes_due, begun, exposures_of}
+use Rattle.era_book.specs.Course.{IsFine, AreFine, AreInOrder, pay_of, all_pay, part_for, due_from, all_due, held_for, all_held, held_in}
+use Rattle.era_book.specs.Laws.{RewardLaw, DueLaw, InOrderLaw, RewardOnLaw, DueOnLaw}
 use Rattle.era_book.proofs.PartLemmas.{part_whole, part_within, parts_within, due_after}
 use Rattle.era_book.proofs.LineLemmas.{kept_sum, payout_within}
 use Rattle.era_book.proofs.MemberLemmas.{sum_changed, sum_stays, sum_with, nothing_with, all_with}
 use Rattle.npos_base.proofs.NumberTests.{number_tie, other_number}
-use Rattle.era_book.proofs.HistoryLemmas.{none_before, members_set, members_stay, members_enter, paid_facts, reported_facts, current_known, members_sound, kept_after, IsFine, AreFine, fine_after, all_pointed}
+use Rattle.era_book.proofs.HistoryLemmas.{none_before, members_set, members_stay, members_enter, paid_facts, reported_facts, current_known, members_sound, kept_after, fine_after, all_pointed}
+use Rattle.era_book.proofs.DeferredLemmas.{queued_after}
 
 -- ---- sums over members
 sum_under : (P : Member → Type 0) (f g : Member → ℕ) → ((member : Member) → P member → f member ≤ g member) → (members : List Member) → All P members
@@ -54,6 +57,9 @@ module _ (era : ℕ) (gives : Event → Eras → ℕ) (begins : (exposures : Lis
   gone_now (Pointed items) eras ok gone = silent (Pointed items) eras ok (gone_unknown eras gone)
   gone_now (Paid other who) eras ok gone = silent (Paid other who) eras ok (gone_unknown eras gone)
   gone_now (Reported other who fraction) eras ok gone = silent (Reported other who fraction) eras ok (gone_unknown eras gone)
+  gone_now (Queued due lines) eras ok gone = silent (Queued due lines) eras ok (gone_unknown eras gone)
+  gone_now (Cancelled number) eras ok gone = silent (Cancelled number) eras ok (gone_unknown eras gone)
+  gone_now Taken eras ok gone = silent Taken eras ok (gone_unknown eras gone)
 
   pub gone_given : (events : List Event) (eras : Eras) → AreAccepted events eras → era + MOST_PAST_ERAS < eras.current → given_by gives events eras ≡ 0
   gone_given [] eras ok gone = refl
@@ -64,6 +70,9 @@ module _ (era : ℕ) (gives : Event → Eras → ℕ) (begins : (exposures : Lis
         later (Pointed items) = gone
         later (Paid other who) = gone
         later (Reported other who fraction) = gone
+        later (Queued due lines) = gone
+        later (Cancelled number) = gone
+        later Taken = gone
 
 -- what newcomers and nobody have not stays at the start of an era
 started_step : (f : Members → ℕ) → f [] ≡ 0 → ((exposures : List Exposure) → f (members_with exposures) ≡ 0)
@@ -82,19 +91,13 @@ started_step f none new era eras exposures late = at (nat_lt eras.current era) r
       enter (nat_eq era (eras.current + 1)) refl before ∙ sym (ap f (none_before eras era before) ∙ none)
   at false e = let begun : era ≤ eras.current = grind (arith, nat_tests) in ap f (members_stay eras era exposures begun late)
 
--- ---- payouts: what was paid of a reward to the members that are claimed
-abbrev got : ℕ → ℕ → Member → ℕ
-got reward points member = cond member.claimed (amount_sum (payout_lines member.exposure (part reward member.points points))) 0
-
-abbrev all_got : ℕ → Members → ℕ
-all_got reward members = sum_by (got reward (total_points members)) (values_of members)
-
-got_within : (reward : ℕ) (members : Members) → AreMembers members → all_got reward members ≤ reward
+-- ---- payouts
+got_within : (reward : ℕ) (members : Members) → AreMembers members → all_pay reward members ≤ reward
 got_within reward members sound =
     let points : ℕ = total_points members in
     omega (
       arith,
-      sum_under (λ member. IsSound member.exposure) (got reward points) (λ member. part reward member.points points) (λ member s. one points member s member.claimed) (values_of members) sound,
+      sum_under (λ member. IsSound member.exposure) (pay_of reward points) (λ member. part reward member.points points) (λ member s. one points member s member.claimed) (values_of members) sound,
       parts_within (λ (member : Member). member.points) reward points (values_of members),
       part_whole reward points,
     ) where
@@ -102,14 +105,14 @@ got_within reward members sound =
       one points member s true = payout_within member.exposure (part reward member.points points) s
       one points member s false = omega arith
 
-nothing_got : (reward : ℕ) (members : Members) → All (λ member. member.claimed ≡ false) (values_of members) → all_got reward members ≡ 0
+nothing_got : (reward : ℕ) (members : Members) → All (λ member. member.claimed ≡ false) (values_of members) → all_pay reward members ≡ 0
 nothing_got reward members unclaimed =
-    sum_none (λ member. member.claimed ≡ false) (got reward (total_points members))
+    sum_none (λ member. member.claimed ≡ false) (pay_of reward (total_points members))
     (λ member is. ap (λ b. cond b (amount_sum (payout_lines member.exposure (part reward member.points (total_points members)))) 0) is) (values_of members) unclaimed
 
 -- a claim adds what is paid for it
 claim_adds : (reward : ℕ) (members : Members) (who : AccountId) → IsSomeAnd (member_of members who) (λ member. member.claimed ≡ false)
-    → all_got reward (with_member who claiming members) ≡ all_got reward members + (paid_to members reward (member_of members who)).total
+    → all_pay reward (with_member who claiming members) ≡ all_pay reward members + (paid_to members reward (member_of members who)).total
 claim_adds reward members who unclaimed = at (member_of members who) refl unclaimed where
   points : ℕ
   points = total_points members
@@ -118,59 +121,62 @@ claim_adds reward members who unclaimed = at (member_of members who) refl unclai
   same = sum_stays (λ member. member.points) who claiming (λ member. refl) members
 
   at : (found : Option Member) → member_of members who ≡ found → IsSomeAnd found (λ member. member.claimed ≡ false)
-      → sum_by (got reward (total_points (with_member who claiming members))) (values_of (with_member who claiming members)) ≡ sum_by (got reward points) (values_of members) + (paid_to members reward found).total
+      → sum_by (pay_of reward (total_points (with_member who claiming members))) (values_of (with_member who claiming members)) ≡ sum_by (pay_of reward points) (values_of members) + (paid_to members reward found).total
   at None is unclaimed_yet = absurd unclaimed_yet
   at (Some member) is unclaimed_yet =
-      let none : got reward points member ≡ 0 = ap (λ b. cond b (amount_sum (payout_lines member.exposure (part reward member.points points))) 0) unclaimed_yet in
-      ap (λ n. sum_by (got reward n) (values_of (with_member who claiming members))) same
-      ∙ omega (arith, sum_changed (got reward points) who claiming members member is, none)
+      let none : pay_of reward points member ≡ 0 = ap (λ b. cond b (amount_sum (payout_lines member.exposure (part reward member.points points))) 0) unclaimed_yet in
+      ap (λ n. sum_by (pay_of reward n) (values_of (with_member who claiming members))) same
+      ∙ omega (arith, sum_changed (pay_of reward points) who claiming members member is, none)
 
-report_keeps : (reward : ℕ) (members : Members) (who : AccountId) (fraction : ℕ) → all_got reward (with_member who (keeping fraction) members) ≡ all_got reward members
+report_keeps : (reward : ℕ) (members : Members) (who : AccountId) (fraction : ℕ) → all_pay reward (with_member who (keeping fraction) members) ≡ all_pay reward members
 report_keeps reward members who fraction =
-    ap (λ n. sum_by (got reward n) (values_of (with_member who (keeping fraction) members))) (sum_stays (λ member. member.points) who (keeping fraction) (λ member. refl) members)
-    ∙ sum_stays (got reward (total_points members)) who (keeping fraction) (λ member. refl) members
+    ap (λ n. sum_by (pay_of reward n) (values_of (with_member who (keeping fraction) members))) (sum_stays (λ member. member.points) who (keeping fraction) (λ member. refl) members)
+    ∙ sum_stays (pay_of reward (total_points members)) who (keeping fraction) (λ member. refl) members
 
 got_after : (era reward : ℕ) (event : Event) (eras : Eras) → IsAccepted event eras → AreKept eras → AreFine era eras
-    → (after event eras).current ≤ era + MOST_PAST_ERAS → all_got reward (members_in (after event eras) era) ≡ all_got reward (members_in eras era) + pays era reward event eras
+    → (after event eras).current ≤ era + MOST_PAST_ERAS → all_pay reward (members_in (after event eras) era) ≡ all_pay reward (members_in eras era) + pays era reward event eras
 got_after era reward (Started exposures) eras ok kept fine late =
-    started_step (all_got reward) nobody newcomers era eras exposures late ∙ omega arith where
-      nobody : all_got reward [] ≡ 0
+    started_step (all_pay reward) nobody newcomers era eras exposures late ∙ omega arith where
+      nobody : all_pay reward [] ≡ 0
       nobody = nothing_got reward [] (All-nil (λ (member : Member). member.claimed ≡ false))
 
-      newcomers : (es : List Exposure) → all_got reward (members_with es) ≡ 0
+      newcomers : (es : List Exposure) → all_pay reward (members_with es) ≡ 0
       newcomers es = nothing_got reward (members_with es) (all_with (λ member. member.claimed ≡ false) [] es (λ k d within. refl) (All-nil (λ (member : Member). member.claimed ≡ false)))
 got_after era reward (Pointed items) eras ok kept fine late =
-    ap (all_got reward) (members_set eras eras.current era (fold with_points (members_in eras eras.current) items) kept (current_known eras))
+    ap (all_pay reward) (members_set eras eras.current era (fold with_points (members_in eras eras.current) items) kept (current_known eras))
     ∙ at (nat_eq eras.current era) refl where
-      at : (b : Bool) → nat_eq eras.current era ≡ b → all_got reward (cond b (fold with_points (members_in eras eras.current) items) (members_in eras era)) ≡ all_got reward (members_in eras era) + 0
+      at : (b : Bool) → nat_eq eras.current era ≡ b → all_pay reward (cond b (fold with_points (members_in eras eras.current) items) (members_in eras era)) ≡ all_pay reward (members_in eras era) + 0
       at true e =
           let same : eras.current ≡ era = number_tie eras.current era e in
           let unclaimed : All (λ (member : Member). member.claimed ≡ false) (values_of (members_in eras era)) = λ k d within. (fine k d within).unclaimed (omega (arith, same)) in
           let here : All (λ (member : Member). member.claimed ≡ false) (values_of (members_in eras eras.current)) =
           subst (λ n. All (λ (member : Member). member.claimed ≡ false) (values_of (members_in eras n))) (sym same) unclaimed in
-          let now : all_got reward (fold with_points (members_in eras eras.current) items) ≡ 0 =
+          let now : all_pay reward (fold with_points (members_in eras eras.current) items) ≡ 0 =
           nothing_got reward (fold with_points (members_in eras eras.current) items) (all_pointed (λ member. member.claimed ≡ false) (λ member points is. is) (members_in eras eras.current) items here) in
-          let before : all_got reward (members_in eras era) ≡ 0 = nothing_got reward (members_in eras era) unclaimed in
+          let before : all_pay reward (members_in eras era) ≡ 0 = nothing_got reward (members_in eras era) unclaimed in
           omega (arith, now, before)
       at false e = omega arith
 got_after era reward (Paid other who) eras ok kept fine late =
     let facts = paid_facts eras other who ok in
-    ap (all_got reward) (members_set eras other era (with_member who claiming (members_in eras other)) kept facts.0)
+    ap (all_pay reward) (members_set eras other era (with_member who claiming (members_in eras other)) kept facts.0)
     ∙ at (nat_eq other era) refl facts.2 where
       at : (b : Bool) → nat_eq other era ≡ b → IsSomeAnd (member_in eras other who) (λ member. member.claimed ≡ false)
-          → all_got reward (cond b (with_member who claiming (members_in eras other)) (members_in eras era)) ≡ all_got reward (members_in eras era) + cond b (payout_in eras other who reward).total 0
+          → all_pay reward (cond b (with_member who claiming (members_in eras other)) (members_in eras era)) ≡ all_pay reward (members_in eras era) + cond b (payout_in eras other who reward).total 0
       at true e unclaimed_yet =
           claim_adds reward (members_in eras other) who unclaimed_yet
-          ∙ ap (λ n. all_got reward (members_in eras n) + (payout_in eras other who reward).total) (number_tie other era e)
+          ∙ ap (λ n. all_pay reward (members_in eras n) + (payout_in eras other who reward).total) (number_tie other era e)
       at false e unclaimed_yet = omega arith
 got_after era reward (Reported other who fraction) eras ok kept fine late =
     let facts = reported_facts eras other who fraction ok in
-    ap (all_got reward) (members_set eras other era (with_member who (keeping fraction) (members_in eras other)) kept facts.1)
+    ap (all_pay reward) (members_set eras other era (with_member who (keeping fraction) (members_in eras other)) kept facts.1)
     ∙ at (nat_eq other era) refl where
-      at : (b : Bool) → nat_eq other era ≡ b → all_got reward (cond b (with_member who (keeping fraction) (members_in eras other)) (members_in eras era)) ≡ all_got reward (members_in eras era) + 0
+      at : (b : Bool) → nat_eq other era ≡ b → all_pay reward (cond b (with_member who (keeping fraction) (members_in eras other)) (members_in eras era)) ≡ all_pay reward (members_in eras era) + 0
       at true e =
-          report_keeps reward (members_in eras other) who fraction ∙ ap (λ n. all_got reward (members_in eras n)) (number_tie other era e) ∙ omega arith
+          report_keeps reward (members_in eras other) who fraction ∙ ap (λ n. all_pay reward (members_in eras n)) (number_tie other era e) ∙ omega arith
       at false e = omega arith
+got_after era reward (Queued due lines) eras ok kept fine late = omega arith
+got_after era reward (Cancelled number) eras ok kept fine late = omega arith
+got_after era reward Taken eras ok kept fine late = omega arith
 
 pays_silent : (era reward : ℕ) (event : Event) (eras : Eras) → IsAccepted event eras → is_unknown eras era ≡ true → pays era reward event eras ≡ 0
 pays_silent era reward (Started exposures) eras ok unknown = refl
@@ -180,16 +186,19 @@ pays_silent era reward (Paid other who) eras ok unknown = at (nat_eq other era) 
   at true e = absurd (true≢false (sym unknown ∙ ap (λ n. is_unknown eras n) (sym (number_tie other era e)) ∙ (paid_facts eras other who ok).0))
   at false e = refl
 pays_silent era reward (Reported other who fraction) eras ok unknown = refl
+pays_silent era reward (Queued due lines) eras ok unknown = refl
+pays_silent era reward (Cancelled number) eras ok unknown = refl
+pays_silent era reward Taken eras ok unknown = refl
 
-paid_within : (era reward : ℕ) (events : List Event) (eras : Eras) → AreAccepted events eras → AreKept eras → AreFine era eras
-    → all_got reward (members_in eras era) + given_by (pays era reward) events eras ≤ reward
+pub paid_within : (era reward : ℕ) (events : List Event) (eras : Eras) → AreAccepted events eras → AreKept eras → AreFine era eras
+    → all_pay reward (members_in eras era) + given_by (pays era reward) events eras ≤ reward
 paid_within era reward [] eras ok kept fine = omega (arith, got_within reward (members_in eras era) (members_sound eras era kept))
 paid_within era reward (event ∷ more) eras ok kept fine =
     at (nat_lt (era + MOST_PAST_ERAS) (after event eras).current) refl
     (paid_within era reward more (after event eras) ok.1 (kept_after event eras ok.0 kept) (fine_after era event eras ok.0 kept fine)) where
       at : (b : Bool) → nat_lt (era + MOST_PAST_ERAS) (after event eras).current ≡ b
-          → all_got reward (members_in (after event eras) era) + given_by (pays era reward) more (after event eras) ≤ reward
-          → all_got reward (members_in eras era) + (pays era reward event eras + given_by (pays era reward) more (after event eras)) ≤ reward
+          → all_pay reward (members_in (after event eras) era) + given_by (pays era reward) more (after event eras) ≤ reward
+          → all_pay reward (members_in eras era) + (pays era reward event eras + given_by (pays era reward) more (after event eras)) ≤ reward
       at true e rest =
           let gone : era + MOST_PAST_ERAS < (after event eras).current = grind (arith, nat_tests) in
           omega (
@@ -212,26 +221,39 @@ first_members (suc era) = none_before first_era (suc era) (omega arith)
 first_fine : (era : ℕ) → AreFine era first_era
 first_fine era = subst (λ (members : Members). All (IsFine era 0) (values_of members)) (sym (first_members era)) (All-nil (IsFine era 0))
 
+-- ---- eras in order
+first_order : AreInOrder first_era
+first_order =
+    record {
+      kept = first_kept;
+      fine = first_fine;
+      queued = record {
+        numbers = λ i j d less within. absurd (omega (arith, within));
+        given = All-nil (λ (slash : DeferredSlash). slash.number < 1);
+        dues = λ i j d less within. absurd (omega (arith, within));
+        most = lit≤ tt;
+        distinct = All-nil (λ (slash : DeferredSlash). AreApart slash.lines);
+      };
+    }
+
+pub in_order_law : InOrderLaw
+in_order_law = (
+  first_order,
+  λ event eras ok order.
+      record {
+        kept = kept_after event eras ok order.kept;
+        fine = λ era. fine_after era event eras ok order.kept (order.fine era);
+        queued = queued_after event eras ok order.queued;
+      },
+)
+
+pub reward_on_law : RewardOnLaw
+reward_on_law era reward events eras order ok = paid_within era reward events eras ok order.kept (order.fine era)
+
 pub reward_law : RewardLaw
-reward_law era reward events ok = omega (arith, paid_within era reward events first_era ok first_kept (first_fine era))
+reward_law era reward events ok = omega (arith, reward_on_law era reward events first_era first_order ok)
 
--- ---- dues: what was made due from one account by the kept fractions
-abbrev part_for : AccountId → ℕ → Backer → ℕ
-part_for who fraction backer = cond (same_account backer.who who) (part backer.amount fraction WHOLE_FRACTION) 0
-
-abbrev taken : AccountId → Member → ℕ
-taken who member = sum_by (part_for who member.fraction) member.exposure.backers
-
-abbrev all_taken : AccountId → Members → ℕ
-all_taken who members = sum_by (taken who) (values_of members)
-
--- what the exposures hold for the account
-abbrev held : AccountId → Member → ℕ
-held who member = amount_for who member.exposure.backers
-
-abbrev all_held : AccountId → Members → ℕ
-all_held who members = sum_by (held who) (values_of members)
-
+-- ---- dues
 pub for_sum : (who : AccountId) (ls : List Backer) → amount_for who ls ≡ sum_by (λ l. cond (same_account l.who who) l.amount 0) ls
 for_sum who [] = refl
 for_sum who (l ∷ ls) = at (same_account l.who who) refl (for_sum who ls) where
@@ -251,7 +273,7 @@ for_sum who (l ∷ ls) = at (same_account l.who who) refl (for_sum who ls) where
       let here : cond (same_account l.who who) l.amount 0 ≡ 0 = ap (λ b. cond b l.amount 0) is in
       omega (arith, rest, here, sum_by-cons (λ (x : Backer). cond (same_account x.who who) x.amount 0) l ls)
 
-taken_within : (who : AccountId) (member : Member) → member.fraction ≤ WHOLE_FRACTION → taken who member ≤ held who member
+taken_within : (who : AccountId) (member : Member) → member.fraction ≤ WHOLE_FRACTION → due_from who member ≤ held_for who member
 taken_within who member most = omega (arith, for_sum who member.exposure.backers, below member.exposure.backers) where
   one : (b : Bool) (amount : ℕ) → cond b (part amount member.fraction WHOLE_FRACTION) 0 ≤ cond b amount 0
   one true amount = part_within amount member.fraction WHOLE_FRACTION most
@@ -302,20 +324,20 @@ lines_add who bs kept fraction less =
           )
 
 report_adds : (who : AccountId) (members : Members) (validator : AccountId) (fraction : ℕ) → IsSomeAnd (member_of members validator) (λ member. member.fraction < fraction)
-    → all_taken who (with_member validator (keeping fraction) members) ≡ all_taken who members + amount_for who (due_behind fraction (member_of members validator))
+    → all_due who (with_member validator (keeping fraction) members) ≡ all_due who members + amount_for who (due_behind fraction (member_of members validator))
 report_adds who members validator fraction below = at (member_of members validator) refl below where
   at : (found : Option Member) → member_of members validator ≡ found → IsSomeAnd found (λ member. member.fraction < fraction)
-      → all_taken who (with_member validator (keeping fraction) members) ≡ all_taken who members + amount_for who (due_behind fraction found)
+      → all_due who (with_member validator (keeping fraction) members) ≡ all_due who members + amount_for who (due_behind fraction found)
   at None is less = absurd less
   at (Some member) is less =
       omega (
         arith,
-        sum_changed (taken who) validator (keeping fraction) members member is,
+        sum_changed (due_from who) validator (keeping fraction) members member is,
         lines_add who member.exposure.backers member.fraction fraction (omega (arith, less)),
       )
 
-newcomers_untaken : (who : AccountId) (exposures : List Exposure) → all_taken who (members_with exposures) ≡ 0
-newcomers_untaken who exposures = nothing_with (taken who) (λ exposure. none exposure.backers) exposures where
+newcomers_untaken : (who : AccountId) (exposures : List Exposure) → all_due who (members_with exposures) ≡ 0
+newcomers_untaken who exposures = nothing_with (due_from who) (λ exposure. none exposure.backers) exposures where
   one : (b : Bool) (amount : ℕ) → cond b (part amount 0 WHOLE_FRACTION) 0 ≡ 0
   one true amount = omega (arith, part_nothing amount) where
     part_nothing : (amount : ℕ) → part amount 0 WHOLE_FRACTION ≡ 0
@@ -327,35 +349,38 @@ newcomers_untaken who exposures = nothing_with (taken who) (λ exposure. none ex
   none (b ∷ bs) = omega (arith, sum_by-cons (part_for who 0) b bs, one (same_account b.who who) b.amount, none bs)
 
 taken_after : (era : ℕ) (who : AccountId) (event : Event) (eras : Eras) → IsAccepted event eras → AreKept eras
-    → (after event eras).current ≤ era + MOST_PAST_ERAS → all_taken who (members_in (after event eras) era) ≡ all_taken who (members_in eras era) + makes_due era who event eras
+    → (after event eras).current ≤ era + MOST_PAST_ERAS → all_due who (members_in (after event eras) era) ≡ all_due who (members_in eras era) + makes_due era who event eras
 taken_after era who (Started exposures) eras ok kept late =
-    started_step (all_taken who) refl (newcomers_untaken who) era eras exposures late ∙ omega arith
+    started_step (all_due who) refl (newcomers_untaken who) era eras exposures late ∙ omega arith
 taken_after era who (Pointed items) eras ok kept late =
-    ap (all_taken who) (members_set eras eras.current era (fold with_points (members_in eras eras.current) items) kept (current_known eras))
+    ap (all_due who) (members_set eras eras.current era (fold with_points (members_in eras eras.current) items) kept (current_known eras))
     ∙ at (nat_eq eras.current era) refl where
-      at : (b : Bool) → nat_eq eras.current era ≡ b → all_taken who (cond b (fold with_points (members_in eras eras.current) items) (members_in eras era)) ≡ all_taken who (members_in eras era) + 0
+      at : (b : Bool) → nat_eq eras.current era ≡ b → all_due who (cond b (fold with_points (members_in eras eras.current) items) (members_in eras era)) ≡ all_due who (members_in eras era) + 0
       at true e =
-          sum_pointed (taken who) (λ member points. refl) (members_in eras eras.current) items
-          ∙ ap (λ n. all_taken who (members_in eras n)) (number_tie eras.current era e) ∙ omega arith
+          sum_pointed (due_from who) (λ member points. refl) (members_in eras eras.current) items
+          ∙ ap (λ n. all_due who (members_in eras n)) (number_tie eras.current era e) ∙ omega arith
       at false e = omega arith
 taken_after era who (Paid other validator) eras ok kept late =
-    ap (all_taken who) (members_set eras other era (with_member validator claiming (members_in eras other)) kept (paid_facts eras other validator ok).0)
+    ap (all_due who) (members_set eras other era (with_member validator claiming (members_in eras other)) kept (paid_facts eras other validator ok).0)
     ∙ at (nat_eq other era) refl where
-      at : (b : Bool) → nat_eq other era ≡ b → all_taken who (cond b (with_member validator claiming (members_in eras other)) (members_in eras era)) ≡ all_taken who (members_in eras era) + 0
+      at : (b : Bool) → nat_eq other era ≡ b → all_due who (cond b (with_member validator claiming (members_in eras other)) (members_in eras era)) ≡ all_due who (members_in eras era) + 0
       at true e =
-          sum_stays (taken who) validator claiming (λ member. refl) (members_in eras other) ∙ ap (λ n. all_taken who (members_in eras n)) (number_tie other era e) ∙ omega arith
+          sum_stays (due_from who) validator claiming (λ member. refl) (members_in eras other) ∙ ap (λ n. all_due who (members_in eras n)) (number_tie other era e) ∙ omega arith
       at false e = omega arith
 taken_after era who (Reported other validator fraction) eras ok kept late =
     let facts = reported_facts eras other validator fraction ok in
-    ap (all_taken who) (members_set eras other era (with_member validator (keeping fraction) (members_in eras other)) kept facts.1)
+    ap (all_due who) (members_set eras other era (with_member validator (keeping fraction) (members_in eras other)) kept facts.1)
     ∙ at (nat_eq other era) refl facts.2 where
       at : (b : Bool) → nat_eq other era ≡ b → IsSomeAnd (member_in eras other validator) (λ member. member.fraction < fraction)
-          → all_taken who (cond b (with_member validator (keeping fraction) (members_in eras other)) (members_in eras era))
-          ≡ all_taken who (members_in eras era) + cond b (amount_for who (slash_in eras other validator fraction)) 0
+          → all_due who (cond b (with_member validator (keeping fraction) (members_in eras other)) (members_in eras era))
+          ≡ all_due who (members_in eras era) + cond b (amount_for who (slash_in eras other validator fraction)) 0
       at true e below =
           report_adds who (members_in eras other) validator fraction below
-          ∙ ap (λ n. all_taken who (members_in eras n) + amount_for who (slash_in eras other validator fraction)) (number_tie other era e)
+          ∙ ap (λ n. all_due who (members_in eras n) + amount_for who (slash_in eras other validator fraction)) (number_tie other era e)
       at false e below = omega arith
+taken_after era who (Queued due lines) eras ok kept late = omega arith
+taken_after era who (Cancelled number) eras ok kept late = omega arith
+taken_after era who Taken eras ok kept late = omega arith
 
 -- what the exposures of an era hold stays
 held_after : (era : ℕ) (who : AccountId) (event : Event) (eras : Eras) → IsAccepted event eras → AreKept eras → era ≤ eras.current
@@ -366,20 +391,23 @@ held_after era who (Pointed items) eras ok kept started_yet late =
     ∙ at (nat_eq eras.current era) refl where
       at : (b : Bool) → nat_eq eras.current era ≡ b → all_held who (cond b (fold with_points (members_in eras eras.current) items) (members_in eras era)) ≡ all_held who (members_in eras era)
       at true e =
-          sum_pointed (held who) (λ member points. refl) (members_in eras eras.current) items ∙ ap (λ n. all_held who (members_in eras n)) (number_tie eras.current era e)
+          sum_pointed (held_for who) (λ member points. refl) (members_in eras eras.current) items ∙ ap (λ n. all_held who (members_in eras n)) (number_tie eras.current era e)
       at false e = refl
 held_after era who (Paid other validator) eras ok kept started_yet late =
     ap (all_held who) (members_set eras other era (with_member validator claiming (members_in eras other)) kept (paid_facts eras other validator ok).0)
     ∙ at (nat_eq other era) refl where
       at : (b : Bool) → nat_eq other era ≡ b → all_held who (cond b (with_member validator claiming (members_in eras other)) (members_in eras era)) ≡ all_held who (members_in eras era)
-      at true e = sum_stays (held who) validator claiming (λ member. refl) (members_in eras other) ∙ ap (λ n. all_held who (members_in eras n)) (number_tie other era e)
+      at true e = sum_stays (held_for who) validator claiming (λ member. refl) (members_in eras other) ∙ ap (λ n. all_held who (members_in eras n)) (number_tie other era e)
       at false e = refl
 held_after era who (Reported other validator fraction) eras ok kept started_yet late =
     ap (all_held who) (members_set eras other era (with_member validator (keeping fraction) (members_in eras other)) kept (reported_facts eras other validator fraction ok).1)
     ∙ at (nat_eq other era) refl where
       at : (b : Bool) → nat_eq other era ≡ b → all_held who (cond b (with_member validator (keeping fraction) (members_in eras other)) (members_in eras era)) ≡ all_held who (members_in eras era)
-      at true e = sum_stays (held who) validator (keeping fraction) (λ member. refl) (members_in eras other) ∙ ap (λ n. all_held who (members_in eras n)) (number_tie other era e)
+      at true e = sum_stays (held_for who) validator (keeping fraction) (λ member. refl) (members_in eras other) ∙ ap (λ n. all_held who (members_in eras n)) (number_tie other era e)
       at false e = refl
+held_after era who (Queued due lines) eras ok kept started_yet late = refl
+held_after era who (Cancelled number) eras ok kept started_yet late = refl
+held_after era who Taken eras ok kept started_yet late = refl
 
 dues_silent : (era : ℕ) (who : AccountId) (event : Event) (eras : Eras) → IsAccepted event eras → is_unknown eras era ≡ true → makes_due era who event eras ≡ 0
 dues_silent era who (Started exposures) eras ok unknown = refl
@@ -389,27 +417,33 @@ dues_silent era who (Reported other validator fraction) eras ok unknown = at (na
   at : (b : Bool) → nat_eq other era ≡ b → cond b (amount_for who (slash_in eras other validator fraction)) 0 ≡ 0
   at true e = absurd (true≢false (sym unknown ∙ ap (λ n. is_unknown eras n) (sym (number_tie other era e)) ∙ (reported_facts eras other validator fraction ok).1))
   at false e = refl
+dues_silent era who (Queued due lines) eras ok unknown = refl
+dues_silent era who (Cancelled number) eras ok unknown = refl
+dues_silent era who Taken eras ok unknown = refl
 
-all_taken_within : (era : ℕ) (who : AccountId) (eras : Eras) → AreFine era eras → all_taken who (members_in eras era) ≤ all_held who (members_in eras era)
+all_taken_within : (era : ℕ) (who : AccountId) (eras : Eras) → AreFine era eras → all_due who (members_in eras era) ≤ all_held who (members_in eras era)
 all_taken_within era who eras fine =
-    sum_under (IsFine era eras.current) (taken who) (held who) (λ member p. taken_within who member p.fraction) (values_of (members_in eras era)) fine
+    sum_under (IsFine era eras.current) (due_from who) (held_for who) (λ member p. taken_within who member p.fraction) (values_of (members_in eras era)) fine
 
 never_back : (event : Event) (eras : Eras) (era : ℕ) → era ≤ eras.current → era ≤ (after event eras).current
 never_back (Started exposures) eras era h = omega (arith, h)
 never_back (Pointed items) eras era h = h
 never_back (Paid other who) eras era h = h
 never_back (Reported other who fraction) eras era h = h
+never_back (Queued due lines) eras era h = h
+never_back (Cancelled number) eras era h = h
+never_back Taken eras era h = h
 
 -- once an era has begun
-due_within : (era : ℕ) (who : AccountId) (events : List Event) (eras : Eras) → AreAccepted events eras → AreKept eras → AreFine era eras → era ≤ eras.current
-    → all_taken who (members_in eras era) + given_by (makes_due era who) events eras ≤ all_held who (members_in eras era)
+pub due_within : (era : ℕ) (who : AccountId) (events : List Event) (eras : Eras) → AreAccepted events eras → AreKept eras → AreFine era eras → era ≤ eras.current
+    → all_due who (members_in eras era) + given_by (makes_due era who) events eras ≤ all_held who (members_in eras era)
 due_within era who [] eras ok kept fine has_begun = omega (arith, all_taken_within era who eras fine)
 due_within era who (event ∷ more) eras ok kept fine has_begun =
     at (nat_lt (era + MOST_PAST_ERAS) (after event eras).current) refl
     (due_within era who more (after event eras) ok.1 (kept_after event eras ok.0 kept) (fine_after era event eras ok.0 kept fine) (never_back event eras era has_begun)) where
       at : (b : Bool) → nat_lt (era + MOST_PAST_ERAS) (after event eras).current ≡ b
-          → all_taken who (members_in (after event eras) era) + given_by (makes_due era who) more (after event eras) ≤ all_held who (members_in (after event eras) era)
-          → all_taken who (members_in eras era) + (makes_due era who event eras + given_by (makes_due era who) more (after event eras)) ≤ all_held who (members_in eras era)
+          → all_due who (members_in (after event eras) era) + given_by (makes_due era who) more (after event eras) ≤ all_held who (members_in (after event eras) era)
+          → all_due who (members_in eras era) + (makes_due era who event eras + given_by (makes_due era who) more (after event eras)) ≤ all_held who (members_in eras era)
       at true e rest =
           let gone : era + MOST_PAST_ERAS < (after event eras).current = grind (arith, nat_tests) in
           omega (
@@ -423,21 +457,21 @@ due_within era who (event ∷ more) eras ok kept fine has_begun =
           omega (arith, taken_after era who event eras ok.0 kept late, held_after era who event eras ok.0 kept has_begun late, rest)
 
 newcomers_held : (who : AccountId) (exposures : List Exposure) → all_held who (members_with exposures) ≤ exposed_for who exposures
-newcomers_held who exposures = omega (arith, sum_with (held who) [] exposures)
+newcomers_held who exposures = omega (arith, sum_with (held_for who) [] exposures)
 
 -- before it has begun
-due_before : (era : ℕ) (who : AccountId) (events : List Event) (eras : Eras) → AreAccepted events eras → AreKept eras → AreFine era eras → eras.current < era
+pub due_later : (era : ℕ) (who : AccountId) (events : List Event) (eras : Eras) → AreAccepted events eras → AreKept eras → AreFine era eras → eras.current < era
     → given_by (makes_due era who) events eras ≤ exposed_for who (unwrap_or (slice_get (begun events) (era - (eras.current + 1))) [])
-due_before era who [] eras ok kept fine before = omega arith
-due_before era who (Started exposures ∷ more) eras ok kept fine before =
+due_later era who [] eras ok kept fine before = omega arith
+due_later era who (Started exposures ∷ more) eras ok kept fine before =
     at (nat_eq era (eras.current + 1)) refl
     (due_within era who more (started exposures eras) ok.1 (kept_after (Started exposures) eras ok.0 kept) (fine_after era (Started exposures) eras ok.0 kept fine))
-    (due_before era who more (started exposures eras) ok.1 (kept_after (Started exposures) eras ok.0 kept) (fine_after era (Started exposures) eras ok.0 kept fine)) where
+    (due_later era who more (started exposures eras) ok.1 (kept_after (Started exposures) eras ok.0 kept) (fine_after era (Started exposures) eras ok.0 kept fine)) where
       now : Eras
       now = started exposures eras
 
       at : (b : Bool) → nat_eq era (eras.current + 1) ≡ b
-          → (era ≤ now.current → all_taken who (members_in now era) + given_by (makes_due era who) more now ≤ all_held who (members_in now era))
+          → (era ≤ now.current → all_due who (members_in now era) + given_by (makes_due era who) more now ≤ all_held who (members_in now era))
           → (now.current < era → given_by (makes_due era who) more now ≤ exposed_for who (unwrap_or (slice_get (begun more) (era - (now.current + 1))) []))
           → 0 + given_by (makes_due era who) more now ≤ exposed_for who (unwrap_or (slice_get (exposures ∷ begun more) (era - (eras.current + 1))) [])
       at true e begins waits =
@@ -464,18 +498,18 @@ due_before era who (Started exposures ∷ more) eras ok kept fine before =
 
             further : era ≢ eras.current + 1 → eras.current + 1 < era
             further apart = omega (arith, before)
-due_before era who (Pointed items ∷ more) eras ok kept fine before =
-    omega (arith, due_before era who more (after (Pointed items) eras) ok.1 (kept_after (Pointed items) eras ok.0 kept) (fine_after era (Pointed items) eras ok.0 kept fine) before)
-due_before era who (Paid other validator ∷ more) eras ok kept fine before =
+due_later era who (Pointed items ∷ more) eras ok kept fine before =
+    omega (arith, due_later era who more (after (Pointed items) eras) ok.1 (kept_after (Pointed items) eras ok.0 kept) (fine_after era (Pointed items) eras ok.0 kept fine) before)
+due_later era who (Paid other validator ∷ more) eras ok kept fine before =
     omega (
       arith,
-      due_before era who more (after (Paid other validator) eras) ok.1 (kept_after (Paid other validator) eras ok.0 kept) (fine_after era (Paid other validator) eras ok.0 kept fine) before,
+      due_later era who more (after (Paid other validator) eras) ok.1 (kept_after (Paid other validator) eras ok.0 kept) (fine_after era (Paid other validator) eras ok.0 kept fine) before,
     )
-due_before era who (Reported other validator fraction ∷ more) eras ok kept fine before =
+due_later era who (Reported other validator fraction ∷ more) eras ok kept fine before =
     omega (
       arith,
       dues_silent era who (Reported other validator fraction) eras ok.0 (not_begun before),
-      due_before era who more (after (Reported other validator fraction) eras) ok.1 (kept_after (Reported other validator fraction) eras ok.0 kept)
+      due_later era who more (after (Reported other validator fraction) eras) ok.1 (kept_after (Reported other validator fraction) eras ok.0 kept)
           (fine_after era (Reported other validator fraction) eras ok.0 kept fine) before,
     ) where
       not_begun : eras.current < era → is_unknown eras era ≡ true
@@ -483,11 +517,32 @@ due_before era who (Reported other validator fraction ∷ more) eras ok kept fin
         at : (b : Bool) → nat_lt eras.current era ≡ b → (b || nat_lt (era + MOST_PAST_ERAS) eras.current) ≡ true
         at true e = refl
         at false e = absurd (grind (arith, nat_tests))
+due_later era who (Queued due lines ∷ more) eras ok kept fine before =
+    omega (arith, due_later era who more (after (Queued due lines) eras) ok.1 (kept_after (Queued due lines) eras ok.0 kept) fine before)
+due_later era who (Cancelled number ∷ more) eras ok kept fine before =
+    omega (arith, due_later era who more (after (Cancelled number) eras) ok.1 (kept_after (Cancelled number) eras ok.0 kept) fine before)
+due_later era who (Taken ∷ more) eras ok kept fine before =
+    omega (arith, due_later era who more (after Taken eras) ok.1 (kept_after Taken eras ok.0 kept) fine before)
+
+pub due_on_law : DueOnLaw
+due_on_law era who events eras order ok = at (nat_le era eras.current) refl where
+  at : (b : Bool) → nat_le era eras.current ≡ b
+      → all_due who (members_in eras era) + given_by (makes_due era who) events eras
+      ≤ cond b (all_held who (members_in eras era)) (exposed_for who (unwrap_or (slice_get (begun events) (era - (eras.current + 1))) []))
+  at true e = due_within era who events eras ok order.kept (order.fine era) (grind (arith, nat_tests))
+  at false e =
+      let later : eras.current < era = grind (arith, nat_tests) in
+      let none : all_due who (members_in eras era) ≡ 0 = ap (all_due who) (none_before eras era later) in
+      omega (arith, due_later era who events eras ok order.kept (order.fine era) later, none)
 
 pub due_law : DueLaw
 due_law zero who events ok =
-    omega (arith, due_within zero who events first_era ok first_kept (first_fine zero) (omega arith))
+    let none : held_in zero who events first_era ≡ 0 = refl in
+    omega (arith, due_on_law zero who events first_era first_order ok, none)
 due_law (suc era) who events ok =
-    let place : suc era - 1 ≡ era = omega arith in
-    subst (λ n. given_by (makes_due (suc era) who) events first_era ≤ exposed_for who (unwrap_or (slice_get (begun events) n) [])) place
-    (due_before (suc era) who events first_era ok first_kept (first_fine (suc era)) (omega arith))
+    let later : nat_le (suc era) 0 ≡ false = grind (arith, nat_tests) in
+    let place : suc era - (0 + 1) ≡ era = omega arith in
+    let same : held_in (suc era) who events first_era ≡ exposed_for who (exposures_of (suc era) events) =
+    ap (λ b. cond b (all_held who (members_in first_era (suc era))) (exposed_for who (unwrap_or (slice_get (begun events) (suc era - (0 + 1))) []))) later
+    ∙ ap (λ n. exposed_for who (unwrap_or (slice_get (begun events) n) [])) place in
+    omega (arith, due_on_law (suc era) who events first_era first_order ok, same)

@@ -11,3 +11,4 @@ pub mod BackerLemmas
 pub mod OrderLemmas
 pub mod SoundLemmas
 pub mod EventLemmas
+pub mod DeferredLemmas

@@ -3,24 +3,28 @@ use Rattle.std.specs.Prelude.{◌≡◌, ◌≢◌, ℕ, ◌+◌, ◌-◌, ◌�
 use Rattle.std.specs.Map.{values_of}
 use Rattle.npos_base.specs.declared.account.AccountId.{AccountId}
 use Rattle.npos_base.specs.declared.limits.TheConstants.{MOST_PAST_ERAS}
+use Rattle.era_book.specs.declared.deferred.DeferredSlash.{DeferredSlash}
 use Rattle.era_book.specs.declared.exposure.Exposure.{Exposure}
 use Rattle.era_book.specs.Exposures.{IsSound}
 use Rattle.era_book.specs.Members.{Member, Members, member_of, newcomer, members_with, with_member}
 
--- the number of the current era; and the members of the current era and of those before it, the
--- latest first
+-- The number of the current era; the members of the current era and of those before it, the latest
+-- first; and the slashes that wait, by rising number, with the number of the next one.
 pub record Eras : Type 0 where
   pub current : ℕ
   pub kept : List Members
+  pub queue : List DeferredSlash
+  pub next_slash : ℕ
 
--- era 0, which has no member
+-- era 0, which has no member; the first slash has number 1
 abbrev pub first_era : Eras
-first_era = record { current = 0; kept = [] ∷ [] }
+first_era = record { current = 0; kept = [] ∷ []; queue = []; next_slash = 1 }
 
--- the next era begins with these exposures; the current one stays, and the 84 before it
+-- the next era begins with these exposures; the current one stays, and the 84 before it, and what
+-- waits
 abbrev pub started : List Exposure → Eras → Eras
 started exposures eras =
-    record {
+    record eras {
       current = eras.current + 1;
       kept = take (MOST_PAST_ERAS + 1) (members_with exposures ∷ eras.kept);
     }
@@ -28,7 +32,7 @@ started exposures eras =
 -- the next era begins with these members
 abbrev pub begun_with : Members → Eras → Eras
 begun_with members eras =
-    record {
+    record eras {
       current = eras.current + 1;
       kept = take (MOST_PAST_ERAS + 1) (members ∷ eras.kept);
     }

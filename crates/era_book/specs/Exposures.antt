@@ -19,6 +19,10 @@ amount_for who lines = amount_sum (filter (λ line. same_account line.who who) l
 abbrev pub exposed_for : AccountId → List Exposure → ℕ
 exposed_for who exposures = sum_by (λ exposure. amount_for who exposure.backers) exposures
 
+-- no account has two of the lines
+abbrev pub AreApart : List Backer → Type 0
+AreApart lines = IsDistinct same_account (map (λ line. line.who) lines)
+
 -- The commission is at most the whole, the support is what the backers give together, and no
 -- account backs twice.
 pub record IsSound (exposure : Exposure) : Type 0 where

@@ -4,9 +4,11 @@ pub mod Slashes
 pub mod Members
 pub mod Eras
 pub mod Calls
+pub mod Deferred
 pub mod Owed
 pub mod Reasons
 pub mod Events
+pub mod Course
 pub mod Laws
 pub mod Committee
 pub mod Seats

@@ -1,7 +1,7 @@
 -- The numbers of the reasons for which the eras refuse. Want of memory is none of them.
 use Rattle.std.specs.Prelude.{◌≡◌, ℕ, Option, Some, None, refl}
 use Rattle.era_book.specs.declared.refusal.EraRefusal.{EraRefusal}
-use Rattle.era_book.specs.declared.refusal.EraRefusal.TheVariants.{BadFraction, UnknownEra, EraNotOver, NotExposed, AlreadyClaimed, NotGreater, NoPoints, NoMemory}
+use Rattle.era_book.specs.declared.refusal.EraRefusal.TheVariants.{BadFraction, UnknownEra, EraNotOver, NotExposed, AlreadyClaimed, NotGreater, NoPoints, NoSlash, TooManySlashes, NoMemory}
 
 abbrev pub reason_number : EraRefusal → Option ℕ
 reason_number BadFraction = Some 15
@@ -11,6 +11,8 @@ reason_number NotExposed = Some 23
 reason_number AlreadyClaimed = Some 24
 reason_number NotGreater = Some 25
 reason_number NoPoints = Some 26
+reason_number NoSlash = Some 31
+reason_number TooManySlashes = Some 32
 reason_number NoMemory = None
 
 pub only_memory : (refusal : EraRefusal) → reason_number refusal ≡ None → refusal ≡ NoMemory
@@ -21,4 +23,6 @@ only_memory NotExposed none = cc
 only_memory AlreadyClaimed none = cc
 only_memory NotGreater none = cc
 only_memory NoPoints none = cc
+only_memory NoSlash none = cc
+only_memory TooManySlashes none = cc
 only_memory NoMemory none = refl

@@ -1,23 +1,25 @@
 //! The eras that are kept.
-ghost use Rattle.std.specs.Prelude.{◌≡◌, ◌≤◌, ◌<◌, ◌-◌, ◌^◌, length, map, None, is_none, IfSome, IfOk, OnOk, OnErr, IfErr};
+ghost use Rattle.std.specs.Prelude.{◌≡◌, ◌≤◌, ◌<◌, ◌-◌, ◌^◌, length, map, position, None, is_none, IfSome, IfOk, OnOk, OnErr, IfErr};
 ghost use Rattle.std.specs.Option.{option_copied};
 ghost use Rattle.npos_base.specs.Refusal.{MeetsAlways, answer_of};
-ghost use Rattle.era_book.specs.Owed.{IsDue};
-ghost use Rattle.era_book.specs.Exposures.{amount_sum, AreSound};
+ghost use Rattle.era_book.specs.Owed.{IsDue, Meets};
+ghost use Rattle.era_book.specs.Exposures.{amount_sum, AreApart, AreSound};
 ghost use Rattle.era_book.specs.Committee.{IsElected, edges_by_voter, exposure_of};
 ghost use Rattle.era_book.specs.Eras.{first_era, started, begun_with, member_in, era_of, is_unknown, OthersStay, EarlierStay, HasExposures, HasNoOther, AreMembers, AreKept};
 ghost use Rattle.era_book.specs.Calls.{points_refusal, pointed, payout_refusal, payout_in, IsUnclaimed, paid, slash_refusal, slash_in, IsBelow, reported};
+ghost use Rattle.era_book.specs.Deferred.{has_number, queue_refusal, queueing, IsQueueable, cancel_refusal, cancelling, next_due, without_next_due, AreQueued};
 
 use crate::era::Era;
-use crate::{Backer, EraRefusal, Exposure, Payout};
+use crate::{Backer, DeferredSlash, EraRefusal, Exposure, MOST_SLASHES, Payout};
 use npos_base::{AccountId, Edge, List, MOST_PAST_ERAS, NoMemory, WHOLE_FRACTION};
 use std::alloc::Global;
 use std::marker::Model;
 use std::mem;
 
-/// The current era and the 84 before it: who was exposed in each, and what happened since.
-/// Contracts see the current era's number, and for each era that is kept, the latest first, the
-/// list of accounts with their members.
+/// The current era and the 84 before it: who was exposed in each, and what happened since; and the
+/// slashes that wait. Contracts see the current era's number, for each era that is kept, the latest
+/// first, the list of accounts with their members, and the slashes by rising number, with the
+/// number of the next one.
 #[derive(Drop)]
 pub struct EraBook {
     alloc: Global,
@@ -25,23 +27,39 @@ pub struct EraBook {
     latest: Era,
     /// The eras before the current one, the latest first.
     earlier: Vec<Era>,
+    /// The slashes that wait, by rising number.
+    queue: Vec<DeferredSlash>,
+    next_slash: u64,
 }
 
 impl Model for EraBook {
     ghost use Rattle.std.specs.Prelude.{◌∷◌};
     ghost use Rattle.era_book.specs.Eras.{Eras, AreKept};
+    ghost use Rattle.era_book.specs.Deferred.{AreQueued};
 
     ghost Value = { Eras };
 
     ghost view = { λ book. record {
       current = book.current;
       kept = book.latest ∷ book.earlier.items;
+      queue = book.queue.items;
+      next_slash = book.next_slash;
     } };
 
-    ghost invariant = { λ book. AreKept (record {
-      current = book.current;
-      kept = book.latest ∷ book.earlier.items;
-    }) };
+    ghost invariant = { λ book.
+        let eras : Eras = record {
+          current = book.current;
+          kept = book.latest ∷ book.earlier.items;
+          queue = book.queue.items;
+          next_slash = book.next_slash;
+        } in AreKept eras × AreQueued eras };
+}
+
+/// Where the slash of this number stands.
+fn place_of(slashes: &[DeferredSlash], number: u64) -> Option<usize>
+    ensures { result ≡ position (has_number number) slashes.now }
+{
+    slashes.iter().position(|slash| slash.number == number)
 }
 
 impl EraBook {
@@ -54,6 +72,8 @@ impl EraBook {
             current: 0,
             latest: Era::new(alloc),
             earlier: Vec::new(alloc),
+            queue: Vec::new(alloc),
+            next_slash: 1,
         }
     }
 
@@ -207,8 +227,8 @@ impl EraBook {
     }
 
     /// What is due from those who back the validator in the era where this fraction, in billionths,
-    /// is reported: what it is more than the fraction that is kept. It refuses with `BadFraction`,
-    /// `UnknownEra`, `NotExposed` or `NotGreater`.
+    /// is reported: what it is more than the fraction that is kept. No account has two lines. It
+    /// refuses with `BadFraction`, `UnknownEra`, `NotExposed` or `NotGreater`.
     pub fn slash_list(
         &self,
         alloc: Global,
@@ -220,6 +240,7 @@ impl EraBook {
         ensures accepted { OnOk result (slash_refusal self.now era validator fraction ≡ None) }
         ensures refused { IfErr result (IsDue (slash_refusal self.now era validator fraction)) }
         ensures markable { OnOk result (IsBelow fraction (member_in self.now era validator)) }
+        ensures distinct { IfOk result (λ lines. AreApart lines) }
     {
         if fraction == 0 || fraction > WHOLE_FRACTION {
             return Err(EraRefusal::BadFraction);
@@ -249,6 +270,63 @@ impl EraBook {
         } else {
             self.earlier[age - 1].keep(validator, fraction);
         }
+    }
+
+    /// The slash waits for the era in which it is due, under the number that is answered: the first
+    /// slash has number 1, the next one 2, and so on. It is due in an era that has not begun, and
+    /// not before one that waits already. It refuses with `TooManySlashes` where 256 slashes wait.
+    pub fn queue_slash(&mut self, due: u32, lines: List<Backer>) -> Result<u64, EraRefusal>
+        requires queueable { IsQueueable due lines self.old }
+        requires numbered { self.old.next_slash < 2 ^ 64 - 1 }
+        ensures meets { Meets (queue_refusal self.old) (queueing due lines self.old)
+            self.old self.new result }
+        ensures number { IfOk result (λ number. number ≡ self.old.next_slash) }
+    {
+        if self.queue.len() >= MOST_SLASHES {
+            return Err(EraRefusal::TooManySlashes);
+        }
+        let number = self.next_slash;
+        let slash = DeferredSlash { number, due, lines };
+        if self.queue.push(slash).is_err() {
+            return Err(EraRefusal::NoMemory);
+        }
+        self.next_slash += 1;
+        Ok(number)
+    }
+
+    /// The slash of this number waits no more. It takes no memory, and refuses with `NoSlash` where
+    /// no such slash waits.
+    pub fn cancel_slash(&mut self, number: u64) -> Result<(), EraRefusal>
+        ensures meets { MeetsAlways (cancel_refusal number self.old) (cancelling number self.old)
+            self.old self.new result }
+        ensures answer { result ≡ answer_of (cancel_refusal number self.old) }
+    {
+        let Some(place) = place_of(self.queue.as_slice(), number) else {
+            return Err(EraRefusal::NoSlash);
+        };
+        self.queue.remove(place);
+        Ok(())
+    }
+
+    /// Takes out, of the slashes that are due in the current era or were before it, the one of
+    /// least number. None where none is due. It takes no memory.
+    pub fn take_due(&mut self) -> Option<DeferredSlash>
+        ensures taken { result ≡ next_due self.old }
+        ensures after { self.new ≡ without_next_due self.old }
+    {
+        let first = self.queue.first()?;
+        if first.due > self.current {
+            return None;
+        }
+        Some(self.queue.remove(0))
+    }
+
+    /// The slashes that wait, by rising number.
+    pub fn queued(&self) -> &[DeferredSlash]
+        ensures queue { result.now ≡ self.now.queue }
+        ensures queued { AreQueued self.now }
+    {
+        self.queue.as_slice()
     }
 
     /// The members of an era that is known.

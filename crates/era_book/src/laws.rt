@@ -1,6 +1,6 @@
 //! What holds of payouts and slashes. Each law is the contract of a function that does nothing.
 ghost use Rattle.era_book.specs.Committee.{SupportLaw, SpentLaw, BackersLaw, SoundLaw, OrderLaw};
-ghost use Rattle.era_book.specs.Laws.{PayoutLaw, TelescopeLaw, RewardLaw, DueLaw};
+ghost use Rattle.era_book.specs.Laws.{PayoutLaw, TelescopeLaw, RewardLaw, DueLaw, InOrderLaw, RewardOnLaw, DueOnLaw, WaitingLaw};
 
 /// A validator and its backers together are paid at most what is to be paid to them: each part is
 /// rounded down.
@@ -24,6 +24,31 @@ pub fn payouts_are_within_the_reward()
 /// validators and all reports, is at most what the exposures of that era hold for it.
 pub fn dues_are_within_the_exposures()
     ensures { DueLaw }
+{}
+
+/// Whatever happens to an era book, its eras are in order: those at the start are, and so are those
+/// after any event where those before it were.
+pub fn eras_stay_in_order()
+    ensures { InOrderLaw }
+{}
+
+/// What holds of payouts from the start on holds from any eras in order on: with what was paid of
+/// the reward of an era before, all its later payouts are at most the reward.
+pub fn later_payouts_are_within_the_reward()
+    ensures { RewardOnLaw }
+{}
+
+/// What holds of dues from the start on holds from any eras in order on: with what an era made due
+/// from an account before, all that it makes due later is at most what its exposures hold for it.
+pub fn later_dues_are_within_the_exposures()
+    ensures { DueOnLaw }
+{}
+
+/// What is taken out was queued, and is taken out once: from any eras on, what is taken out for one
+/// account, and what waits for it then, are together at most what waited before and all that is
+/// queued for it.
+pub fn what_is_taken_was_queued()
+    ensures { WaitingLaw }
 {}
 
 /// What is exposed of a committee are its edges: the backers of a member give what the edges to it

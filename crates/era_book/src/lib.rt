@@ -1,9 +1,11 @@
 //! What is kept of the last eras, after Substrate's staking pallet: who was exposed, the points of
 //! each validator, whether its part of the reward is claimed, and the greatest fraction that was
-//! reported of it. What follows for payouts and slashes over any history stands in `laws`.
+//! reported of it; and the slashes that wait. What follows for payouts and slashes over any history
+//! stands in `laws`.
 #![tactic(auto)]
 
 mod book;
+mod deferred;
 mod elected;
 mod era;
 mod exposure;
@@ -17,6 +19,7 @@ mod seat;
 mod shares;
 
 pub use book::EraBook;
+pub use deferred::{DeferredSlash, MOST_SLASHES};
 pub use exposure::{Backer, Exposure};
 pub use payout::Payout;
 pub use refusal::EraRefusal;

@@ -21,6 +21,10 @@ pub enum EraRefusal {
     NotGreater,
     /// The validator has no points.
     NoPoints,
+    /// No slash of this number waits.
+    NoSlash,
+    /// As many slashes wait as can.
+    TooManySlashes,
     NoMemory,
 }
 
@@ -49,6 +53,8 @@ impl Reason for EraRefusal {
             EraRefusal::AlreadyClaimed => 24,
             EraRefusal::NotGreater => 25,
             EraRefusal::NoPoints => 26,
+            EraRefusal::NoSlash => 31,
+            EraRefusal::TooManySlashes => 32,
             EraRefusal::NoMemory => return None,
         };
         Some(number)

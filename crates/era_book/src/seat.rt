@@ -10,7 +10,7 @@ use crate::{Backer, Exposure};
 use npos_base::{AccountId, List, NoMemory, Room};
 use std::alloc::Global;
 
-/// A backer by the place of its account among those of the era. A voter backs up to 16 validators,
+/// A backer by the place of its account among those of the era. A voter backs up to 24 validators,
 /// and this takes 16 bytes where a backer with its account takes 48.
 #[derive(Clone, Copy, Debug)]
 pub struct Share {

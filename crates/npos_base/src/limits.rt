@@ -2,7 +2,7 @@
 //! these names.
 
 /// Validators that one nominator names, and votes of one voter.
-pub const MOST_NOMINATIONS: usize = 16;
+pub const MOST_NOMINATIONS: usize = 24;
 
 /// Validators that there are at a time.
 pub const MOST_VALIDATORS: usize = 2048;
@@ -13,8 +13,9 @@ pub const MOST_TARGETS: usize = MOST_VALIDATORS;
 /// Voters of a snapshot.
 pub const MOST_VOTERS: usize = 16_384;
 
-/// Edges of weights: one for each vote of each voter.
-pub const MOST_EDGES: usize = MOST_NOMINATIONS * MOST_VOTERS;
+/// Edges of plain weights in a bundle. This is a limit of the bytes of bundles and stays what it is
+/// whatever nominators may name: a snapshot of many voters with many votes can have more.
+pub const MOST_EDGES: usize = 262_144;
 
 /// Seats of an election, of which there is at least one.
 pub const MOST_SEATS: u32 = 512;

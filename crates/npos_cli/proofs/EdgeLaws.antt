@@ -2,7 +2,7 @@
 use Rattle.std.proofs.Common.{◌≡◌, ◌⊎◌, inl, inr, Bool, true, false, ℕ, ◌+◌, ◌≤◌, List, [], ◌++◌, length, take, drop, Option, Some, None, refl, sym, ◌∙◌, ap, subst, append_assoc, arith, length-append}
 use Rattle.std.proofs.lemmas.List.{append-nil, take_all, take_at, take-append-drop, length-take-le}
 use Rattle.npos_base.specs.Outside.{Told, Takes, IsAtEnd, Appends, Flushes}
-use Rattle.npos_cli.specs.Owed.{LeftAfter, TakesAtMost, IsDrained, Delivers, DeliversFront, KeepsFlushed}
+use Rattle.npos_cli.specs.Owed.{LeftAfter, IsAll, TakesMore, TakesAtMost, IsDrained, Delivers, DeliversFront, KeepsFlushed}
 use Rattle.npos_cli.specs.Replay.{IsFront}
 use Rattle.npos_cli.specs.Ahead.{HasSeen}
 
@@ -44,6 +44,25 @@ takes_so_far left now bytes most taken few = (bytes, taken, few)
 pub takes_more : (left mid now : Option (List ℕ)) (bytes : List ℕ) (room most : ℕ) → LeftAfter left mid bytes → TakesAtMost room mid now → length bytes + room ≤ most → TakesAtMost most left now
 takes_more left mid now bytes room most taken more few =
     (bytes ++ more.0, left_join left mid now bytes more.0 taken more.1, omega (arith, more.2, few, length-append bytes more.0))
+
+-- ## All that was left
+
+-- what was read and one read more
+pub takes_on : (left mid now : Option (List ℕ)) (bytes after : List ℕ) (ended : Bool) → LeftAfter left mid bytes → TakesMore mid now bytes after ended → LeftAfter left now after
+takes_on left mid now bytes after ended taken more =
+    subst (λ (b : List ℕ). LeftAfter left now b) (sym more.1) (left_join left mid now bytes more.0 taken more.2)
+
+-- where the input has ended, what was read is all that was left
+pub all_read : (left mid now : Option (List ℕ)) (bytes after : List ℕ) → LeftAfter left mid bytes → TakesMore mid now bytes after true → IsAll left after × IsDrained left now
+all_read None mid now bytes after taken more = (tt, tt)
+all_read (Some left) mid now bytes after taken more =
+    let at_end = subst (λ (m : Option (List ℕ)). IsAtEnd m) taken.1 (more.3 refl).1 in
+    let on = subst (λ (m : Option (List ℕ)). LeftAfter m now more.0) taken.1 more.2 in
+    let none = (more.3 refl).0 in
+    let last : taken.0 ≡ on.0 = on.2 ∙ ap (λ (front : List ℕ). front ++ on.0) none in (
+      more.1 ∙ (ap (λ (back : List ℕ). bytes ++ back) (none ∙ sym at_end) ∙ sym taken.2),
+      on.1 ∙ ap Some (sym last ∙ at_end),
+    )
 
 -- what one read tells of what was seen
 pub seen_once : (old new : Option (List ℕ)) (taken : List ℕ) (ended : Bool) → LeftAfter old new taken → (ended ≡ true → (taken ≡ []) × IsAtEnd old) → HasSeen old new taken false ended

@@ -18,6 +18,8 @@ pub mod CourseLaws
 pub mod JobLaws
 pub mod EndLaws
 pub mod RewriteLaws
+pub mod PoolLaws
+pub mod FairLaws
 pub mod EraLaws
 pub mod StreamLaws
 pub mod WordsLaws

@@ -48,16 +48,19 @@ no_usage endings.Done e = cc
 no_usage endings.No e = cc
 no_usage endings.BadInput e = cc
 
+-- no replay has it
+not_usage : (faulty : Bool) → statuses.Usage ≡ replay_status faulty → ⊥
+not_usage true e = cc
+not_usage false e = cc
+
 -- no job owes the status Usage
 usage_by : (job : Option Job) (bytes text : List ℕ) → JobOwes job bytes text statuses.Usage → (IsSome job → ⊥) × (text ≡ usage_line)
 usage_by None bytes text owes = (λ some. let e : false ≡ true = some in cc, owes.0)
-usage_by (Some jobs.Replay) bytes text owes = absurd (not_usage owes.0.faulty owes.3) where
-  not_usage : (faulty : Bool) → statuses.Usage ≡ replay_status faulty → ⊥
-  not_usage true e = cc
-  not_usage false e = cc
+usage_by (Some jobs.Replay) bytes text owes = absurd (not_usage owes.0.faulty owes.3)
 usage_by (Some (jobs.OnBundle task)) bytes text owes = absurd (no_usage owes.0.ending owes.2.status_is)
 usage_by (Some (jobs.Demo seed voters seats)) bytes text owes = absurd (no_usage endings.Done owes.status_is)
 usage_by (Some (jobs.Rewrite way)) bytes text owes = absurd (no_usage _ owes.status_is)
+usage_by (Some jobs.Pools) bytes text owes = absurd (not_usage owes.0.faulty owes.3)
 
 pub usage_due : (words : List (List ℕ)) (left : Option (List ℕ)) (old new : Option Told) (answer : Status)
     → (IsAnswer answer → Answers words left old new answer) → answer ≡ statuses.Usage → (HasForm words → ⊥) × Delivers old new usage_line

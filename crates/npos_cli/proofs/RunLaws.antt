@@ -3,7 +3,7 @@ use Rattle.std.proofs.Common.{◌≡◌, ◌≢◌, inl, inr, ℕ, ◌≤◌, Li
 use Rattle.std.proofs.lemmas.List.{take_all, append-nil}
 use Rattle.std.proofs.lemmas.Bool.{cases_lt}
 use Rattle.npos_base.specs.Outside.{Told}
-use Rattle.scale_wire.specs.Form.{IsBytes}
+use Rattle.scale_wire.specs.Form.{IsBytes, IsWire}
 use Rattle.npos_cli.specs.declared.job.Job.{Job}
 use Rattle.npos_cli.specs.declared.job.Job.TheVariants as jobs
 use Rattle.npos_cli.specs.declared.status.Status.{Status}
@@ -12,11 +12,10 @@ use Rattle.npos_cli.specs.Words.{job_by, job_of, usage_line, KeepsBounds as JobK
 use Rattle.bundle_reports.specs.declared.ending.Ending.{Ending}
 use Rattle.bundle_reports.specs.declared.ending.Ending.TheVariants as endings
 use Rattle.npos_cli.specs.Status.{status_of}
-use Rattle.npos_cli.specs.Report.{JobOwes, Owes, Tells, replay_status, IsJudged}
-use Rattle.npos_cli.specs.Replay.{Outcome}
-use Rattle.npos_runtime.specs.declared.chain.Chain.{Chain}
-use Rattle.npos_runtime.specs.Outcome.{Election}
+use Rattle.npos_cli.specs.Report.{ReplayOwes, JobOwes, Owes, Tells, replay_status, IsJudged}
+use Rattle.npos_cli.specs.Replay.{Machine, turn, Outcome}
 use Rattle.npos_cli.specs.Chain.{npos_machine}
+use Rattle.npos_cli.specs.Pools.{pool_machine}
 use Rattle.bundle_reports.specs.declared.asked.Task.{Task}
 use Rattle.bundle_reports.specs.Bundles.{Report}
 use Rattle.bundle_reports.specs.Demo.{demo_report}
@@ -36,6 +35,7 @@ use Rattle.npos_cli.proofs.ReplayLaws.{one_replay, any_replay}
 use Rattle.bundle_reports.proofs.ReportLaws.{one_report, any_report}
 use Rattle.bundle_reports.proofs.LongLaws.{long_report, long_reported}
 use Rattle.npos_cli.proofs.ChainLaws.{genesis_laws, turn_laws}
+use Rattle.npos_cli.proofs.PoolLaws.{pool_laws, pool_turn_laws}
 
 -- what is owed whatever the bytes are
 pub found_unread : (job : Option Job) (left : Option (List ℕ)) (text : List ℕ) (status : Status) → ((bytes : List ℕ) → JobOwes job bytes text status) → FindsFor job left text status
@@ -63,18 +63,24 @@ one_told one two text other status end same first second = (
 pub tells_itself : (report : Report) → Tells report report.text (status_of report.ending)
 tells_itself report = record { text_is = refl; status_is = refl }
 
+-- a machine's replay owes one text and one status
+one_replayed : {G B S E : Type 0} (m : Machine G B S E) → IsWire m.genesis → IsWire (turn m) → (bytes text other : List ℕ) (status end : Status)
+    → ReplayOwes m bytes text status → ReplayOwes m bytes other end → (text ≡ other) × (status ≡ end)
+one_replayed {G} {B} {S} {E} m genesis_laws turn_laws bytes text other status end first second =
+    let same = one_replay m genesis_laws turn_laws bytes first.0 second.0 first.1 second.1 in
+    (first.2 ∙ (ap (λ (o : Outcome S E). o.text) same ∙ sym second.2), first.3 ∙ (ap (λ (o : Outcome S E). replay_status o.faulty) same ∙ sym second.3))
+
 -- words and bytes owe one text and one status
 pub one_for : (job : Option Job) (bytes text other : List ℕ) (status end : Status) → JobOwes job bytes text status → JobOwes job bytes other end → (text ≡ other) × (status ≡ end)
 one_for None bytes text other status end first second = (first.0 ∙ sym second.0, first.1 ∙ sym second.1)
-one_for (Some jobs.Replay) bytes text other status end first second =
-    let same = one_replay npos_machine genesis_laws turn_laws bytes first.0 second.0 first.1 second.1 in
-    (first.2 ∙ (ap (λ (o : Outcome Chain Election). o.text) same ∙ sym second.2), first.3 ∙ (ap (λ (o : Outcome Chain Election). replay_status o.faulty) same ∙ sym second.3))
+one_for (Some jobs.Replay) bytes text other status end first second = one_replayed npos_machine genesis_laws turn_laws bytes text other status end first second
 one_for (Some (jobs.OnBundle task)) bytes text other status end first second =
     one_told first.0 second.0 text other status end (one_report task bytes first.0 second.0 first.1 second.1) first.2 second.2
 one_for (Some (jobs.Demo seed voters seats)) bytes text other status end first second =
     one_told (demo_report seed voters seats) (demo_report seed voters seats) text other status end refl first second
 one_for (Some (jobs.Rewrite way)) bytes text other status end first second =
     one_told (rewrite_report way bytes) (rewrite_report way bytes) text other status end refl first second
+one_for (Some jobs.Pools) bytes text other status end first second = one_replayed pool_machine pool_laws pool_turn_laws bytes text other status end first second
 
 pub one_owed : (words : List (List ℕ)) (bytes text other : List ℕ) (status end : Status) → Owes words bytes text status → Owes words bytes other end
     → (text ≡ other) × (status ≡ end)
@@ -108,18 +114,24 @@ job_has_rounds words = by (command_of words) (keeps_bounds words) where
   by (Some commands.Pack) bounds = tt
   by (Some commands.Show) bounds = tt
   by (Some (commands.Demo seed voters seats)) bounds = bounds
+  by (Some commands.Pools) bounds = tt
+
+any_replayed : {G B S E : Type 0} (m : Machine G B S E) → IsWire m.genesis → IsWire (turn m) → (bytes : List ℕ) → IsBytes bytes
+    → (text : List ℕ) × (status : Status) × ReplayOwes m bytes text status
+any_replayed m genesis_laws turn_laws bytes are =
+    let r = any_replay m genesis_laws turn_laws bytes are in
+    (r.outcome.text, replay_status r.outcome.faulty, (r.outcome, r.is_replay, refl, refl))
 
 -- every list of bytes is answered
 pub any_owed : (words : List (List ℕ)) (bytes : List ℕ) → IsBytes bytes → (text : List ℕ) × (status : Status) × Owes words bytes text status
 any_owed words bytes are = by (job_of words) (job_has_rounds words) where
   by : (job : Option Job) → JobKeepsBounds job → (text : List ℕ) × (status : Status) × JobOwes job bytes text status
   by None some = (usage_line, statuses.Usage, (refl, refl))
-  by (Some jobs.Replay) some =
-      let r = any_replay npos_machine genesis_laws turn_laws bytes are in
-      (r.outcome.text, replay_status r.outcome.faulty, (r.outcome, r.is_replay, refl, refl))
+  by (Some jobs.Replay) some = any_replayed npos_machine genesis_laws turn_laws bytes are
   by (Some (jobs.OnBundle task)) some = let r = any_report task some bytes in (r.0.text, status_of r.0.ending, (r.0, r.1, tells_itself r.0))
   by (Some (jobs.Demo seed voters seats)) some = let r = demo_report seed voters seats in (r.text, status_of r.ending, tells_itself r)
   by (Some (jobs.Rewrite way)) some = let r = rewrite_report way bytes in (r.text, status_of r.ending, tells_itself r)
+  by (Some jobs.Pools) some = any_replayed pool_machine pool_laws pool_turn_laws bytes are
 
 -- ## A bundle
 

@@ -46,6 +46,9 @@ line_text (lines.Member who support) = member_line who support
 line_text (lines.CallOk index) = codes "call " ++ (decimal index ++ codes " ok\n")
 line_text (lines.Paid who amount) = amount_line (codes "paid ") who amount
 line_text (lines.Slashed who amount) = amount_line (codes "slashed ") who amount
+line_text (lines.Deferred number due) = codes "deferred "
+    ++ (decimal number ++ (codes " " ++ (decimal due ++ newline)))
+line_text (lines.Applied number) = codes "apply " ++ (decimal number ++ newline)
 line_text (lines.CallRefused index code) = codes "call "
     ++ (decimal index ++ (codes " refused " ++ (decimal code ++ newline)))
 

@@ -2,11 +2,14 @@
 use Rattle.std.specs.Prelude.{ℕ, List}
 use Rattle.npos_runtime.specs.declared.chain.Chain.{Chain}
 use Rattle.npos_runtime.specs.EraLaws.{ErasHold}
+use Rattle.npos_runtime.specs.DeferredLaws.{SlashesWait}
 use Rattle.npos_cli.specs.Replay.{Spot, Starts, Reaches}
 use Rattle.npos_cli.specs.Chain.{npos_machine}
 
--- Wherever a replay of these bytes has come, its blocks pay and take within the bounds of the eras.
+-- Wherever a replay of these bytes has come, its blocks pay and take within the bounds of the eras, and
+-- slashes that wait take what is due by them, or nothing where they are cancelled.
 abbrev pub ErasAreKept : List ℕ → Type 0
 ErasAreKept bytes =
     (start place : Spot Chain) (text : List ℕ) → (starts : Starts npos_machine bytes start)
-    → (reaches : Reaches npos_machine start place text) → ErasHold starts.genesis reaches.blocks
+    → (reaches : Reaches npos_machine start place text)
+    → ErasHold starts.genesis reaches.blocks × SlashesWait starts.genesis reaches.blocks

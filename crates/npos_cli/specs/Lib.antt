@@ -4,6 +4,8 @@ pub mod Replay
 pub mod Words
 pub mod Report
 pub mod Owed
+pub mod Pools
+pub mod Pooling
 pub mod Ahead
 pub mod Chain
 pub mod Books

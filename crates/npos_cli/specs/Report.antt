@@ -1,15 +1,14 @@
 -- What a run owes: the text and the status that its words and the bytes of its input determine.
 use Rattle.std.specs.Prelude.{◌≡◌, ⊤, ℕ, Bool, true, false, List, Option, Some, None}
-use Rattle.npos_runtime.specs.declared.chain.Chain.{Chain}
-use Rattle.npos_runtime.specs.Outcome.{Election}
 use Rattle.npos_cli.specs.declared.job.Job.{Job}
 use Rattle.npos_cli.specs.declared.job.Job.TheVariants as jobs
 use Rattle.npos_cli.specs.declared.status.Status.{Status}
 use Rattle.npos_cli.specs.declared.status.Status.TheVariants as statuses
 use Rattle.npos_cli.specs.Status.{status_of}
 use Rattle.npos_cli.specs.Words.{job_of, usage_line}
-use Rattle.npos_cli.specs.Replay.{Outcome, IsReplay}
+use Rattle.npos_cli.specs.Replay.{Machine, Outcome, IsReplay}
 use Rattle.npos_cli.specs.Chain.{npos_machine}
+use Rattle.npos_cli.specs.Pools.{pool_machine}
 use Rattle.bundle_reports.specs.Bundles.{Report}
 use Rattle.bundle_reports.specs.Tasks.{IsBundleReport}
 use Rattle.bundle_reports.specs.Demo.{demo_report}
@@ -20,6 +19,11 @@ abbrev pub replay_status : Bool → Status
 replay_status true = statuses.BadInput
 replay_status false = statuses.Done
 
+-- the text of a replay, and the status that its end calls for
+abbrev pub ReplayOwes : {G B S E : Type 0} → Machine G B S E → List ℕ → List ℕ → Status → Type 0
+ReplayOwes {G} {B} {S} {E} m bytes text status =
+    (out : Outcome S E) × IsReplay m bytes out × (text ≡ out.text) × (status ≡ replay_status out.faulty)
+
 -- this text and this status tell of the report
 pub record Tells (report : Report) (text : List ℕ) (status : Status) : Type 0 where
   pub text_is : text ≡ report.text
@@ -29,14 +33,13 @@ pub record Tells (report : Report) (text : List ℕ) (status : Status) : Type 0 
 -- the bytes are.
 abbrev pub JobOwes : Option Job → List ℕ → List ℕ → Status → Type 0
 JobOwes None bytes text status = (text ≡ usage_line) × (status ≡ statuses.Usage)
-JobOwes (Some jobs.Replay) bytes text status =
-    (out : Outcome Chain Election) × IsReplay npos_machine bytes out × (text ≡ out.text)
-    × (status ≡ replay_status out.faulty)
+JobOwes (Some jobs.Replay) bytes text status = ReplayOwes npos_machine bytes text status
 JobOwes (Some (jobs.OnBundle task)) bytes text status =
     (report : Report) × IsBundleReport task bytes report × Tells report text status
 JobOwes (Some (jobs.Demo seed voters seats)) bytes text status =
     Tells (demo_report seed voters seats) text status
 JobOwes (Some (jobs.Rewrite way)) bytes text status = Tells (rewrite_report way bytes) text status
+JobOwes (Some jobs.Pools) bytes text status = ReplayOwes pool_machine bytes text status
 
 abbrev pub Owes : List (List ℕ) → List ℕ → List ℕ → Status → Type 0
 Owes words = JobOwes (job_of words)
@@ -48,6 +51,7 @@ ReadsInput (Some jobs.Replay) = ⊤
 ReadsInput (Some (jobs.OnBundle task)) = ⊤
 ReadsInput (Some (jobs.Demo seed voters seats)) = ⊥
 ReadsInput (Some (jobs.Rewrite way)) = ⊤
+ReadsInput (Some jobs.Pools) = ⊤
 
 -- whether a job reads a bundle
 abbrev pub ReadsBundle : Option Job → Type 0
@@ -56,6 +60,7 @@ ReadsBundle (Some jobs.Replay) = ⊥
 ReadsBundle (Some (jobs.OnBundle task)) = ⊤
 ReadsBundle (Some (jobs.Demo seed voters seats)) = ⊥
 ReadsBundle (Some (jobs.Rewrite way)) = ⊤
+ReadsBundle (Some jobs.Pools) = ⊥
 
 -- a status that answers what is owed; the others say that the run was cut off
 abbrev pub IsAnswer : Status → Type 0

@@ -12,6 +12,7 @@ use Rattle.npos_cli.specs.declared.status.Status.TheVariants as statuses
 use Rattle.npos_cli.specs.Words.{job_of}
 use Rattle.npos_cli.specs.Report.{ReadsInput, ReadsBundle, IsAnswer, IsJudged}
 use Rattle.npos_cli.specs.Chain.{npos_machine}
+use Rattle.npos_cli.specs.Pools.{pool_machine, PoolsAreFair}
 use Rattle.npos_cli.specs.Books.{BooksBalance, DepositsAreKept}
 use Rattle.npos_cli.specs.Headline.{SeatsAreSound, IsPromised, RoundsAreSeated}
 use Rattle.npos_cli.specs.Crowding.{NoneIsCrowdedOut}
@@ -42,6 +43,9 @@ pub record Says (words : List (List ℕ)) (t : Traffic) (Unread Unwritten : Type
   pub whole : job_of words ≡ Some jobs.Replay → LeavesStream npos_machine t.left
       → (Rose t.read_faults t.read_faults_now → ⊥) → (Rose t.write_faults t.write_faults_now → ⊥)
       → (status ≡ statuses.Done) ⊎ (status ≡ statuses.NoMemory)
+  pub whole_pool : job_of words ≡ Some jobs.Pools → LeavesStream pool_machine t.left
+      → (Rose t.read_faults t.read_faults_now → ⊥) → (Rose t.write_faults t.write_faults_now → ⊥)
+      → (status ≡ statuses.Done) ⊎ (status ≡ statuses.NoMemory)
   pub wary : job_of words ≡ Some jobs.Replay → ReadsWhile t.left t.left_now
   pub usage_memory : has_verb words ≡ false → status ≢ statuses.NoMemory
   pub unread : (ReadsInput (job_of words) → ⊥) → Unread
@@ -52,6 +56,7 @@ pub record Says (words : List (List ℕ)) (t : Traffic) (Unread Unwritten : Type
   pub seats : IfSome t.left RoundsAreSeated
   pub crowding : IfSome t.left NoneIsCrowdedOut
   pub eras : IfSome t.left ErasAreKept
+  pub pools : IfSome t.left PoolsAreFair
   pub headline : job_of words ≡ Some jobs.Replay → (Rose t.read_faults t.read_faults_now → ⊥)
       → (Rose t.write_faults t.write_faults_now → ⊥) → status ≢ statuses.NoMemory
       → IfSome t.left (λ bytes. IsPromised bytes t.told t.told_now)

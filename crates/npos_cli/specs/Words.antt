@@ -28,6 +28,7 @@ job_by (commands.Mine miner rounds) = jobs.OnBundle (tasks.Mine (miner_by miner 
 job_by commands.Pack = jobs.Rewrite ways.Pack
 job_by commands.Show = jobs.Rewrite ways.Show
 job_by (commands.Demo seed voters seats) = jobs.Demo seed voters seats
+job_by commands.Pools = jobs.Pools
 
 abbrev pub job_of : List (List ℕ) → Option Job
 job_of words = option_map job_by (command_of words)
@@ -43,6 +44,7 @@ KeepsBounds None = ⊤
 KeepsBounds (Some jobs.Replay) = ⊤
 KeepsBounds (Some (jobs.OnBundle task)) = TaskHasRounds task
 KeepsBounds (Some (jobs.Rewrite way)) = ⊤
+KeepsBounds (Some jobs.Pools) = ⊤
 KeepsBounds (Some (jobs.Demo seed voters seats)) = (1 ≤ voters) × (voters ≤ MOST_VOTERS)
     × (1 ≤ seats) × (seats ≤ MOST_SEATS)
 

@@ -1,7 +1,7 @@
-//! An input that is read whole, up to a limit.
+//! An input that is read whole, to its end or up to a limit.
 ghost use Rattle.std.specs.Prelude.{◌≡◌, ◌≢◌, ◌+◌, ◌<◌, ◌≤◌, ◌^◌, true, false, [], length, vec_len, IfOk, IfErr};
 ghost use Rattle.npos_cli.specs.declared.halt.Halt.TheVariants as halts;
-ghost use Rattle.npos_cli.specs.Owed.{Counts, LeftAfter, IsDrained, TakesMore, TakesAtMost, ReadsUpTo};
+ghost use Rattle.npos_cli.specs.Owed.{Counts, LeftAfter, IsAll, IsDrained, TakesMore, TakesAtMost, ReadsUpTo};
 
 use crate::halt::Halt;
 use crate::pieces::{PIECE, blank_piece, read_more};
@@ -29,4 +29,21 @@ pub fn read_up_to<S: Source>(alloc: Global, source: &mut S, most: usize) -> Resu
         }
     }
     Ok(bytes)
+}
+
+/// Reads on until the input has ended.
+#[tactic(auto, using(crate::proofs::EdgeLaws::all_read, crate::proofs::EdgeLaws::takes_on))]
+pub fn read_all<S: Source>(alloc: Global, source: &mut S) -> Result<Vec<u8>, Halt>
+    ensures all { IfOk result (λ bytes. IsAll (S.left source.old) bytes.items) }
+    ensures drained { IfOk result (λ _. IsDrained (S.left source.old) (S.left source.new)) }
+    ensures faults { Counts halts.ReadFault (S.faults source.old) (S.faults source.new) result }
+    ensures unwritten { IfErr result (λ halt. halt ≢ halts.WriteFault) }
+{
+    let mut bytes = Vec::new(alloc);
+    let mut piece = blank_piece(alloc, PIECE)?;
+    'reads: loop {
+        if read_more(source, piece.as_mut_slice(), &mut bytes)? {
+            return Ok(bytes);
+        }
+    }
 }

@@ -16,6 +16,8 @@ pub enum Job {
     Rewrite(Rewriting),
     /// To report on the election that the seed generates. Nothing is read.
     Demo { seed: u64, voters: u32, seats: u32 },
+    /// To go through the input of a stake pool.
+    Pools,
 }
 
 /// The miner that a command names. The rounds are those of PHRAGMMS alone.
@@ -48,5 +50,6 @@ pub fn job_of(command: Command) -> Job
             voters,
             seats,
         },
+        Command::Pools => Job::Pools,
     }
 }

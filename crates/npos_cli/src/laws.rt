@@ -6,6 +6,7 @@ ghost use Rattle.npos_cli.specs.Books.{DepositsAreKept};
 ghost use Rattle.npos_cli.specs.Headline.{SeatsAreSound, RoundsAreSeated};
 ghost use Rattle.npos_cli.specs.Crowding.{NoneIsCrowdedOut};
 ghost use Rattle.npos_cli.specs.Eras.{ErasAreKept};
+ghost use Rattle.npos_cli.specs.Pools.{pool_machine, PoolsAreFair};
 ghost use Rattle.npos_cli.specs.Laws.{OwesOnce, OwesAlways, PacksBack, IsReplayedOnce, IsAlwaysReplayed, IsWholeOnce, IsAlwaysWhole, BeginsWithWhole, WholeGrows, FaultsStand};
 
 pub use bundle_reports::laws::a_fill_is_sealed;
@@ -13,6 +14,11 @@ use npos_runtime::laws::{
     deposits_are_settled, each_round_is_decided_once, every_round_ends_as_it_began,
     every_seated_committee_is_sound, nothing_valid_is_crowded_out_for_free,
     payouts_are_within_the_reward, slashes_are_within_the_stake,
+    slashes_that_wait_take_what_is_due,
+};
+use stake_pools::laws::{
+    a_payment_is_within_its_part, every_list_of_items_leaves_a_pool_sound, every_pool_starts_sound,
+    nobody_is_diluted, worths_are_within_the_active_stake,
 };
 
 /// Every committee that a replay seats, from a signed solution or from the fill, has a member for
@@ -60,6 +66,19 @@ pub fn replays_keep_the_bounds_of_eras()
     each_round_is_decided_once();
     payouts_are_within_the_reward();
     slashes_are_within_the_stake();
+    slashes_that_wait_take_what_is_due();
+}
+
+/// Wherever the input of a pool has come, its books balance, credits are within its pot, active stake
+/// is at most the points, and nobody is diluted by another, but by a slash.
+pub fn pools_are_fair()
+    ensures { (bytes : List ℕ) → PoolsAreFair bytes }
+{
+    every_pool_starts_sound();
+    every_list_of_items_leaves_a_pool_sound();
+    worths_are_within_the_active_stake();
+    nobody_is_diluted();
+    a_payment_is_within_its_part();
 }
 
 /// All words owe something for all bytes, and nothing else: a text and a status.
@@ -76,12 +95,14 @@ pub fn what_is_shown_packs_back()
 
 /// No bytes have two replays: text, end and last state are determined by them.
 pub fn one_replay()
-    ensures { IsReplayedOnce npos_machine }
+    ensures chain { IsReplayedOnce npos_machine }
+    ensures pool { IsReplayedOnce pool_machine }
 {}
 
 /// All bytes have a replay.
 pub fn every_input_has_a_replay()
-    ensures { IsAlwaysReplayed npos_machine }
+    ensures chain { IsAlwaysReplayed npos_machine }
+    ensures pool { IsAlwaysReplayed pool_machine }
 {}
 
 /// The whole blocks of an input write exactly one text, and its replay begins with it.

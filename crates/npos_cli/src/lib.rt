@@ -7,6 +7,8 @@ mod input;
 mod job;
 pub mod laws;
 mod pieces;
+mod pool_lines;
+mod pooling;
 pub mod promises;
 mod replaying;
 mod rewriting;

@@ -41,10 +41,16 @@ pub fn tell_genesis_fault(text: &mut Vec<u8>, fault: GenesisFault) -> Result<(),
         ++ genesis_line (fault_numbers fault)) }
     ensures memory { OnOk result (fault ≢ faults.NoMemory) }
 {
-    let (number, detail) = match fault {
-        GenesisFault::NoMemory => return Err(NoMemory),
-        fault => (fault.number(), fault.detail()),
-    };
+    match fault {
+        GenesisFault::NoMemory => Err(NoMemory),
+        fault => tell_fault_of_genesis(text, fault.number(), fault.detail()),
+    }
+}
+
+/// Appends the line of the genesis fault with this number and this detail.
+pub fn tell_fault_of_genesis(text: &mut Vec<u8>, number: u8, detail: u32) -> Result<(), NoMemory>
+    ensures { OnOk result (text.new.items ≡ text.old.items ++ genesis_line (number, detail)) }
+{
     tell(
         text,
         &[
@@ -58,7 +64,7 @@ pub fn tell_genesis_fault(text: &mut Vec<u8>, fault: GenesisFault) -> Result<(),
 }
 
 /// Appends the line of a number between these words.
-fn tell_counted(
+pub fn tell_counted(
     text: &mut Vec<u8>,
     words: &'static str,
     number: u64,
@@ -78,7 +84,7 @@ fn tell_counted(
 }
 
 /// Appends the line of two numbers, each behind some words.
-fn tell_two(
+pub fn tell_two(
     text: &mut Vec<u8>,
     words: &'static str,
     first: u64,
@@ -151,7 +157,7 @@ fn tell_forfeit(
 }
 
 /// Appends the line of an account and an amount, behind some words.
-fn tell_amount(
+pub fn tell_amount(
     text: &mut Vec<u8>,
     words: &'static str,
     who: AccountId,
@@ -201,6 +207,8 @@ fn tell_line(text: &mut Vec<u8>, line: &Line) -> Result<(), NoMemory>
         Line::CallOk { index } => tell_counted(text, "call ", u64::from(index), " ok\n"),
         Line::Paid { who, amount } => tell_amount(text, "paid ", who, amount),
         Line::Slashed { who, amount } => tell_amount(text, "slashed ", who, amount),
+        Line::Deferred { number, due } => tell_two(text, "deferred ", number, " ", u64::from(due)),
+        Line::Applied { number } => tell_counted(text, "apply ", number, "\n"),
         Line::CallRefused { index, code } => {
             tell_two(
                 text,

@@ -13,6 +13,7 @@ ghost use Rattle.npos_cli.specs.Report.{ReadsInput, ReadsBundle, IsAnswer, IsJud
 ghost use Rattle.npos_cli.specs.Books.{BooksBalance, DepositsAreKept};
 ghost use Rattle.npos_cli.specs.Headline.{SeatsAreSound, IsPromised, RoundsAreSeated};
 ghost use Rattle.npos_cli.specs.Chain.{npos_machine};
+ghost use Rattle.npos_cli.specs.Pools.{pool_machine, PoolsAreFair};
 ghost use Rattle.npos_cli.specs.Crowding.{NoneIsCrowdedOut};
 ghost use Rattle.npos_cli.specs.Eras.{ErasAreKept};
 ghost use Rattle.npos_cli.specs.Streams.{LeavesStream};
@@ -30,9 +31,10 @@ use crate::halt::{Halt, end_of};
 use crate::input::read_up_to;
 use crate::job::{Job, job_of};
 use crate::laws::{
-    replays_crowd_nothing_out, replays_keep_the_bounds_of_eras, replays_seat_each_round,
-    replays_seat_sound_committees, replays_settle_deposits,
+    pools_are_fair, replays_crowd_nothing_out, replays_keep_the_bounds_of_eras,
+    replays_seat_each_round, replays_seat_sound_committees, replays_settle_deposits,
 };
+use crate::pooling::pools;
 use crate::replaying::replay;
 use crate::rewriting::rewrite;
 use crate::status::status_of;
@@ -120,6 +122,7 @@ fn run_job<S: Source, K: Sink>(
         Some(Job::Replay) => replay(alloc, source, sink),
         Some(Job::OnBundle(task)) => report(alloc, source, sink, task),
         Some(Job::Rewrite(way)) => rewrite(alloc, source, sink, way),
+        Some(Job::Pools) => pools(alloc, source, sink),
         Some(
             Job::Demo {
                 seed,
@@ -154,7 +157,7 @@ fn run_words<S: Source, K: Sink>(
 /// Does all that the program does: finds the job that the words ask for, reads its input from the
 /// source, writes to the sink what is due, flushes it, and says how it ended. `words[0]` is the
 /// program's name and is not looked at.
-#[tactic(auto, using(crate::proofs::BookLaws::books_told, crate::proofs::SeatLaws::told_sound, crate::proofs::SeatLaws::told_rounds, crate::proofs::BookLaws::told_deposits, crate::proofs::CrowdingLaws::told_crowded, crate::proofs::EraLaws::told_eras))]
+#[tactic(auto, using(crate::proofs::BookLaws::books_told, crate::proofs::SeatLaws::told_sound, crate::proofs::SeatLaws::told_rounds, crate::proofs::BookLaws::told_deposits, crate::proofs::CrowdingLaws::told_crowded, crate::proofs::EraLaws::told_eras, crate::proofs::FairLaws::told_pools))]
 pub fn run<S: Source, K: Sink>(
     alloc: Global,
     words: &[String],
@@ -192,6 +195,11 @@ pub fn run<S: Source, K: Sink>(
         → (Rose (S.faults source.old) (S.faults source.new) → ⊥)
         → (Rose (K.faults sink.old) (K.faults sink.new) → ⊥)
         → (result ≡ Status.Done) ⊎ (result ≡ Status.NoMemory) }
+    ensures whole_pool { job_of (map string_bytes words.now) ≡ Some jobs.Pools
+        → LeavesStream pool_machine (S.left source.old)
+        → (Rose (S.faults source.old) (S.faults source.new) → ⊥)
+        → (Rose (K.faults sink.old) (K.faults sink.new) → ⊥)
+        → (result ≡ Status.Done) ⊎ (result ≡ Status.NoMemory) }
     ensures wary { job_of (map string_bytes words.now) ≡ Some jobs.Replay
         → ReadsWhile (S.left source.old) (S.left source.new) }
     ensures usage_memory { has_verb (map string_bytes words.now) ≡ false
@@ -206,6 +214,7 @@ pub fn run<S: Source, K: Sink>(
     ensures seats { IfSome (S.left source.old) RoundsAreSeated }
     ensures crowding { IfSome (S.left source.old) NoneIsCrowdedOut }
     ensures eras { IfSome (S.left source.old) ErasAreKept }
+    ensures pools { IfSome (S.left source.old) PoolsAreFair }
     ensures headline { job_of (map string_bytes words.now) ≡ Some jobs.Replay
         → (Rose (S.faults source.old) (S.faults source.new) → ⊥)
         → (Rose (K.faults sink.old) (K.faults sink.new) → ⊥)
@@ -226,5 +235,6 @@ pub fn run<S: Source, K: Sink>(
     replays_settle_deposits();
     replays_crowd_nothing_out();
     replays_keep_the_bounds_of_eras();
+    pools_are_fair();
     end_of(run_words(alloc, words, source, sink))
 }

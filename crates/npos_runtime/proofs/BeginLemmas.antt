@@ -6,7 +6,7 @@ use Rattle.std.proofs.lemmas.Bool.{ltb-false}
 use Rattle.npos_base.specs.declared.account.AccountId.{AccountId}
 use Rattle.block_wire.specs.declared.genesis.Endowment.{Endowment}
 use Rattle.block_wire.specs.declared.genesis.Genesis.{Genesis}
-use Rattle.block_wire.specs.declared.genesis.Genesis.TheVariants.{Plain, Full}
+use Rattle.block_wire.specs.declared.genesis.Genesis.TheVariants.{Plain, Full, Deferred}
 use Rattle.stake_ledger.specs.declared.chunks.Chunk.{Chunk}
 use Rattle.stake_ledger.specs.Rows.{gained}
 use Rattle.stake_ledger.specs.Ledger.{Ledger, row_at, empty_ledger, issuance_cap, IsBalanced}
@@ -15,10 +15,11 @@ use Rattle.stake_ledger.proofs.KeepLemmas.{balanced_endowed}
 use Rattle.chain_params.specs.declared.fault.GenesisFault.{GenesisFault}
 use Rattle.chain_params.specs.declared.fault.GenesisFault.TheVariants.{RepeatedAccount, TooMuch, BadThreshold}
 use Rattle.era_book.specs.Eras.{first_era}
+use Rattle.era_book.proofs.LawLemmas.{in_order_law}
 use Rattle.npos_runtime.proofs.RoleLemmas.{none_kept}
 use Rattle.chain_params.proofs.PhaseLemmas.{era_first}
-use Rattle.npos_runtime.specs.Genesis.{params_of, endowment_sum, endowed_all, endowment_fault, is_endowed, genesis_fault, genesis_chain}
-use Rattle.chain_params.specs.Faults.{params_fault, numbers_fault, threshold_fault, limits_fault, AreSound}
+use Rattle.npos_runtime.specs.Genesis.{params_of, defer_of, endowment_sum, endowed_all, endowment_fault, is_endowed, genesis_fault, genesis_chain}
+use Rattle.chain_params.specs.Faults.{terms_fault, numbers_fault, threshold_fault, limits_fault, AreSound}
 use Rattle.npos_base.specs.Account.{same_account, account_cmp}
 use Rattle.stake_ledger.specs.declared.row.Row.{Row}
 use Rattle.stake_ledger.proofs.AccountLemmas.{row_at-changed}
@@ -31,7 +32,7 @@ use Rattle.npos_runtime.specs.BookCalls.{release_now}
 use Rattle.block_wire.specs.declared.genesis.Params.{Params}
 use Rattle.npos_runtime.specs.Live.{IsLive, IsBetweenBlocks, IsReady}
 use Rattle.npos_runtime.specs.History.{StartLaw}
-use Rattle.chain_params.proofs.FaultLemmas.{first_none, places_within}
+use Rattle.chain_params.proofs.FaultLemmas.{first_none, places_within, wait_within, can_wait, terms_sound}
 use Rattle.npos_runtime.proofs.EndowLemmas.{sum_more}
 use Rattle.npos_runtime.proofs.PartLemmas.{chunks_changed}
 
@@ -79,9 +80,10 @@ fresh_empty = record {
 }
 
 -- the chain of a genesis, in which nobody has a role
-abbrev begun_chain : Option Params → List Endowment → Chain
-begun_chain params endowments = record {
+abbrev begun_chain : Option Params → ℕ → List Endowment → Chain
+begun_chain params defer endowments = record {
   params = params;
+  defer = defer;
   book = endowed_all endowments empty_ledger;
   roles = [];
   bags = record { thresholds = thresholds_in params; order = [] };
@@ -102,16 +104,20 @@ places_ordered None sound = record { some = omega arith; most = omega arith; fit
 places_ordered (Some params) sound =
     let within = places_within params sound in record { some = within.0; most = within.1; fits = omega arith; by_rank = tt }
 
-made_live : (params : Option Params) (endowments : List Endowment) → AreSound params → endowment_fault [] endowments ≡ None
-    → IsLive (begun_chain params endowments)
-made_live params endowments sound none =
+made_live : (params : Option Params) (defer : ℕ) (endowments : List Endowment) → (params ≡ None → defer ≡ 0)
+    → option_or (endowment_fault [] endowments) (terms_fault params defer) ≡ None → IsLive (begun_chain params defer endowments)
+made_live params defer endowments unset faultless =
+    let both = first_none (endowment_fault [] endowments) (terms_fault params defer) faultless in
+    let none = both.0 in
+    let sound = terms_sound params defer both.1 in
     let is = fresh [] endowments empty_ledger fresh_empty refl none in
     record {
       params = sound;
+      defer = can_wait params defer unset both.1;
       due = record { at_least = omega arith; at_most = omega arith };
       books = record {
         balanced = is.balanced;
-        releases = λ who. subst (All (λ (chunk : Chunk). chunk.release ≤ release_now (begun_chain params endowments)))
+        releases = λ who. subst (All (λ (chunk : Chunk). chunk.release ≤ release_now (begun_chain params defer endowments)))
             (sym (is.locked who)) (λ k d few. absurd (omega arith));
         deposits = record { held = is.unheld; known = λ k d few. absurd (omega arith) };
       };
@@ -127,19 +133,30 @@ made_live params endowments sound none =
     }
 
 pub live_begun : (genesis : Genesis) → genesis_fault genesis ≡ None → IsLive (genesis_chain genesis)
-live_begun (Plain endowments) none = made_live None endowments tt none
-live_begun (Full endowments params) none =
-    let both = first_none (endowment_fault [] endowments) (params_fault params) none in
-    made_live (Some params) endowments both.1 both.0
+live_begun (Plain endowments) none = made_live None 0 endowments (λ unset. refl) none
+live_begun (Full endowments params) none = made_live (Some params) 0 endowments (λ unset. refl) none
+live_begun (Deferred endowments params defer_eras) none = made_live (Some params) defer_eras endowments (λ unset. cc) none
 
 -- era 0 is the current one, and nothing waits
 pub between_begun : (genesis : Genesis) → genesis_fault genesis ≡ None → IsBetweenBlocks (genesis_chain genesis)
 between_begun genesis none =
-    record { live = live_begun genesis none; era = sym (era_first (params_of genesis)); places = refl; timely = refl; elected = tt }
+    let live = live_begun genesis none in
+    record {
+      live = live;
+      era = sym (era_first (params_of genesis));
+      places = refl;
+      timely = refl;
+      elected = tt;
+      slashes = record {
+        order = in_order_law.0;
+        later = λ k d few. absurd (omega arith);
+        fits = omega (arith, wait_within (params_of genesis) (defer_of genesis) live.params live.defer);
+      };
+    }
 
 -- no number was given yet
 pub ready_begun : (genesis : Genesis) → genesis_fault genesis ≡ None → IsReady (genesis_chain genesis)
-ready_begun genesis none = record { between = between_begun genesis none; numbered = omega arith }
+ready_begun genesis none = record { between = between_begun genesis none; numbered = omega arith; slash_numbered = omega arith }
 
 pub start_law : StartLaw
 start_law genesis blocks history = record { between = between_begun genesis history.faultless; fit = history.fit }

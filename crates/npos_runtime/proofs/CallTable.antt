@@ -10,7 +10,7 @@ use Rattle.npos_runtime.proofs.RuleLemmas.{IsLawful, plain_lawful}
 use Rattle.npos_runtime.proofs.BookCallLemmas.{transfer_live, bond_live, bond_extra_live, unbond_live, rebond_live, withdraw_live}
 use Rattle.npos_runtime.proofs.ListCallLemmas.{nominate_live, validate_live, chill_live, rebag_live, put_in_front_live}
 use Rattle.npos_runtime.proofs.SubmitCallLemmas.{submit_lawful}
-use Rattle.npos_runtime.proofs.OfficeCallLemmas.{points_lawful, payout_lawful, offence_lawful}
+use Rattle.npos_runtime.proofs.OfficeCallLemmas.{points_lawful, payout_lawful, offence_lawful, cancel_lawful}
 
 pub lawful : (chain : Chain) (who : AccountId) (kind : CallKind) → IsLawful chain who (rule_of chain who kind)
 unfolding rule_of
@@ -29,6 +29,7 @@ lawful chain who (kinds.Submit round claim bytes) = submit_lawful chain who roun
 lawful chain who (kinds.Points items) = points_lawful chain who items
 lawful chain who (kinds.Payout era validator) = payout_lawful chain who era validator
 lawful chain who (kinds.Offence era validator fraction) = offence_lawful chain who era validator fraction
+lawful chain who (kinds.CancelSlash number) = cancel_lawful chain who number
 
 pub lawful_call : (call : Call) (chain : Chain) → IsLawful chain call.who (rule_for chain call)
 lawful_call call chain = lawful chain call.who call.kind

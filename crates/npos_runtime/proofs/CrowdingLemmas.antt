@@ -126,7 +126,7 @@ module _ (params : Params) (sound : params_fault params ≡ None) (number : ℕ)
     -- the new round is void, or open and nothing was offered to it
     opens : (void : Bool) → place chain.due ≡ first_place
         → IsTimed first_place (end_place + 1) chain.due
-        (Some (if void then rounds.Void (era chain.due + 1) else rounds.Open (era chain.due + 1) (snapshot_of (era_phase chain).state) (commissions_of chain.roles))) chain.queue offers
+        (Some (if void then rounds.Void (era chain.due + 1) else rounds.Open (era chain.due + 1) (snapshot_of (era_phase chain).state) (commissions_of (era_phase chain).state.roles))) chain.queue offers
     opens true e = empty_before chain.due chain.round chain.queue offers h.timed e
     opens false e = (
       refl,
@@ -466,7 +466,7 @@ module _ (packed : PackedYesIsAccepting) (chain : Chain) (block : Block) (round 
 
   -- the lines of this decision
   abbrev book : Ledger
-  book = all_burned (losers snapshot items) chain.book
+  book = all_burned (losers snapshot items) (undecided chain).book
 
   abbrev lost_lines : List Line
   lost_lines = map (forfeit_line snapshot) (losers snapshot items)

@@ -1,5 +1,5 @@
 -- What eras come to over blocks: payouts within the reward, and slashes within the stake.
-use Rattle.std.proofs.Common.{◌≡◌, ◌≢◌, ◌^◌, ℕ, zero, suc, ◌+◌, ◌-◌, ◌<◌, ◌≤◌, min, Bool, true, false, cond, not, nat_eq, nat_lt, List, [], ◌∷◌, ◌++◌, length, slice_get, unwrap_or, Option, Some, None, refl, ap, sym, subst, ◌∙◌, arith, if◌then◌else◌}
+use Rattle.std.proofs.Common.{◌≡◌, ◌≢◌, ◌^◌, ℕ, zero, suc, ◌+◌, ◌-◌, ◌<◌, ◌≤◌, min, Bool, true, false, cond, not, nat_eq, nat_lt, ◌==◌, List, [], ◌∷◌, ◌++◌, length, slice_get, unwrap_or, Option, Some, None, refl, ap, sym, subst, ◌∙◌, arith, if◌then◌else◌}
 use Rattle.std.proofs.lemmas.Bool.Decides.{nat_tests}
 use Rattle.std.proofs.lemmas.List.Sums.{sum_by-cons}
 use Rattle.std.proofs.lemmas.List.Elements.{All-nil}
@@ -8,7 +8,6 @@ use Rattle.npos_base.specs.Account.{same_account}
 use Rattle.npos_base.proofs.AccountOrder.{same_exact, same_itself}
 use Rattle.block_wire.specs.declared.genesis.Params.{Params}
 use Rattle.block_wire.specs.declared.genesis.Genesis.{Genesis}
-use Rattle.block_wire.specs.declared.genesis.Endowment.{Endowment}
 use Rattle.block_wire.specs.declared.genesis.Genesis.TheVariants as geneses
 use Rattle.block_wire.specs.declared.call.Call.{Call}
 use Rattle.block_wire.specs.declared.block.Block.{Block}
@@ -23,36 +22,35 @@ use Rattle.election_check.specs.Laws.{PackedYesIsAccepting, PlainYesIsPassing}
 use Rattle.quota_fill.specs.Laws.{EveryFillPasses}
 use Rattle.era_book.specs.declared.exposure.Backer.{Backer}
 use Rattle.era_book.specs.declared.exposure.Exposure.{Exposure}
-use Rattle.era_book.specs.Exposures.{amount_sum, exposed_for, AreSound}
+use Rattle.era_book.specs.Exposures.{amount_sum, exposed_for}
 use Rattle.era_book.specs.Calls.{slash_in}
 use Rattle.era_book.specs.Eras.{first_era}
 use Rattle.era_book.specs.Events.{Event, Paid, AreAccepted, after_all, given_by, pays, makes_due, exposures_of}
 use Rattle.era_book.proofs.EventLemmas.{accepted_append, after_append, given_append}
 use Rattle.era_book.proofs.LawLemmas.{reward_law, due_law}
 use Rattle.npos_runtime.specs.declared.chain.Chain.{Chain}
-use Rattle.npos_runtime.specs.Committee.{Committee}
-use Rattle.npos_runtime.specs.Exposed.{exposed}
 use Rattle.block_receipts.specs.declared.refusal.Refusal.{Refusal}
+use Rattle.chain_params.specs.Faults.{AreSound as AreSoundParams}
 use Rattle.chain_params.specs.Rules.{era_of, era_reward_of}
 use Rattle.npos_runtime.specs.Outcome.{Election}
-use Rattle.npos_runtime.specs.Offices.{payout_now, all_minted, slashed_once, slashes}
+use Rattle.npos_runtime.specs.Offices.{payout_now, all_minted, slashed_once, slashes, slashing_rule, deferring_rule}
 use Rattle.npos_runtime.specs.CallRule.{CallRule}
 use Rattle.npos_runtime.specs.Calls.{rule_of, rule_for}
 use Rattle.npos_runtime.specs.Step.{before_calls, call_after, call_outcome, step, after_blocks, seated_by}
 use Rattle.npos_runtime.specs.Genesis.{params_of, genesis_chain}
-use Rattle.npos_runtime.specs.Live.{IsLive, IsBetweenBlocks, IsNotedCommittee, WasElected}
+use Rattle.npos_runtime.specs.Live.{IsLive, IsBetweenBlocks}
 use Rattle.npos_runtime.specs.History.{CanTake, IsHistory}
 use Rattle.npos_runtime.specs.EraLaws.{event_of, events_at, events_in, events_by, HistoryLaw, over_calls, over_blocks, paid_for, paid_by, paid_in, PaidWithinRewardLaw, chain_at, PaidAsToldLaw, bonded, IsTaken, AreTaken, SlashLaw, taken_for, taken_by, due_by, due_in, TakenLaw, elected_for, stake_behind, DueWithinStakeLaw}
 use Rattle.npos_runtime.proofs.RuleLemmas.{FollowsEvents}
 use Rattle.npos_runtime.proofs.OfficeCallLemmas.{slashed_live, told_payout, payout_free}
 use Rattle.npos_runtime.proofs.CallTable.{lawful_call}
-use Rattle.npos_runtime.proofs.LiveLemmas.{live_before, live_calls, live_blocks, due_step}
+use Rattle.npos_runtime.proofs.WaitingLemmas.{sound_waiting}
+use Rattle.npos_runtime.proofs.LiveLemmas.{can_before, live_before, live_calls, live_blocks, due_step}
 use Rattle.npos_runtime.proofs.BeginLemmas.{live_begun, start_law}
 use Rattle.npos_runtime.proofs.OfficeLemmas.{payout_sums}
 use Rattle.chain_params.proofs.PhaseLemmas.{era_first}
 use Rattle.npos_runtime.proofs.HistoryLemmas.{accepted_block, eras_block, sum_blocks}
 use Rattle.npos_runtime.proofs.StoryLemmas.{IsStory, story_blocks, plain_begun}
-use Rattle.npos_runtime.proofs.ElectedLemmas.{exposures_sound, nobody_sound}
 use Rattle.npos_runtime.proofs.TimeLemmas.{between_step, between_blocks}
 
 -- ## What calls tell
@@ -145,7 +143,7 @@ taken_once due book balanced = record {
     at true is = absurd (apart (same_exact other due.who is))
     at false is = refl
 
-taken_each : (dues : List Backer) (chain : Chain) → IsLive chain → AreTaken dues chain.book (slashes dues chain).lines (slashes dues chain).state.book
+pub taken_each : (dues : List Backer) (chain : Chain) → IsLive chain → AreTaken dues chain.book (slashes dues chain).lines (slashes dues chain).state.book
 taken_each [] chain live = (refl, refl)
 taken_each (due ∷ more) chain live =
     let next : Chain = slashed_once due chain in (
@@ -165,9 +163,13 @@ live_at chain blocks calls can =
 
 pub slash_law : SlashLaw
 unfolding rule_of
-slash_law chain blocks calls can who era validator fraction free =
+slash_law chain blocks calls can who era validator fraction none free =
     let now : Chain = chain_at chain blocks calls in
-    taken_each (slash_in now.eras era validator fraction) now (live_at chain blocks calls can)
+    let at_once : (now.defer == 0) ≡ true = grind (arith, nat_tests) in
+    subst (λ b. AreTaken (slash_in now.eras era validator fraction) now.book
+    (if b then slashing_rule now era validator fraction else deferring_rule now era validator fraction).told
+    (if b then slashing_rule now era validator fraction else deferring_rule now era validator fraction).done.book) (sym at_once)
+    (taken_each (slash_in now.eras era validator fraction) now (live_at chain blocks calls can))
 
 no_exposure : (who : AccountId) (era : ℕ) → exposed_for who (unwrap_or (slice_get ([] ∷ []) era) []) ≡ 0
 no_exposure who zero = refl
@@ -182,13 +184,10 @@ eras_blocks chain (block ∷ more) =
     ∙ ap (after_all (events_by (step chain block).state more)) (eras_block chain block)
     ∙ eras_blocks (step chain block).state more
 
--- who waits exposes nobody twice
-sound_waiting : (waiting : Option Committee) → WasElected waiting → IsNotedCommittee waiting → AreSound (exposed waiting)
-sound_waiting None elected noted = nobody_sound
-sound_waiting (Some committee) elected noted = exposures_sound committee elected noted
-
 accepted_next : (chain : Chain) (block : Block) → IsBetweenBlocks chain → AreAccepted (events_in chain block) chain.eras
-accepted_next chain block rests = accepted_block chain block (sound_waiting chain.waiting rests.elected rests.live.waiting)
+accepted_next chain block rests =
+    let sound = sound_waiting chain.waiting rests.elected rests.live.waiting in
+    accepted_block chain block sound (can_before chain rests.live rests.era sound rests.slashes)
 
 accepted_blocks : (chain : Chain) (blocks : List Block) → IsBetweenBlocks chain → chain.due + length blocks ≤ 2 ^ 32
     → AreAccepted (events_by chain blocks) chain.eras
@@ -210,22 +209,20 @@ accepted_from genesis blocks history = (history_law (genesis_chain genesis) bloc
 
 module _ (packed : PackedYesIsAccepting) (plain : PlainYesIsPassing) (fill : EveryFillPasses) where
   -- the story of a genesis with params
-  full_story : (endowments : List Endowment) (params : Params) (blocks : List Block)
-      → IsHistory (geneses.Full endowments params) blocks
-      → IsStory params (after_blocks (genesis_chain (geneses.Full endowments params)) blocks) (seated_by (genesis_chain (geneses.Full endowments params)) blocks)
-      (events_by (genesis_chain (geneses.Full endowments params)) blocks)
-  full_story endowments params blocks history =
-      let first : Chain = genesis_chain (geneses.Full endowments params) in
-      let live : IsLive first = live_begun (geneses.Full endowments params) history.faultless in
-      story_blocks params packed plain fill live.params first blocks [] [] live history.fit (record {
+  full_story : (genesis : Genesis) (params : Params) (blocks : List Block) → params_of genesis ≡ Some params → IsHistory genesis blocks
+      → IsStory params (after_blocks (genesis_chain genesis) blocks) (seated_by (genesis_chain genesis) blocks) (events_by (genesis_chain genesis) blocks)
+  full_story genesis params blocks are history =
+      let first : Chain = genesis_chain genesis in
+      let live : IsLive first = live_begun genesis history.faultless in
+      story_blocks params packed plain fill (subst AreSoundParams are live.params) first blocks [] [] live history.fit (record {
         between = record {
-          params_are = refl;
+          params_are = are;
           timely = tt;
           waits = tt;
           latest = All-nil (λ (e : Election). e.round ≤ era_of (Some params) 1 + 1);
           earlier = λ before. All-nil (λ (e : Election). e.round ≤ era_of (Some params) 1);
         };
-        current = sym (era_first (Some params));
+        current = sym (era_first (params_of genesis));
         count = refl;
         covered = λ who k. omega (arith, no_exposure who k);
       })
@@ -234,7 +231,7 @@ module _ (packed : PackedYesIsAccepting) (plain : PlainYesIsPassing) (fill : Eve
   rewards_law genesis blocks era history =
       let params : Option Params = params_of genesis in
       let sum : paid_in era genesis blocks ≡ given_by (pays era (era_reward_of params)) (events_by (genesis_chain genesis) blocks) first_era =
-      sum_blocks params (paid_by era) (pays era (era_reward_of params)) (paid_call era params) (λ exposures eras. refl)
+      sum_blocks params (paid_by era) (pays era (era_reward_of params)) (paid_call era params) (λ exposures eras. refl) (λ eras. refl)
       (genesis_chain genesis) blocks refl in
       omega (
         arith,
@@ -249,13 +246,16 @@ module _ (packed : PackedYesIsAccepting) (plain : PlainYesIsPassing) (fill : Eve
       let none : exposed_for who (exposures_of era (events_by (genesis_chain (geneses.Plain endowments)) blocks)) ≡ 0 =
       ap (λ (es : List (List Exposure)). exposed_for who (unwrap_or (slice_get ([] ∷ es) era) [])) (plain_begun (genesis_chain (geneses.Plain endowments)) blocks refl) ∙ no_exposure who era in
       omega (arith, none)
-  covered_from (geneses.Full endowments params) blocks era who history = (full_story endowments params blocks history).covered who era
+  covered_from (geneses.Full endowments params) blocks era who history =
+      (full_story (geneses.Full endowments params) params blocks refl history).covered who era
+  covered_from (geneses.Deferred endowments params defer_eras) blocks era who history =
+      (full_story (geneses.Deferred endowments params defer_eras) params blocks refl history).covered who era
 
   pub dues_law : DueWithinStakeLaw
   dues_law genesis blocks era who history =
       let events : List Event = events_by (genesis_chain genesis) blocks in
       let sum : due_in era who genesis blocks ≡ given_by (makes_due era who) events first_era =
-      sum_blocks (params_of genesis) (due_by era who) (makes_due era who) (λ index call chain is. refl) (λ exposures eras. refl)
+      sum_blocks (params_of genesis) (due_by era who) (makes_due era who) (λ index call chain is. refl) (λ exposures eras. refl) (λ eras. refl)
       (genesis_chain genesis) blocks refl in
       omega (arith, sum, due_law era who events (accepted_from genesis blocks history), covered_from genesis blocks era who history)
 

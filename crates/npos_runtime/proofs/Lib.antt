@@ -2,6 +2,7 @@ pub mod FaultLemmas
 pub mod ListLemmas
 pub mod RoleLemmas
 pub mod StopLemmas
+pub mod AppliedLemmas
 pub mod BallotLemmas
 pub mod StepLemmas
 pub mod StakeSums
@@ -10,6 +11,7 @@ pub mod VoterLemmas
 pub mod VoidLemmas
 pub mod EraLemmas
 pub mod OfficeLemmas
+pub mod EraPhaseLemmas
 pub mod ExposureLemmas
 pub mod PartLemmas
 pub mod RuleLemmas
@@ -31,8 +33,10 @@ pub mod SubmitLemmas
 pub mod FateLemmas
 pub mod LawLemmas
 pub mod CrowdingLemmas
+pub mod WaitingDueLemmas
 pub mod WaitingLemmas
 pub mod TimeLemmas
+pub mod DeferredLawLemmas
 pub mod DepositsLemmas
 pub mod SeatingsLemmas
 pub mod HistoryLemmas

@@ -1,26 +1,41 @@
 -- Calls, the phases of a block and blocks keep what holds of a chain.
-use Rattle.std.proofs.Common.{◌≡◌, ℕ, zero, suc, ◌/◌, ◌+◌, ◌≤◌, All, List, [], ◌∷◌, Option, Some, None, refl, sym, ◌∙◌, ap, arith, length, ◌-◌, ◌<◌, ◌^◌}
+use Rattle.std.proofs.Common.{◌≡◌, ℕ, zero, suc, ◌/◌, ◌*◌, ◌+◌, ◌≤◌, All, List, [], ◌∷◌, Option, Some, None, refl, sym, subst, ◌∙◌, ap, arith, length, ◌-◌, ◌<◌, ◌^◌}
 use Rattle.std.proofs.lemmas.Nat.{le-div}
 use Rattle.std.proofs.Math.Nat.{div-zero, div-mul-le_self}
+use Rattle.std.proofs.lemmas.List.Elements.{All-weaker}
 use Rattle.block_wire.specs.declared.call.Call.{Call}
 use Rattle.block_wire.specs.declared.block.Block.{Block}
 use Rattle.block_wire.specs.declared.genesis.Params.{Params}
 use Rattle.stake_ledger.specs.declared.chunks.Chunk.{Chunk}
 use Rattle.stake_ledger.specs.Ledger.{row_at}
+use Rattle.era_book.specs.declared.deferred.DeferredSlash.{DeferredSlash}
+use Rattle.era_book.specs.Deferred.{next_due}
+use Rattle.era_book.specs.Exposures.{AreSound as AreSoundExposures}
+use Rattle.era_book.specs.Course.{AreInOrder}
+use Rattle.era_book.specs.Events.{Started, Taken}
+use Rattle.era_book.proofs.LawLemmas.{in_order_law}
 use Rattle.era_book.specs.Eras.{Eras}
 use Rattle.block_receipts.specs.declared.refusal.Refusal.{Refusal}
-use Rattle.chain_params.specs.Rules.{era_of}
+use Rattle.chain_params.specs.Rules.{era_of, begun_era}
+use Rattle.chain_params.specs.Faults.{AreSound}
+use Rattle.chain_params.proofs.PhaseLemmas.{phases_sound}
+use Rattle.chain_params.proofs.FaultLemmas.{wait_within}
 use Rattle.npos_runtime.specs.declared.chain.Chain.{Chain}
 use Rattle.npos_runtime.specs.CallRule.{CallRule}
 use Rattle.npos_runtime.specs.BookCalls.{release_now}
 use Rattle.npos_runtime.specs.Calls.{rule_for}
 use Rattle.npos_runtime.specs.Rounds.{round_phase}
-use Rattle.npos_runtime.specs.Step.{era_phase, phases, before_calls, call_after, call_outcome, calls_outcome, closed, step, after_blocks}
-use Rattle.npos_runtime.specs.Live.{IsLive}
+use Rattle.npos_base.specs.declared.account.AccountId.{AccountId}
+use Rattle.npos_runtime.specs.Exposed.{exposed}
+use Rattle.npos_runtime.specs.Offices.{apply_slash, applied}
+use Rattle.npos_runtime.specs.Outcome.{Outcome}
+use Rattle.npos_runtime.specs.Step.{eras_after, waiting_after, applied_in, era_phase, phases, before_calls, call_after, call_outcome, calls_outcome, closed, step, after_blocks}
+use Rattle.npos_runtime.specs.Live.{IsLive, CanDefer}
 use Rattle.npos_runtime.proofs.EraLemmas.{era_begun}
-use Rattle.npos_runtime.proofs.RuleLemmas.{KeepsLive, IsFixed, fixed_itself, fixed_then}
+use Rattle.npos_runtime.proofs.RuleLemmas.{KeepsLive, IsFixed, fixed_itself, fixed_then, IsLawful, IsLater, line_same, rule_can}
+use Rattle.npos_runtime.proofs.OfficeCallLemmas.{applied_keeps, eras_applied}
 use Rattle.npos_runtime.proofs.CallTable.{lawful_call}
-use Rattle.npos_runtime.proofs.PhaseTable.{StaysDue, phases_keep, live_in_turn, due_in_turn, eras_decision}
+use Rattle.npos_runtime.proofs.PhaseTable.{era_state, StaysDue, phases_keep, live_in_turn, due_in_turn, eras_decision}
 
 live_after : (due : Option Refusal) (index : ℕ) (rule : CallRule) (chain : Chain) → IsLive chain → rule.refusal ≡ due → KeepsLive chain rule
     → IsLive (call_after due index rule chain).state
@@ -68,6 +83,7 @@ released_later a b chunks later by = λ k d few. omega (arith, by k d few, later
 pub live_closed : (chain : Chain) → IsLive chain → chain.due < 2 ^ 32 → IsLive (closed chain).state
 live_closed chain live more = record {
   params = live.params;
+  defer = live.defer;
   due = record { at_least = omega arith; at_most = omega (arith, more) };
   books = record {
     balanced = live.books.balanced;
@@ -96,6 +112,9 @@ params_before chain = (stays_before chain).params
 
 pub next_before : (chain : Chain) → (before_calls chain).next ≡ chain.next
 next_before chain = (stays_before chain).next
+
+pub defer_before : (chain : Chain) → (before_calls chain).defer ≡ chain.defer
+defer_before chain = (stays_before chain).defer
 
 -- the calls of a block find the eras as they are once one may have begun
 pub eras_before : (chain : Chain) → (before_calls chain).eras ≡ (era_phase chain).state.eras
@@ -135,6 +154,115 @@ pub next_calls : (index : ℕ) (calls : List Call) (chain : Chain) → (calls_ou
 next_calls index [] chain = omega arith
 next_calls index (call ∷ calls) chain =
     omega (arith, next_calls (index + 1) calls (call_outcome index call chain).state, next_call index call chain)
+
+-- what waits stays in order over calls
+can_after : (due : Option Refusal) (index : ℕ) (chain : Chain) (who : AccountId) (rule : CallRule) → rule.refusal ≡ due → IsLawful chain who rule
+    → CanDefer chain → CanDefer (call_after due index rule chain).state
+can_after None index chain who rule free is can = rule_can chain who rule is free can
+can_after (Some refusal) index chain who rule free is can = can
+
+pub can_call : (index : ℕ) (call : Call) (chain : Chain) → CanDefer chain → CanDefer (call_outcome index call chain).state
+can_call index call chain can = can_after (rule_for chain call).refusal index chain call.who (rule_for chain call) refl (lawful_call call chain) can
+
+pub can_calls : (index : ℕ) (calls : List Call) (chain : Chain) → CanDefer chain → CanDefer (calls_outcome index calls chain).state
+can_calls index [] chain can = can
+can_calls index (call ∷ calls) chain can = can_calls (index + 1) calls (call_outcome index call chain).state (can_call index call chain can)
+
+slash_after : (due : Option Refusal) (index : ℕ) (rule : CallRule) (chain : Chain) → rule.done.eras.next_slash ≤ chain.eras.next_slash + 1
+    → (call_after due index rule chain).state.eras.next_slash ≤ chain.eras.next_slash + 1
+slash_after None index rule chain most = most
+slash_after (Some refusal) index rule chain most = omega arith
+
+pub slash_call : (index : ℕ) (call : Call) (chain : Chain)
+    → (call_outcome index call chain).state.eras.next_slash ≤ chain.eras.next_slash + 1
+slash_call index call chain = slash_after (rule_for chain call).refusal index (rule_for chain call) chain (lawful_call call chain).line.next
+
+pub slash_calls : (index : ℕ) (calls : List Call) (chain : Chain)
+    → (calls_outcome index calls chain).state.eras.next_slash ≤ chain.eras.next_slash + length calls
+slash_calls index [] chain = omega arith
+slash_calls index (call ∷ calls) chain =
+    omega (arith, slash_calls (index + 1) calls (call_outcome index call chain).state, slash_call index call chain)
+
+twice : (q k : ℕ) → 2 ≤ k → q * 2 ≤ q * k
+twice zero k two = omega arith
+twice (suc q) k two = omega (arith, twice q k two, two)
+
+-- the number of an era is far below those of blocks
+era_small : (params : Option Params) (number : ℕ) → AreSound params → number ≤ 2 ^ 32 → era_of params number < 2 ^ 31
+era_small None number sound most = omega arith
+era_small (Some params) number sound most =
+    let within = phases_sound params sound in
+    let quotient : ℕ = (number - 1) / params.era_blocks in
+    omega (arith, div-mul-le_self (number - 1) params.era_blocks, twice quotient params.era_blocks (omega (arith, within)), most)
+
+-- an era that begins lets go of what is due in it
+later_started : (begun : Option ℕ) (chain : Chain) → IsLater chain
+    → let eras : Eras = eras_after chain.eras chain.waiting begun in
+    let left : Outcome = applied_in begun (record chain { waiting = waiting_after chain.waiting begun; eras = eras }) in
+    All (λ slash. slash.due ≤ eras.current + chain.defer) left.state.eras.queue
+later_started None chain later = later
+later_started (Some era) chain later =
+    let eras : Eras = eras_after chain.eras chain.waiting (Some era) in
+    let start : Chain = record chain { waiting = None; eras = eras } in
+    applied_keeps (λ slash. slash.due ≤ eras.current + chain.defer) (length chain.eras.queue) start
+    (All-weaker (λ (slash : DeferredSlash). slash.due ≤ chain.eras.current + chain.defer) (λ slash. slash.due ≤ eras.current + chain.defer)
+    (λ slash below. omega (arith, below)) chain.eras.queue later)
+
+order_takings : (count : ℕ) (chain : Chain) → AreInOrder chain.eras → AreInOrder (applied count chain).state.eras
+order_takings zero chain order = order
+order_takings (suc more) chain order =
+    let next : Chain = (apply_slash (next_due chain.eras) chain).state in
+    order_takings more next
+    (subst AreInOrder (sym (eras_applied (next_due chain.eras) chain refl)) (in_order_law.1 Taken chain.eras tt order))
+
+order_started : (begun : Option ℕ) (chain : Chain) → AreSoundExposures (exposed chain.waiting) → AreInOrder chain.eras
+    → AreInOrder (applied_in begun (record chain {
+      waiting = waiting_after chain.waiting begun;
+      eras = eras_after chain.eras chain.waiting begun;
+    })).state.eras
+order_started None chain sound order = order
+order_started (Some era) chain sound order =
+    order_takings (length chain.eras.queue) (record chain { waiting = None; eras = eras_after chain.eras chain.waiting (Some era) })
+    (in_order_law.1 (Started (exposed chain.waiting)) chain.eras sound order)
+
+can_begun : (chain : Chain) → IsLive chain → chain.eras.current ≡ era_of chain.params (chain.due - 1) → AreSoundExposures (exposed chain.waiting)
+    → CanDefer chain → CanDefer (era_phase chain).state
+can_begun chain live is sound can = record {
+  order = subst (λ (c : Chain). AreInOrder c.eras) (sym (era_state chain)) (order_started (begun_era chain.params chain.due) chain sound can.order);
+  later = later_started (begun_era chain.params chain.due) chain can.later;
+  fits = omega (
+    arith,
+    era_begun chain.eras chain.waiting chain.params chain.due live.params live.due.at_least is,
+    era_small chain.params chain.due live.params live.due.at_most,
+    wait_within chain.params chain.defer live.params live.defer,
+  );
+}
+
+can_same : (old new : Chain) → new.eras ≡ old.eras → new.defer ≡ old.defer → CanDefer old → CanDefer new
+can_same old new same defer can = record {
+  order = subst AreInOrder (sym same) can.order;
+  later = (line_same {old = old} {new = new} same defer).later can.later;
+  fits = omega (arith, can.fits, defer, ap (λ (eras : Eras). eras.current) same);
+}
+
+-- what waits is in order when the calls of a block begin
+pub can_before : (chain : Chain) → IsLive chain → chain.eras.current ≡ era_of chain.params (chain.due - 1) → AreSoundExposures (exposed chain.waiting)
+    → CanDefer chain → CanDefer (before_calls chain)
+can_before chain live is sound can =
+    can_same (era_phase chain).state (before_calls chain) (eras_before chain) (defer_before chain) (can_begun chain live is sound can)
+
+next_started : (begun : Option ℕ) (chain : Chain) → (eras_after chain.eras chain.waiting begun).next_slash ≡ chain.eras.next_slash
+next_started None chain = refl
+next_started (Some era) chain = refl
+
+pub slash_before : (chain : Chain) → (before_calls chain).eras.next_slash ≡ chain.eras.next_slash
+slash_before chain = ap (λ (eras : Eras). eras.next_slash) (eras_before chain) ∙ next_started (begun_era chain.params chain.due) chain
+
+pub can_step : (chain : Chain) (block : Block) → IsLive chain → chain.eras.current ≡ era_of chain.params (chain.due - 1)
+    → AreSoundExposures (exposed chain.waiting) → CanDefer chain → CanDefer (step chain block).state
+can_step chain block live is sound can =
+    let called : Chain = (calls_outcome 0 block.calls (before_calls chain)).state in
+    can_same called (step chain block).state refl refl (can_calls 0 block.calls (before_calls chain) (can_before chain live is sound can))
 
 -- and so do all blocks that there are numbers for
 pub live_blocks : (chain : Chain) (blocks : List Block) → IsLive chain → chain.due + length blocks ≤ 2 ^ 32 → IsLive (after_blocks chain blocks)

@@ -1,8 +1,9 @@
 -- The parts of a chain: some change, and the others stay.
-use Rattle.std.proofs.Common.{◌≡◌, ◌≢◌, ◌⊎◌, inl, inr, ◌+◌, Bool, true, false, List, Option, Some, None, option_map, refl, sym, ap, subst, is_some, if◌then◌else◌}
+use Rattle.std.proofs.Common.{◌≡◌, ◌≢◌, ◌⊎◌, inl, inr, ℕ, ◌+◌, Bool, true, false, List, Option, Some, None, option_map, refl, sym, ap, subst, is_some, if◌then◌else◌}
 use Rattle.std.specs.Option.{unwrap_or, option_or}
 use Rattle.std.proofs.lemmas.Bool.Decides.{eqb_tells}
 use Rattle.npos_base.specs.declared.account.AccountId.{AccountId}
+use Rattle.block_wire.specs.declared.genesis.Params.{Params}
 use Rattle.npos_base.specs.Account.{same_account}
 use Rattle.stake_ledger.specs.declared.chunks.Chunk.{Chunk}
 use Rattle.stake_ledger.specs.declared.row.Row.{Row}
@@ -16,7 +17,7 @@ use Rattle.era_book.specs.Eras.{Eras}
 use Rattle.npos_runtime.specs.declared.chain.Chain.{Chain}
 use Rattle.npos_runtime.specs.Lists.{has_role, followed, with_stake, is_over, retired}
 use Rattle.npos_runtime.specs.BookCalls.{release_now}
-use Rattle.chain_params.specs.Faults.{AreSound}
+use Rattle.chain_params.specs.Faults.{AreSound, CanWait}
 use Rattle.chain_params.specs.Rules.{era_of, bonding_eras_of}
 use Rattle.npos_runtime.specs.Live.{IsLive, AreBooks, AreRoles, IsListing, IsSoundRound, IsNotedCommittee, CanBeDue}
 use Rattle.npos_runtime.proofs.ListLemmas.{IsListed, listed_from, listing_from, kept_followed, kept_removed}
@@ -56,13 +57,17 @@ pub second_none : {A : Type 0} (a b : Option A) → option_or a b ≡ None → b
 second_none None b e = e
 second_none (Some r) b e = cc
 
+waits_with : (old new : Option Params) (defer more : ℕ) → new ≡ old → more ≡ defer → CanWait old defer → CanWait new more
+waits_with old new defer more params same can = subst (λ (ps : Option Params). CanWait ps more) (sym params) (subst (CanWait old) (sym same) can)
+
 -- The one place where a live chain is put together anew: each part that changed keeps what it must.
-pub live_with : {chain new : Chain} → new.params ≡ chain.params → new.due ≡ chain.due → IsLive chain
+pub live_with : {chain new : Chain} → new.params ≡ chain.params → new.defer ≡ chain.defer → new.due ≡ chain.due → IsLive chain
     → AreBooks (release_now chain) new.queue.items new.book
     → AreRoles new.roles → IsListing new.roles new.bags → IsSoundRound new.round → IsOrdered new.queue → IsNotedCommittee new.waiting
     → IsLive new
-live_with {chain = chain} {new = new} params due live books roles bags round queue waiting = record {
+live_with {chain = chain} {new = new} params defer due live books roles bags round queue waiting = record {
   params = subst AreSound (sym params) live.params;
+  defer = waits_with chain.params new.params chain.defer new.defer params defer live.defer;
   due = subst CanBeDue (sym due) live.due;
   books =
       subst (λ release. AreBooks release new.queue.items new.book)
@@ -80,13 +85,13 @@ listed_of chain live = listed_from chain.roles chain.bags live.bags
 -- other books
 pub with_books : (chain : Chain) (book : Ledger) → IsLive chain → AreBooks (release_now chain) chain.queue.items book
     → IsLive (record chain { book = book })
-with_books chain book live books = live_with refl refl live books live.roles live.bags live.round live.queue live.waiting
+with_books chain book live books = live_with refl refl refl live books live.roles live.bags live.round live.queue live.waiting
 
 -- and the place of the account follows
 pub with_followed : (chain : Chain) (who : AccountId) (book : Ledger) → IsLive chain → AreBooks (release_now chain) chain.queue.items book
     → IsLive (with_stake chain who book)
 with_followed chain who book live books =
-    live_with refl refl live books live.roles
+    live_with refl refl refl live books live.roles
     (listing_from chain.roles (followed chain.bags who (row_at book who).active)
     (kept_followed (has_role chain.roles) chain.bags who (listed_of chain live) (row_at book who).active))
     live.round live.queue live.waiting
@@ -95,11 +100,11 @@ with_followed chain who book live books =
 pub with_lists : (chain : Chain) (roles : RoleList) (bags : Listing) → IsLive chain → IsListed (has_role roles) bags → AreRoles roles
     → IsLive (record chain { roles = roles; bags = bags })
 with_lists chain roles bags live listed kept =
-    live_with refl refl live live.books kept (listing_from roles bags listed) live.round live.queue live.waiting
+    live_with refl refl refl live live.books kept (listing_from roles bags listed) live.round live.queue live.waiting
 
 -- other eras
 pub with_eras : (chain : Chain) (eras : Eras) → IsLive chain → IsLive (record chain { eras = eras })
-with_eras chain eras live = live_with refl refl live live.books live.roles live.bags live.round live.queue live.waiting
+with_eras chain eras live = live_with refl refl refl live live.books live.roles live.bags live.round live.queue live.waiting
 
 has_without : (chain : Chain) (who : AccountId) → IsLive chain → has_role (without_role chain.roles who) who ≡ false
 has_without chain who live = ap is_some (standing_without who chain.roles live.roles.ranked.rising)

@@ -1,5 +1,6 @@
 -- The phases of a block: what each of them keeps. All laws over a step rest on this table.
-use Rattle.std.proofs.Common.{◌≡◌, ℕ, Bool, true, false, List, [], ◌∷◌, Option, Some, None, option_map, option_to_list, refl, ◌∙◌, arith, if◌then◌else◌}
+use Rattle.std.proofs.Common.{◌≡◌, ℕ, Bool, true, false, List, [], ◌∷◌, length, Option, Some, None, option_map, option_to_list, refl, sym, subst, ◌∙◌, arith, if◌then◌else◌}
+use Rattle.std.proofs.lemmas.List.Sums.{sum_by-append}
 use Rattle.std.specs.List.{AllByRecursion}
 use Rattle.election_snapshot.specs.Snapshot.{Snapshot}
 use Rattle.block_receipts.specs.declared.line.Line.TheVariants as lines
@@ -12,17 +13,19 @@ use Rattle.npos_runtime.specs.Rounds.{is_few, is_poor, round_line, round_phase, 
 use Rattle.npos_runtime.specs.Deciding.{decided, decision_of, decision_phase}
 use Rattle.npos_runtime.specs.Outcome.{Outcome, quiet}
 use Rattle.npos_runtime.specs.BookCalls.{release_now}
-use Rattle.npos_runtime.specs.Step.{waiting_after, era_phase, in_turn, phases}
+use Rattle.npos_runtime.specs.Step.{waiting_after, eras_after, applied_in, applied_now, era_phase, in_turn, phases}
 use Rattle.npos_runtime.specs.Live.{IsLive, IsSoundRound, IsNotedCommittee, AreNoted}
 use Rattle.npos_runtime.specs.Fates.{fate}
 use Rattle.npos_runtime.proofs.BookLemmas.{books_settled}
 use Rattle.npos_runtime.proofs.ElectorateLemmas.{sound_round}
 use Rattle.npos_runtime.proofs.PartLemmas.{live_with}
+use Rattle.npos_runtime.proofs.OfficeCallLemmas.{settling, applied_live, applied_within, applied_settle}
 use Rattle.npos_runtime.proofs.FairLemmas.{IsFair, fair_quiet, fair_then, decided_fair}
 
 -- what no phase changes
 pub record StaysDue (old new : Chain) : Type 0 where
   pub params : new.params ≡ old.params
+  pub defer : new.defer ≡ old.defer
   pub due : new.due ≡ old.due
   pub next : new.next ≡ old.next
 
@@ -33,25 +36,65 @@ pub record IsPhase (phase : Chain → Outcome) : Type 0 where
 
 -- ## An era may begin
 
-pub live_era : (chain : Chain) → IsLive chain → IsLive (era_phase chain).state
-live_era chain live =
-    live_with refl refl live live.books live.roles live.bags live.round live.queue (at (begun_era chain.params chain.due)) where
+-- slashes that are applied change books, roles and bags, and they wait no more
+live_applied : (begun : Option ℕ) (chain : Chain) → IsLive chain → IsLive (applied_in begun chain).state
+live_applied None chain live = live
+live_applied (Some era) chain live = applied_live (length chain.eras.queue) chain live
+
+-- the chain when its era has begun
+abbrev started_chain : Chain → Chain
+started_chain chain = record chain {
+  waiting = waiting_after chain.waiting (begun_era chain.params chain.due);
+  eras = eras_after chain.eras chain.waiting (begun_era chain.params chain.due);
+}
+
+live_started : (chain : Chain) → IsLive chain → IsLive (started_chain chain)
+live_started chain live =
+    live_with refl refl refl live live.books live.roles live.bags live.round live.queue (at (begun_era chain.params chain.due)) where
       at : (begun : Option ℕ) → IsNotedCommittee (waiting_after chain.waiting begun)
       at None = live.waiting
       at (Some era) = tt
 
+pub within_applied : (begun : Option ℕ) (chain : Chain)
+    → (applied_in begun chain).state ≡ record chain {
+      book = (applied_in begun chain).state.book;
+      roles = (applied_in begun chain).state.roles;
+      bags = (applied_in begun chain).state.bags;
+      eras = record chain.eras { queue = (applied_in begun chain).state.eras.queue };
+    }
+within_applied None chain = refl
+within_applied (Some era) chain = applied_within (length chain.eras.queue) chain
+
+-- the chain behind the phase
+pub era_state : (chain : Chain) → (era_phase chain).state ≡ (applied_now chain).state
+era_state chain = sym (within_applied (begun_era chain.params chain.due) (started_chain chain))
+
+pub live_era : (chain : Chain) → IsLive chain → IsLive (era_phase chain).state
+live_era chain live =
+    subst IsLive (sym (era_state chain)) (live_applied (begun_era chain.params chain.due) (started_chain chain) (live_started chain live))
+
 fair_era : (number : ℕ) (chain : Chain) → IsFair number chain (era_phase chain).lines (era_phase chain).state
 fair_era number chain =
-    fair_quiet number chain (era_phase chain).state (era_phase chain).lines (at (begun_era chain.params chain.due)) refl refl where
-      at : (begun : Option ℕ) → fate number (option_to_list (option_map lines.Era begun)) ≡ 0
-      at None = refl
-      at (Some era) = refl
+    fair_quiet number chain (era_phase chain).state (era_phase chain).lines
+    (omega (
+      arith,
+      sum_by-append (settling number) (option_to_list (option_map lines.Era (begun_era chain.params chain.due))) (applied_now chain).lines,
+      begins (begun_era chain.params chain.due),
+      settles_none (begun_era chain.params chain.due) (started_chain chain),
+    )) refl refl where
+      begins : (begun : Option ℕ) → fate number (option_to_list (option_map lines.Era begun)) ≡ 0
+      begins None = refl
+      begins (Some era) = refl
+
+      settles_none : (begun : Option ℕ) (c : Chain) → fate number (applied_in begun c).lines ≡ 0
+      settles_none None c = refl
+      settles_none (Some era) c = applied_settle number (length c.eras.queue) c
 
 -- ## A round may begin
 
 pub live_round : (chain : Chain) → IsLive chain → IsLive (round_phase chain).state
 live_round chain live =
-    live_with refl refl live live.books live.roles live.bags (at (begun_round chain.params chain.due)) live.queue live.waiting where
+    live_with refl refl refl live live.books live.roles live.bags (at (begun_round chain.params chain.due)) live.queue live.waiting where
       at : (begun : Option ℕ) → IsSoundRound (round_after chain begun)
       at None = live.round
       at (Some number) = sound_round chain number live
@@ -78,7 +121,7 @@ decided_live : (number : ℕ) (snapshot : Snapshot) (commissions : List ℕ) (ch
     → AreNoted snapshot.targets commissions
     → IsLive (decided number snapshot commissions chain).state
 decided_live number snapshot commissions chain live noted =
-    live_with refl refl live (books_settled (release_now chain) (reward_of chain.params) snapshot chain.queue.items chain.book live.books)
+    live_with refl refl refl live (books_settled (release_now chain) (reward_of chain.params) snapshot chain.queue.items chain.book live.books)
     live.roles live.bags tt (record { some = live.queue.some; most = live.queue.most; fits = omega arith; by_rank = tt }) noted
 
 decision_of_live : (round : Option Round) (chain : Chain) → IsLive chain → IsSoundRound round → IsLive (decision_of round chain).state
@@ -88,9 +131,9 @@ decision_of_live (Some (rounds.Open number snapshot commissions)) chain live sou
     decided_live number snapshot commissions chain live sound.1
 
 due_of : (round : Option Round) (chain : Chain) → StaysDue chain (decision_of round chain).state
-due_of None chain = record { params = refl; due = refl; next = refl }
-due_of (Some (rounds.Void number)) chain = record { params = refl; due = refl; next = refl }
-due_of (Some (rounds.Open number snapshot commissions)) chain = record { params = refl; due = refl; next = refl }
+due_of None chain = record { params = refl; defer = refl; due = refl; next = refl }
+due_of (Some (rounds.Void number)) chain = record { params = refl; defer = refl; due = refl; next = refl }
+due_of (Some (rounds.Open number snapshot commissions)) chain = record { params = refl; defer = refl; due = refl; next = refl }
 
 fair_of : (number : ℕ) (round : Option Round) (chain : Chain)
     → IsFair number chain (decision_of round chain).lines (decision_of round chain).state
@@ -122,14 +165,14 @@ phases_keep = (era_keeps, (round_keeps, (decision_keeps, tt))) where
   era_keeps : IsPhase era_phase
   era_keeps = record {
     live = live_era;
-    due = λ chain. record { params = refl; due = refl; next = refl };
+    due = λ chain. record { params = refl; defer = refl; due = refl; next = refl };
     fair = fair_era;
   }
 
   round_keeps : IsPhase round_phase
   round_keeps = record {
     live = live_round;
-    due = λ chain. record { params = refl; due = refl; next = refl };
+    due = λ chain. record { params = refl; defer = refl; due = refl; next = refl };
     fair = fair_round;
   }
 
@@ -140,7 +183,7 @@ phases_keep = (era_keeps, (round_keeps, (decision_keeps, tt))) where
         (λ c l. l) chain live;
     due =
         either (λ chain outcome. StaysDue chain outcome.state) (λ chain. due_of chain.round chain)
-        (λ chain. record { params = refl; due = refl; next = refl });
+        (λ chain. record { params = refl; defer = refl; due = refl; next = refl });
     fair =
         λ number. either (λ chain outcome. IsFair number chain outcome.lines outcome.state) (λ chain. fair_of number chain.round chain)
         (λ chain. omega arith);
@@ -153,11 +196,16 @@ live_in_turn (part ∷ more) keep chain live = live_in_turn more keep.1 (part ch
 
 pub due_in_turn : (parts : List (Chain → Outcome)) → AllByRecursion IsPhase parts → (chain : Chain)
     → StaysDue chain (in_turn parts chain).state
-due_in_turn [] keep chain = record { params = refl; due = refl; next = refl }
+due_in_turn [] keep chain = record { params = refl; defer = refl; due = refl; next = refl }
 due_in_turn (part ∷ more) keep chain =
     let first = keep.0.due chain in
     let rest = due_in_turn more keep.1 (part chain).state in
-    record { params = rest.params ∙ first.params; due = rest.due ∙ first.due; next = rest.next ∙ first.next }
+    record {
+      params = rest.params ∙ first.params;
+      defer = rest.defer ∙ first.defer;
+      due = rest.due ∙ first.due;
+      next = rest.next ∙ first.next;
+    }
 
 pub fair_in_turn : (number : ℕ) (parts : List (Chain → Outcome)) → AllByRecursion IsPhase parts → (chain : Chain)
     → IsFair number chain (in_turn parts chain).lines (in_turn parts chain).state

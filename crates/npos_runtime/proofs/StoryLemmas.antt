@@ -10,6 +10,7 @@ use Rattle.election_check.specs.Laws.{PackedYesIsAccepting, PlainYesIsPassing}
 use Rattle.quota_fill.specs.Laws.{EveryFillPasses}
 use Rattle.era_book.specs.declared.exposure.Exposure.{Exposure}
 use Rattle.era_book.specs.Exposures.{exposed_for}
+use Rattle.era_book.specs.declared.deferred.DeferredSlash.{DeferredSlash}
 use Rattle.era_book.specs.Eras.{Eras}
 use Rattle.era_book.specs.Events.{Event, begun}
 use Rattle.era_book.proofs.EventLemmas.{begun_append}
@@ -22,7 +23,7 @@ use Rattle.npos_runtime.specs.Outcome.{Election, quiet}
 use Rattle.npos_runtime.specs.Step.{before_calls, eras_after, step, after_blocks, seated_by}
 use Rattle.chain_params.specs.Faults.{params_fault}
 use Rattle.npos_runtime.specs.Live.{IsLive}
-use Rattle.npos_runtime.specs.EraLaws.{started_by, events_in, events_by, elected_for, stake_behind}
+use Rattle.npos_runtime.specs.EraLaws.{takings, started_by, events_in, events_by, elected_for, stake_behind}
 use Rattle.npos_runtime.proofs.LiveLemmas.{live_step, due_step, era_step, fixed_calls, eras_before, params_step}
 use Rattle.npos_runtime.proofs.LawLemmas.{undecided, seats_step}
 use Rattle.npos_runtime.proofs.HistoryLemmas.{begun_block}
@@ -60,6 +61,11 @@ covered_start begun seated exposures covered here who =
       at_end : (k : ℕ) → k ≡ length begun + 1 → exposed_for who exposures ≤ stake_behind who (elected_for k seated)
       at_end k is = subst (λ n. exposed_for who exposures ≤ stake_behind who (elected_for n seated)) (sym is) (here who)
 
+-- slashes that are taken begin no era
+no_begin : (count : ℕ) → begun (takings count) ≡ []
+no_begin zero = refl
+no_begin (suc more) = no_begin more
+
 -- ## One block after the other
 
 module _ (params : Params) where
@@ -73,19 +79,22 @@ module _ (params : Params) where
   module _ (packed : PackedYesIsAccepting) (plain : PlainYesIsPassing) (fill : EveryFillPasses) (sound : params_fault params ≡ None) where
     -- the eras that began up to the end of the block
     begun_after : (chain : Chain) (block : Block) (events : List Event)
-        → begun (events ++ events_in chain block) ≡ begun events ++ begun (started_by chain.waiting (begun_era chain.params chain.due))
+        → begun (events ++ events_in chain block) ≡ begun events ++ begun (started_by chain.waiting chain.eras.queue (begun_era chain.params chain.due))
     begun_after chain block events = begun_append events (events_in chain block) ∙ ap (λ (es : List (List Exposure)). begun events ++ es) (begun_block chain block)
 
-    started_count : (waiting : Option Committee) (eras : Eras) (era : Option ℕ) (begun_before : List (List Exposure)) → length begun_before ≡ eras.current
-        → length (begun_before ++ begun (started_by waiting era)) ≡ (eras_after eras waiting era).current
-    started_count waiting eras None begun_before is = ap length (append-nil begun_before) ∙ is
-    started_count waiting eras (Some era) begun_before is = omega (arith, length-append begun_before (exposed waiting ∷ []), is)
+    started_count : (waiting : Option Committee) (eras : Eras) (slashes : List DeferredSlash) (era : Option ℕ) (begun_before : List (List Exposure)) → length begun_before ≡ eras.current
+        → length (begun_before ++ begun (started_by waiting slashes era)) ≡ (eras_after eras waiting era).current
+    started_count waiting eras slashes None begun_before is = ap length (append-nil begun_before) ∙ is
+    started_count waiting eras slashes (Some era) begun_before is =
+        omega (arith, length-append begun_before (exposed waiting ∷ begun (takings (length slashes))), ap length (no_begin (length slashes)), is)
 
-    started_covered : (waiting : Option Committee) (era : Option ℕ) (begun_before : List (List Exposure)) (seated : List Election) → IsCovered begun_before seated
+    started_covered : (waiting : Option Committee) (slashes : List DeferredSlash) (era : Option ℕ) (begun_before : List (List Exposure)) (seated : List Election) → IsCovered begun_before seated
         → ((who : AccountId) → exposed_for who (exposed waiting) ≤ stake_behind who (elected_for (length begun_before + 1) seated))
-        → IsCovered (begun_before ++ begun (started_by waiting era)) seated
-    started_covered waiting None begun_before seated covered here = subst (λ (es : List (List Exposure)). IsCovered es seated) (sym (append-nil begun_before)) covered
-    started_covered waiting (Some era) begun_before seated covered here = covered_start begun_before seated (exposed waiting) covered here
+        → IsCovered (begun_before ++ begun (started_by waiting slashes era)) seated
+    started_covered waiting slashes None begun_before seated covered here = subst (λ (es : List (List Exposure)). IsCovered es seated) (sym (append-nil begun_before)) covered
+    started_covered waiting slashes (Some era) begun_before seated covered here =
+        subst (λ (es : List (List Exposure)). IsCovered (begun_before ++ exposed waiting ∷ es) seated) (sym (no_begin (length slashes)))
+        (covered_start begun_before seated (exposed waiting) covered here)
 
     story_step : (chain : Chain) (block : Block) (seated : List Election) (events : List Event) → IsLive chain → IsStory chain seated events
         → IsStory (step chain block).state (seated ++ (step chain block).seated) (events ++ events_in chain block)
@@ -98,10 +107,10 @@ module _ (params : Params) where
           between = seated_step params packed plain fill chain block seated sound live h.current h.between;
           current = era_step chain block live h.current;
           count = ap length (begun_after chain block events)
-              ∙ started_count chain.waiting chain.eras starts (begun events) h.count
+              ∙ started_count chain.waiting chain.eras chain.eras.queue starts (begun events) h.count
               ∙ sym ((fixed_calls 0 block.calls (before_calls chain)).era ∙ ap (λ (eras : Eras). eras.current) (eras_before chain));
           covered = subst (λ (es : List (List Exposure)). IsCovered es (seated ++ (step chain block).seated)) (sym (begun_after chain block events))
-              (covered_later (begun events ++ begun (started_by chain.waiting starts)) seated (step chain block).seated (started_covered chain.waiting starts (begun events) seated h.covered wait));
+              (covered_later (begun events ++ begun (started_by chain.waiting chain.eras.queue starts)) seated (step chain block).seated (started_covered chain.waiting chain.eras.queue starts (begun events) seated h.covered wait));
         }
 
     pub story_blocks : (chain : Chain) (blocks : List Block) (seated : List Election) (events : List Event) → IsLive chain → chain.due + length blocks ≤ 2 ^ 32 → IsStory chain seated events
@@ -128,8 +137,8 @@ plain_seated chain (block ∷ more) none =
     ap (λ (elections : List Election). elections ++ seated_by (step chain block).state more) (none_seated chain block none)
     ∙ plain_seated (step chain block).state more (params_step chain block ∙ none)
 
-none_begun : (chain : Chain) → chain.params ≡ None → started_by chain.waiting (begun_era chain.params chain.due) ≡ []
-none_begun chain none = ap (λ (params : Option Params). started_by chain.waiting (begun_era params chain.due)) none
+none_begun : (chain : Chain) → chain.params ≡ None → started_by chain.waiting chain.eras.queue (begun_era chain.params chain.due) ≡ []
+none_begun chain none = ap (λ (params : Option Params). started_by chain.waiting chain.eras.queue (begun_era params chain.due)) none
 
 pub plain_begun : (chain : Chain) (blocks : List Block) → chain.params ≡ None → begun (events_by chain blocks) ≡ []
 plain_begun chain [] none = refl

@@ -1,5 +1,5 @@
 -- A submission keeps the chain live, and its rule is lawful.
-use Rattle.std.proofs.Common.{◌≡◌, inr, ℕ, ◌≤◌, Bool, true, false, List, ◌∷◌, ◌++◌, Some, None, refl, nat_lt, arith, if◌then◌else◌}
+use Rattle.std.proofs.Common.{◌≡◌, inr, ℕ, ◌≤◌, Bool, true, false, List, ◌∷◌, ◌++◌, Some, None, refl, nat_lt, arith, if◌then◌else◌, ◌<◌}
 use Rattle.std.specs.Result.{is_err}
 use Rattle.std.proofs.lemmas.Bool.{ltb-false}
 use Rattle.npos_base.specs.declared.account.AccountId.{AccountId}
@@ -16,6 +16,7 @@ use Rattle.npos_runtime.specs.Signed.{form_refusal, offer_refusal, submission_of
 use Rattle.npos_runtime.specs.Live.{IsLive}
 use Rattle.npos_runtime.proofs.OfferLemmas.{taken}
 use Rattle.npos_runtime.proofs.BookLemmas.{books_held, books_moved, all_books_returned}
+use Rattle.std.proofs.lemmas.List.Elements.{All-nil}
 use Rattle.npos_runtime.proofs.PartLemmas.{second_none, live_with}
 use Rattle.npos_runtime.proofs.RuleLemmas.{IsLawful, no_events}
 
@@ -41,15 +42,21 @@ submitted_live chain item live none =
     (deposit_held item.who item.deposit chain.book)
     (books_moved (release_now chain) (deposit_held item.who item.deposit chain.book) (item ∷ chain.queue.items)
     (ejected chain.queue item ++ (offered chain.queue item).items) is.moved held) in
-    live_with refl refl live books live.roles live.bags live.round is.ordered live.waiting
+    live_with refl refl refl live books live.roles live.bags live.round is.ordered live.waiting
 
 pub submit_lawful : (chain : Chain) (who : AccountId) (round : ℕ) (claim : Score) (bytes : List ℕ)
     → IsLawful chain who (submit_rule chain who round claim bytes)
 submit_lawful chain who round claim bytes = record {
   live = λ live free. submitted_live chain (submission_of chain who claim bytes) live
       (second_none (form_refusal chain round bytes) (offer_refusal chain (submission_of chain who claim bytes)) free);
-  fixed = record { params = refl; round = refl; waiting = refl; due = refl; era = refl };
+  fixed = record { params = refl; defer = refl; round = refl; waiting = refl; due = refl; era = refl };
   next = omega arith;
   queue = inr (record { round = round; claim = claim; bytes = bytes; is = refl });
   eras = no_events refl;
+  line = record { later = λ later. later; next = omega arith };
+  dues = record {
+    waits = λ era who index numbers below given. omega arith;
+    numbered = λ era index. All-nil (λ n. n < chain.eras.next_slash);
+    more = omega arith;
+  };
 }

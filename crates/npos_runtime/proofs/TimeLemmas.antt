@@ -32,8 +32,8 @@ use Rattle.npos_runtime.specs.Live.{IsInTime, IsBetweenBlocks}
 use Rattle.npos_runtime.specs.Laws.{NoneCrowdedOutLaw}
 use Rattle.npos_runtime.proofs.RuleLemmas.{LeavesQueue, Submits}
 use Rattle.npos_runtime.proofs.CallTable.{lawful_call}
-use Rattle.npos_runtime.proofs.LiveLemmas.{fixed_call, fixed_calls, live_step, era_step, due_step, live_blocks, params_step, params_blocks}
-use Rattle.npos_runtime.proofs.WaitingLemmas.{elected_step}
+use Rattle.npos_runtime.proofs.LiveLemmas.{fixed_call, fixed_calls, live_step, can_step, era_step, due_step, live_blocks, params_step, params_blocks}
+use Rattle.npos_runtime.proofs.WaitingLemmas.{elected_step, sound_waiting}
 use Rattle.npos_runtime.proofs.CrowdingLemmas.{Holds, IsTimed, IsBetween, stepped, behind, round_holds, answered}
 
 -- ## Where no round is open, no submission is taken
@@ -229,6 +229,7 @@ between_step chain block rests more = record {
   places = places_step chain block rests;
   timely = timely_step chain block rests;
   elected = elected_step chain block rests.live rests.elected;
+  slashes = can_step chain block rests.live rests.era (sound_waiting chain.waiting rests.elected rests.live.waiting) rests.slashes;
 }
 
 pub between_blocks : (chain : Chain) (blocks : List Block) → IsBetweenBlocks chain → chain.due + length blocks ≤ 2 ^ 32

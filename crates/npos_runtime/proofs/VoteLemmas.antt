@@ -4,6 +4,7 @@ use Rattle.std.proofs.lemmas.Bool.Decides.{nat_tests}
 use Rattle.std.proofs.lemmas.List.Quantifiers.{position-Some}
 use Rattle.std.specs.List.{list_any, cons_option}
 use Rattle.npos_base.specs.declared.account.AccountId.{AccountId}
+use Rattle.npos_base.specs.declared.limits.TheConstants.{MOST_NOMINATIONS}
 use Rattle.npos_base.specs.Account.{same_account}
 use Rattle.npos_base.proofs.AccountOrder.{same_exact, same_itself}
 use Rattle.voter_lists.specs.declared.standing.Role.{Role}
@@ -88,7 +89,7 @@ votes_once targets (choice ∷ choices) once =
           = no_vote targets choices choice place e (left_false (list_any (λ other. same_account other choice) choices) (has_repeat choices) once) in
           rw new rest
 
-few_choices : (r : Role) (who : AccountId) (named : List AccountId) → IsNomination named → length (choices_in r who named) ≤ 16
+few_choices : (r : Role) (who : AccountId) (named : List AccountId) → IsNomination named → length (choices_in r who named) ≤ MOST_NOMINATIONS
 few_choices (role.Validator commission) who named is = omega arith
 few_choices role.Nominator who named is = is.few
 few_choices role.Nobody who named is = omega arith
@@ -98,11 +99,11 @@ distinct_choices (role.Validator commission) who named is = refl
 distinct_choices role.Nominator who named is = is.distinct
 distinct_choices role.Nobody who named is = refl
 
-within : (a b : ℕ) → a ≤ b → b ≤ 16 → a ≤ 16
+within : (a b : ℕ) → a ≤ b → b ≤ MOST_NOMINATIONS → a ≤ MOST_NOMINATIONS
 within a b p q = omega (arith, p, q)
 
--- at most 16 votes of an account
-pub few_votes : (roles : RoleList) (who : AccountId) → IsNomination (nominated_by roles who) → length (votes_of roles who) ≤ 16
+-- no more votes of an account than a voter can have
+pub few_votes : (roles : RoleList) (who : AccountId) → IsNomination (nominated_by roles who) → length (votes_of roles who) ≤ MOST_NOMINATIONS
 few_votes roles who is =
     within _ _ (votes_few (validators_of roles) (choices_of roles who)) (few_choices (role_of roles who) who (nominated_by roles who) is)
 

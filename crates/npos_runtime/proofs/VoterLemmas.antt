@@ -5,6 +5,7 @@ use Rattle.std.specs.Map.{values_of}
 use Rattle.std.proofs.lemmas.Bool.Decides.{nat_tests}
 use Rattle.std.proofs.lemmas.List.Sums.{sum_by-append, sum_by-cons}
 use Rattle.npos_base.specs.declared.account.AccountId.{AccountId}
+use Rattle.npos_base.specs.declared.limits.TheConstants.{MOST_NOMINATIONS}
 use Rattle.npos_base.specs.Account.{same_account}
 use Rattle.npos_base.proofs.AccountOrder.{same_exact, same_itself}
 use Rattle.stake_ledger.specs.declared.row.Row.{Row}
@@ -87,7 +88,7 @@ no_fault chain draft who more live room polled stake votes =
       not_yet (accounts_of draft.voters) more who polled.once,
       not_none (active_of chain who) stake,
       not_none (length (votes_of chain.roles who)) votes,
-      not_below 16 (length (votes_of chain.roles who)) (few_votes chain.roles who (live.roles.nominations who)),
+      not_below MOST_NOMINATIONS (length (votes_of chain.roles who)) (few_votes chain.roles who (live.roles.nominations who)),
       ap (λ (targets : List AccountId). list_any (λ target. nat_le (length targets) target) (votes_of chain.roles who)) polled.targets ∙ votes_known (validators_of chain.roles) (Rattle.npos_runtime.specs.Ballots.choices_of chain.roles who),
       distinct_votes chain.roles who (live.roles.nominations who),
       not_above (2 ^ 64) (total_of draft.voters + active_of chain who)

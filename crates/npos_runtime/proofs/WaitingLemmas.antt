@@ -16,8 +16,11 @@ use Rattle.npos_runtime.specs.declared.round.Round.TheVariants as rounds
 use Rattle.npos_runtime.specs.Deciding.{decision_of, decision_phase}
 use Rattle.npos_runtime.specs.Outcome.{quiet}
 use Rattle.npos_runtime.specs.Step.{before_calls, waiting_after, era_phase, step}
-use Rattle.npos_runtime.specs.Live.{IsLive, IsSoundRound, WasElected}
-use Rattle.npos_runtime.proofs.ElectedLemmas.{follows_rising}
+use Rattle.era_book.specs.Exposures.{AreSound}
+use Rattle.npos_runtime.specs.Committee.{Committee}
+use Rattle.npos_runtime.specs.Exposed.{exposed}
+use Rattle.npos_runtime.specs.Live.{IsLive, IsSoundRound, IsNotedCommittee, WasElected}
+use Rattle.npos_runtime.proofs.ElectedLemmas.{follows_rising, exposures_sound, nobody_sound}
 use Rattle.npos_runtime.proofs.LawLemmas.{undecided}
 use Rattle.npos_runtime.proofs.LiveLemmas.{fixed_calls}
 use Rattle.npos_runtime.proofs.PhaseTable.{live_era, live_round}
@@ -55,3 +58,8 @@ elected_step chain block live was =
       begun : (era : Option ℕ) → WasElected (waiting_after chain.waiting era)
       begun None = was
       begun (Some era) = tt
+
+-- who waits exposes nobody twice
+pub sound_waiting : (waiting : Option Committee) → WasElected waiting → IsNotedCommittee waiting → AreSound (exposed waiting)
+sound_waiting None elected noted = nobody_sound
+sound_waiting (Some committee) elected noted = exposures_sound committee elected noted

@@ -11,7 +11,7 @@ use Rattle.npos_runtime.specs.CallRule.{CallRule}
 use Rattle.npos_runtime.specs.BookCalls.{transfer_rule, bond_rule, bond_extra_rule, unbond_rule, rebond_rule, withdraw_rule}
 use Rattle.npos_runtime.specs.ListCalls.{nominate_rule, validate_rule, chill_rule, rebag_rule, put_in_front_rule}
 use Rattle.npos_runtime.specs.Signed.{submit_rule}
-use Rattle.npos_runtime.specs.Offices.{points_rule, payout_rule, offence_rule}
+use Rattle.npos_runtime.specs.Offices.{points_rule, payout_rule, offence_rule, cancel_rule}
 
 unfoldable pub rule_of : Chain → AccountId → CallKind → CallRule
 rule_of chain who (kinds.Transfer to value) = transfer_rule chain who to value
@@ -29,6 +29,7 @@ rule_of chain who (kinds.Submit round claim bytes) = submit_rule chain who round
 rule_of chain who (kinds.Points items) = points_rule chain who items
 rule_of chain who (kinds.Payout era validator) = payout_rule chain era validator
 rule_of chain who (kinds.Offence era validator fraction) = offence_rule chain who era validator fraction
+rule_of chain who (kinds.CancelSlash number) = cancel_rule chain who number
 
 abbrev pub rule_for : Chain → Call → CallRule
 rule_for chain call = rule_of chain call.who call.kind

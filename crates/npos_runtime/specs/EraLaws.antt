@@ -1,6 +1,6 @@
 -- What eras come to over blocks: what is paid of an era's reward, and what is due and taken from
 -- those who stood behind its validators.
-use Rattle.std.specs.Prelude.{◌≡◌, ◌≢◌, ℕ, ◌+◌, ◌≤◌, min, ◌==◌, if◌then◌else◌, List, [], ◌∷◌, ◌++◌, sum_by, filter, find, Option, Some, None}
+use Rattle.std.specs.Prelude.{◌≡◌, ◌≢◌, ℕ, zero, suc, ◌+◌, ◌≤◌, min, ◌==◌, if◌then◌else◌, List, [], ◌∷◌, ◌++◌, length, sum_by, filter, find, Option, Some, None}
 use Rattle.std.specs.List.{IsDistinct}
 use Rattle.npos_base.specs.declared.account.AccountId.{AccountId}
 use Rattle.npos_base.specs.Account.{same_account}
@@ -13,8 +13,9 @@ use Rattle.stake_ledger.specs.Chunks.{chunk_sum}
 use Rattle.stake_ledger.specs.Ledger.{Ledger, row_at}
 use Rattle.election_snapshot.specs.Snapshot.{Snapshot}
 use Rattle.era_book.specs.declared.exposure.Backer.{Backer}
+use Rattle.era_book.specs.declared.deferred.DeferredSlash.{DeferredSlash}
 use Rattle.era_book.specs.Calls.{slash_in}
-use Rattle.era_book.specs.Events.{Event, Started, Paid, Reported, AreAccepted, after_all, given_by, makes_due}
+use Rattle.era_book.specs.Events.{Event, Started, Paid, Reported, Taken, AreAccepted, after_all, given_by, makes_due}
 use Rattle.npos_runtime.specs.declared.chain.Chain.{Chain}
 use Rattle.block_receipts.specs.declared.line.Line.{Line}
 use Rattle.block_receipts.specs.declared.line.Line.TheVariants as lines
@@ -32,10 +33,16 @@ use Rattle.npos_runtime.specs.History.{CanTake, IsHistory}
 
 -- ## What happens to the eras
 
--- an era begins with the exposures of who waited
-abbrev pub started_by : Option Committee → Option ℕ → List Event
-started_by waiting None = []
-started_by waiting (Some era) = Started (exposed waiting) ∷ []
+-- the slash that is due next is taken, so often
+abbrev pub takings : ℕ → List Event
+takings zero = []
+takings (suc more) = Taken ∷ takings more
+
+-- an era begins with the exposures of who waited, and as often as slashes wait the one that is due
+-- next is taken, if one is
+abbrev pub started_by : Option Committee → List DeferredSlash → Option ℕ → List Event
+started_by waiting slashes None = []
+started_by waiting slashes (Some era) = Started (exposed waiting) ∷ takings (length slashes)
 
 -- a refused call is no event
 abbrev pub event_of : Option Refusal → CallRule → List Event
@@ -52,7 +59,7 @@ events_of index (call ∷ calls) chain =
 
 abbrev pub events_in : Chain → Block → List Event
 events_in chain block =
-    started_by chain.waiting (begun_era chain.params chain.due)
+    started_by chain.waiting chain.eras.queue (begun_era chain.params chain.due)
     ++ events_of 0 block.calls (before_calls chain)
 
 abbrev pub events_by : Chain → List Block → List Event
@@ -150,11 +157,11 @@ AreTaken (due ∷ more) old told new =
     (taken : ℕ) × (between : Ledger) × (rest : List Line) × IsTaken due taken old between
     × (told ≡ slash_told due.who taken ++ rest) × AreTaken more between rest new
 
--- each report that is accepted takes what is due, one account after the other, but no more than the
--- account has bonded
+-- where slashes do not wait, each report that is accepted takes what is due, one account after the
+-- other, but no more than the account has bonded
 abbrev pub TakesWhatIsDue : Chain → Type 0
 TakesWhatIsDue chain = (who : AccountId) (era : ℕ) (validator : AccountId) (fraction : ℕ)
-    → refusal_of chain who (kinds.Offence era validator fraction) ≡ None
+    → chain.defer ≡ 0 → refusal_of chain who (kinds.Offence era validator fraction) ≡ None
     → AreTaken (slash_in chain.eras era validator fraction) chain.book
     (told_of chain who (kinds.Offence era validator fraction))
     (done_of chain who (kinds.Offence era validator fraction)).book

@@ -7,24 +7,31 @@ use Rattle.npos_base.specs.Account.{same_account}
 use Rattle.block_wire.specs.declared.genesis.Endowment.{Endowment}
 use Rattle.block_wire.specs.declared.genesis.Params.{Params}
 use Rattle.block_wire.specs.declared.genesis.Genesis.{Genesis}
-use Rattle.block_wire.specs.declared.genesis.Genesis.TheVariants.{Plain, Full}
+use Rattle.block_wire.specs.declared.genesis.Genesis.TheVariants.{Plain, Full, Deferred}
 use Rattle.stake_ledger.specs.Ledger.{Ledger, row_of, empty_ledger, issuance_cap}
 use Rattle.stake_ledger.specs.Calls.{endowed}
 use Rattle.npos_runtime.specs.declared.chain.Chain.{Chain}
 use Rattle.submission_queue.specs.Ranking.{empty_queue}
 use Rattle.era_book.specs.Eras.{first_era}
 use Rattle.chain_params.specs.Rules.{thresholds_in, places_of}
-use Rattle.chain_params.specs.Faults.{params_fault}
+use Rattle.chain_params.specs.Faults.{terms_fault}
 use Rattle.chain_params.specs.declared.fault.GenesisFault.{GenesisFault}
 use Rattle.chain_params.specs.declared.fault.GenesisFault.TheVariants.{RepeatedAccount, TooMuch, NoMemory}
 
 abbrev pub endowments_of : Genesis → List Endowment
 endowments_of (Plain endowments) = endowments
 endowments_of (Full endowments params) = endowments
+endowments_of (Deferred endowments params defer_eras) = endowments
 
 abbrev pub params_of : Genesis → Option Params
 params_of (Plain endowments) = None
 params_of (Full endowments params) = Some params
+params_of (Deferred endowments params defer_eras) = Some params
+
+-- the number of eras that a slash waits; where no genesis says one, none waits
+abbrev pub defer_of : Genesis → ℕ
+defer_of (Deferred endowments params defer_eras) = defer_eras
+defer_of other = 0
 
 -- the thresholds between the bags
 abbrev pub thresholds_of : Genesis → List ℕ
@@ -52,10 +59,12 @@ endowment_fault before (endowment ∷ more) =
     else if nat_lt issuance_cap (endowment_sum (before ++ endowment ∷ [])) then Some (TooMuch (length before))
     else endowment_fault (before ++ endowment ∷ []) more
 
--- the first fault of a genesis: of its endowments, and then of its params
+-- the first fault of a genesis: of its endowments, then of its params, and then of the number of eras
+-- that a slash waits
 abbrev pub genesis_fault : Genesis → Option GenesisFault
-genesis_fault (Plain endowments) = endowment_fault [] endowments
-genesis_fault (Full endowments params) = option_or (endowment_fault [] endowments) (params_fault params)
+genesis_fault genesis =
+    option_or (endowment_fault [] (endowments_of genesis))
+    (terms_fault (params_of genesis) (defer_of genesis))
 
 abbrev pub endowed_all : List Endowment → Ledger → Ledger
 endowed_all [] ledger = ledger
@@ -64,6 +73,7 @@ endowed_all (endowment ∷ more) ledger = endowed_all more (endowed endowment.wh
 abbrev pub genesis_chain : Genesis → Chain
 genesis_chain genesis = record {
   params = params_of genesis;
+  defer = defer_of genesis;
   book = endowed_all (endowments_of genesis) empty_ledger;
   roles = [];
   bags = record { thresholds = thresholds_of genesis; order = [] };

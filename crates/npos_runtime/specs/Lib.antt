@@ -23,3 +23,4 @@ pub mod Seatings
 pub mod Offers
 pub mod Laws
 pub mod EraLaws
+pub mod DeferredLaws

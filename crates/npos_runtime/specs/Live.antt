@@ -6,7 +6,7 @@ use Rattle.stake_ledger.specs.Ledger.{Ledger, row_at, IsBalanced}
 use Rattle.npos_runtime.specs.declared.chain.Chain.{Chain}
 use Rattle.block_wire.specs.declared.genesis.Params.{Params}
 use Rattle.chain_params.specs.Rules.{era_of, place_of, places_of}
-use Rattle.chain_params.specs.Faults.{AreSound}
+use Rattle.chain_params.specs.Faults.{AreSound, CanWait}
 use Rattle.npos_runtime.specs.Ballots.{commission_in}
 use Rattle.npos_runtime.specs.Committee.{Committee}
 use Rattle.npos_runtime.specs.BookCalls.{release_now}
@@ -18,6 +18,7 @@ use Rattle.election_snapshot.specs.Snapshot.{IsWellFormed, stake_of}
 use Rattle.weight_book.specs.Weights.{Follows, spent}
 use Rattle.submission_queue.specs.declared.submission.Submission.{Submission}
 use Rattle.submission_queue.specs.Ranking.{IsOrdered}
+use Rattle.era_book.specs.Course.{AreInOrder}
 use Rattle.npos_runtime.specs.declared.round.Round.{Round}
 use Rattle.npos_runtime.specs.declared.round.Round.TheVariants.{Open}
 use Rattle.round_decision.specs.Deposits.{AreHeld}
@@ -82,6 +83,7 @@ pub record CanBeDue (number : ℕ) : Type 0 where
 -- together.
 pub record IsLive (chain : Chain) : Type 0 where
   pub params : AreSound chain.params
+  pub defer : CanWait chain.params chain.defer
   pub due : CanBeDue chain.due
   -- nothing is released later than what would be unbonded now
   pub books : AreBooks (release_now chain) chain.queue.items chain.book
@@ -119,6 +121,13 @@ abbrev pub WasElected : Option Committee → Type 0
 WasElected None = Unit {0}
 WasElected (Some committee) = IsElected committee
 
+-- The eras are in order, and a slash that is reported now is due no earlier than those that wait, in an
+-- era whose number is a u32.
+pub record CanDefer (chain : Chain) : Type 0 where
+  pub order : AreInOrder chain.eras
+  pub later : All (λ slash. slash.due ≤ chain.eras.current + chain.defer) chain.eras.queue
+  pub fits : chain.eras.current + chain.defer < 2 ^ 32
+
 -- a chain between two blocks
 pub record IsBetweenBlocks (chain : Chain) : Type 0 where
   pub live : IsLive chain
@@ -128,13 +137,16 @@ pub record IsBetweenBlocks (chain : Chain) : Type 0 where
   -- a round is open in its own blocks alone
   pub timely : IsInTime chain.round chain.params chain.due chain.queue.items
   pub elected : WasElected chain.waiting
+  pub slashes : CanDefer chain
 
--- A block has fewer than 2^32 calls, and block numbers are u32, so the numbers of submissions fit
--- u64.
+-- A block has fewer than 2^32 calls, and block numbers are u32, so the numbers of submissions and of
+-- slashes fit u64.
 abbrev pub most_calls : ℕ
 most_calls = 2 ^ 32 - 1
 
--- a chain that can take its next block: no block before took more submissions than it may have calls
+-- a chain that can take its next block: no block before took more submissions, or queued more slashes,
+-- than it may have calls
 pub record IsReady (chain : Chain) : Type 0 where
   pub between : IsBetweenBlocks chain
   pub numbered : chain.next ≤ 1 + most_calls * (chain.due - 1)
+  pub slash_numbered : chain.eras.next_slash ≤ 1 + most_calls * (chain.due - 1)

@@ -1,5 +1,6 @@
--- Points, payouts and offences: when each is refused, what it makes of the chain, and what it tells.
-use Rattle.std.specs.Prelude.{ℕ, Bool, not, List, [], ◌∷◌, map, Some, None, option_map, ◌==◌, if◌then◌else◌}
+-- Points, payouts, offences and slashes that wait: when each call is refused, what it makes of the chain,
+-- and what it tells.
+use Rattle.std.specs.Prelude.{ℕ, zero, suc, ◌+◌, Bool, not, List, [], ◌∷◌, map, Option, Some, None, option_map, ◌==◌, if◌then◌else◌}
 use Rattle.std.specs.Option.{option_or}
 use Rattle.npos_base.specs.declared.account.AccountId.{AccountId}
 use Rattle.npos_base.specs.Account.{same_account}
@@ -8,7 +9,9 @@ use Rattle.stake_ledger.specs.Calls.{mint_refusal, minted_free, slashed, slash_a
 use Rattle.era_book.specs.declared.exposure.Backer.{Backer}
 use Rattle.era_book.specs.declared.payout.Payout.{Payout}
 use Rattle.era_book.specs.Calls.{points_refusal, pointed, payout_refusal, payout_in, paid, slash_refusal, slash_in, reported}
-use Rattle.era_book.specs.Events.{Pointed, Paid, Reported}
+use Rattle.era_book.specs.declared.deferred.DeferredSlash.{DeferredSlash}
+use Rattle.era_book.specs.Deferred.{queue_refusal, queueing, cancel_refusal, cancelling, next_due, without_next_due}
+use Rattle.era_book.specs.Events.{Pointed, Paid, Reported, Queued, Cancelled}
 use Rattle.npos_runtime.specs.declared.chain.Chain.{Chain}
 use Rattle.block_receipts.specs.declared.line.Line.{Line}
 use Rattle.block_receipts.specs.declared.line.Line.TheVariants as lines
@@ -87,13 +90,12 @@ slashes (due ∷ more) chain = after (slash_outcome due chain) (slashes more)
 abbrev pub slashes_now : Chain → ℕ → AccountId → ℕ → Outcome
 slashes_now chain era validator fraction = slashes (slash_in chain.eras era validator fraction) chain
 
--- Books, roles and bags change by the slashes, and the fraction is kept.
-abbrev pub offence_rule : Chain → AccountId → ℕ → AccountId → ℕ → CallRule
-offence_rule chain who era validator fraction =
+-- Slashes do not wait: books, roles and bags change by them, and the fraction is kept.
+abbrev pub slashing_rule : Chain → ℕ → AccountId → ℕ → CallRule
+slashing_rule chain era validator fraction =
     let left : Outcome = slashes_now chain era validator fraction in
     record {
-      refusal = if not (is_root chain who) then Some NotRoot
-          else option_map ByEra (slash_refusal chain.eras era validator fraction);
+      refusal = option_map ByEra (slash_refusal chain.eras era validator fraction);
       done = record chain {
         book = left.state.book;
         roles = left.state.roles;
@@ -104,3 +106,64 @@ offence_rule chain who era validator fraction =
       events = Reported era validator fraction ∷ [];
       offer = None;
     }
+
+-- ## Slashes that wait
+
+-- the era in which a slash is due that is reported now
+abbrev pub due_now : Chain → ℕ
+due_now chain = chain.eras.current + chain.defer
+
+-- Slashes wait: what is due is queued under the next number, and the fraction is kept. That too many
+-- wait is tried last.
+abbrev pub deferring_rule : Chain → ℕ → AccountId → ℕ → CallRule
+deferring_rule chain era validator fraction =
+    let dues : List Backer = slash_in chain.eras era validator fraction in
+    record {
+      refusal = option_map ByEra
+          (option_or (slash_refusal chain.eras era validator fraction) (queue_refusal chain.eras));
+      done = record chain {
+        eras = reported era validator fraction (queueing (due_now chain) dues chain.eras);
+      };
+      told = lines.Deferred chain.eras.next_slash (due_now chain) ∷ [];
+      events = Queued (due_now chain) dues ∷ Reported era validator fraction ∷ [];
+      offer = None;
+    }
+
+-- for the root alone
+abbrev pub by_root : Chain → AccountId → CallRule → CallRule
+by_root chain who rule =
+    record rule { refusal = if not (is_root chain who) then Some NotRoot else rule.refusal }
+
+-- a report slashes at once where slashes do not wait
+abbrev pub report_rule : Chain → ℕ → AccountId → ℕ → CallRule
+report_rule chain era validator fraction =
+    if chain.defer == 0 then slashing_rule chain era validator fraction
+    else deferring_rule chain era validator fraction
+
+abbrev pub offence_rule : Chain → AccountId → ℕ → AccountId → ℕ → CallRule
+offence_rule chain who era validator fraction =
+    by_root chain who (report_rule chain era validator fraction)
+
+-- the slash waits no more; the fraction that was reported is kept
+abbrev pub cancel_rule : Chain → AccountId → ℕ → CallRule
+cancel_rule chain who number = by_root chain who record {
+  refusal = option_map ByEra (cancel_refusal number chain.eras);
+  done = record chain { eras = cancelling number chain.eras };
+  told = [];
+  events = Cancelled number ∷ [];
+  offer = None;
+}
+
+-- The slash that is due next, if one is, leaves the queue and is told, and what is due by it is
+-- slashed, from what the accounts have then.
+abbrev pub apply_slash : Option DeferredSlash → Chain → Outcome
+apply_slash None chain = quiet chain
+apply_slash (Some slash) chain =
+    after (telling (lines.Applied slash.number ∷ [])
+    (record chain { eras = without_next_due chain.eras }))
+    (slashes slash.lines)
+
+-- one after the other, and at most so many
+abbrev pub applied : ℕ → Chain → Outcome
+applied zero chain = quiet chain
+applied (suc more) chain = after (apply_slash (next_due chain.eras) chain) (applied more)

@@ -1,6 +1,6 @@
 -- The step of a block: the line of the block, the era that may begin, the round that may, the
 -- decision that may be due, and then the calls in order.
-use Rattle.std.specs.Prelude.{ℕ, ◌+◌, List, [], ◌∷◌, ◌++◌, Option, Some, None, option_map, option_to_list}
+use Rattle.std.specs.Prelude.{ℕ, ◌+◌, List, [], ◌∷◌, ◌++◌, length, Option, Some, None, option_map, option_to_list}
 use Rattle.block_wire.specs.declared.call.Call.{Call}
 use Rattle.block_wire.specs.declared.block.Block.{Block}
 use Rattle.era_book.specs.Eras.{Eras, started}
@@ -17,6 +17,7 @@ use Rattle.npos_runtime.specs.Rounds.{round_phase}
 use Rattle.npos_runtime.specs.Deciding.{decision_phase}
 use Rattle.npos_runtime.specs.CallRule.{CallRule}
 use Rattle.npos_runtime.specs.Calls.{rule_for}
+use Rattle.npos_runtime.specs.Offices.{applied}
 
 abbrev pub opened : ℕ → Chain → Outcome
 opened number chain = telling (lines.Block number ∷ []) chain
@@ -31,12 +32,31 @@ abbrev pub waiting_after : Option Committee → Option ℕ → Option Committee
 waiting_after waiting None = waiting
 waiting_after waiting (Some era) = None
 
-abbrev pub era_phase : Chain → Outcome
-era_phase chain =
-    telling (option_to_list (option_map lines.Era (begun_era chain.params chain.due)))
-    (record chain {
+-- once the era has begun, each slash that is due leaves the queue and is applied, by rising number
+abbrev pub applied_in : Option ℕ → Chain → Outcome
+applied_in None chain = quiet chain
+applied_in (Some era) chain = applied (length chain.eras.queue) chain
+
+abbrev pub applied_now : Chain → Outcome
+applied_now chain =
+    applied_in (begun_era chain.params chain.due) (record chain {
       waiting = waiting_after chain.waiting (begun_era chain.params chain.due);
       eras = eras_after chain.eras chain.waiting (begun_era chain.params chain.due);
+    })
+
+-- Books, roles and bags change by the slashes that are applied, which wait no more.
+abbrev pub era_phase : Chain → Outcome
+era_phase chain =
+    let left : Outcome = applied_now chain in
+    telling (option_to_list (option_map lines.Era (begun_era chain.params chain.due)) ++ left.lines)
+    (record chain {
+      book = left.state.book;
+      roles = left.state.roles;
+      bags = left.state.bags;
+      waiting = waiting_after chain.waiting (begun_era chain.params chain.due);
+      eras = record (eras_after chain.eras chain.waiting (begun_era chain.params chain.due)) {
+        queue = left.state.eras.queue;
+      };
     })
 
 -- one call by its rule, at its place in the block

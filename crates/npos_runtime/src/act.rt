@@ -1,7 +1,7 @@
 //! The kinds of call, one function each.
 ghost use Rattle.std.specs.Prelude.{◌≡◌, ◌+◌, ◌<◌, ◌^◌, ◌++◌, Err, None, Some, OnOk, IfOk, IfErr};
 ghost use Rattle.npos_runtime.specs.Outcome.{Untold};
-ghost use Rattle.npos_runtime.specs.Live.{IsLive, IsJoined};
+ghost use Rattle.npos_runtime.specs.Live.{IsLive, IsJoined, CanDefer};
 ghost use Rattle.npos_runtime.specs.Ballots.{active_of};
 ghost use Rattle.npos_runtime.specs.CallRule.{Follows};
 ghost use Rattle.npos_runtime.specs.BookCalls.{release_now, least_active, transfer_rule, bond_rule, bond_extra_rule, unbond_rule, rebond_rule, withdraw_rule};
@@ -12,7 +12,7 @@ ghost use Rattle.npos_runtime.specs.Lists.{followed, listed_anew, retired, unlis
 
 use crate::Chain;
 use crate::lists::{has_role, is_role, retire};
-use crate::offices::{offence, payout, points};
+use crate::offices::{cancel_slash, offence, payout, points};
 use crate::signed::submit;
 use block_receipts::{Line, Stop};
 use block_wire::CallKind;
@@ -209,6 +209,8 @@ pub fn act(
 ) -> Result<(), Stop>
     requires live { IsLive chain.old }
     requires numbers { chain.old.next + 1 < 2 ^ 64 }
+    requires slashes { CanDefer chain.old }
+    requires slash_numbers { chain.old.eras.next_slash + 1 < 2 ^ 64 }
     ensures meets { Follows (rule_of chain.old who kind) chain.old chain.new result }
     ensures told { OnOk result (more.new.items ≡ more.old.items ++ told_of chain.old who kind) }
     ensures untold { Untold more.old.items more.new.items result }
@@ -237,5 +239,6 @@ pub fn act(
             validator,
             fraction,
         } => offence(alloc, chain, more, who, era, validator, fraction),
+        CallKind::CancelSlash { number } => cancel_slash(chain, who, number),
     }
 }

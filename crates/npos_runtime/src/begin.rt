@@ -9,7 +9,7 @@ ghost use Rattle.chain_params.specs.Rules.{thresholds_in};
 
 use crate::Chain;
 use block_wire::{Endowment, Genesis, Params};
-use chain_params::{GenesisFault, check_params, copy_thresholds, places_of};
+use chain_params::{GenesisFault, check_terms, copy_thresholds, places_of};
 use era_book::EraBook;
 use npos_base::NoMemory;
 use stake_ledger::{Book, LedgerRefusal};
@@ -69,19 +69,23 @@ pub fn begin(alloc: Global, genesis: Genesis) -> Result<Chain, GenesisFault>
         × (chain ≡ genesis_chain genesis)) }
     ensures refused { IfErr result (IsFault (genesis_fault genesis)) }
 {
-    let (endowments, params) = match genesis {
-        Genesis::Plain { endowments } => (endowments, None),
-        Genesis::Full { endowments, params } => (endowments, Some(params)),
+    let (endowments, params, defer) = match genesis {
+        Genesis::Plain { endowments } => (endowments, None, 0),
+        Genesis::Full { endowments, params } => (endowments, Some(params), 0),
+        Genesis::Deferred {
+            endowments,
+            params,
+            defer_eras,
+        } => (endowments, Some(params), defer_eras),
     };
     let mut book = Book::new(alloc);
     endow_all(&mut book, endowments.as_slice())?;
-    if let Some(params) = &params {
-        check_params(params)?;
-    }
+    check_terms(&params, defer)?;
     let bags = empty_bags(alloc, &params)?;
     let queue = Queue::new(alloc, places_of(&params))?;
     Ok(Chain {
         params,
+        defer,
         book,
         roles: Roles::new(alloc),
         bags,

@@ -13,6 +13,8 @@ use voter_lists::{Bags, Roles};
 pub struct Chain {
     /// The params of a full genesis; a plain one has none, and then there are no eras.
     pub params: Option<Params>,
+    /// The number of eras that a slash waits after its offence; where it is 0, none waits.
+    pub defer: u32,
     pub book: Book,
     pub roles: Roles,
     /// The accounts with a role, by coarse active stake.

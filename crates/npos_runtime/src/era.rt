@@ -9,6 +9,7 @@ ghost use Rattle.npos_runtime.specs.Exposed.{exposed, exposures_of};
 ghost use Rattle.npos_runtime.specs.Step.{era_phase};
 ghost use Rattle.npos_runtime.specs.Live.{IsLive, IsNotedCommittee, AreNoted};
 
+use crate::offices::apply_due;
 use crate::{Chain, Waiting};
 use block_receipts::Line;
 use chain_params::begun_era;
@@ -87,7 +88,7 @@ fn next_era(alloc: Global, eras: &mut EraBook, waiting: Option<Waiting>) -> Resu
 }
 
 /// An era may begin. The exposures of who waited are then those of that era, and nobody waits any
-/// more.
+/// more; and the slashes that are due in it are applied.
 pub fn begin_era(alloc: Global, chain: &mut Chain, lines: &mut Vec<Line>) -> Result<(), NoMemory>
     requires live { IsLive chain.old }
     requires more { chain.old.eras.current < 2 ^ 32 - 1 }
@@ -96,6 +97,7 @@ pub fn begin_era(alloc: Global, chain: &mut Chain, lines: &mut Vec<Line>) -> Res
     if let Some(era) = begun_era(&chain.params, chain.due) {
         lines.push(Line::Era { era })?;
         next_era(alloc, &mut chain.eras, chain.waiting.take())?;
+        apply_due(alloc, chain, lines)?;
     }
     Ok(())
 }

@@ -9,6 +9,7 @@ ghost use Rattle.npos_runtime.specs.Deposits.{DepositsLaw};
 ghost use Rattle.npos_runtime.specs.Seatings.{SeatingsLaw};
 ghost use Rattle.npos_runtime.specs.Laws.{SoundStepLaw, SeatedSoundLaw, SeatsLaw, HeldLaw, SettledLaw, FateLaw, NoneCrowdedOutLaw};
 ghost use Rattle.npos_runtime.specs.EraLaws.{HistoryLaw, PaidWithinRewardLaw, PaidAsToldLaw, SlashLaw, TakenLaw, OnceLaw, DueWithinStakeLaw};
+ghost use Rattle.npos_runtime.specs.DeferredLaws.{QueuedLaw, AppliedLaw, TakenInAllLaw};
 
 use crate::Runtime;
 use election_check::laws::{a_packed_yes_is_a_plain_yes, a_plain_yes_is_passing};
@@ -118,3 +119,14 @@ pub fn slashes_are_within_the_stake()
     a_plain_yes_is_passing();
     every_fill_passes();
 }
+
+/// Where slashes wait, a report queues what is due then and takes nothing; a slash that is
+/// cancelled takes nothing, and the fraction stays. Where an era begins, the slashes that are due
+/// in it are applied by rising number, each taking the lesser of what is due by it and what is
+/// bonded then. Of what is due from an account for an era no more is taken, at once and by slashes
+/// that waited.
+pub fn slashes_that_wait_take_what_is_due()
+    ensures each { QueuedLaw }
+    ensures applied { AppliedLaw }
+    ensures together { TakenInAllLaw }
+{}

@@ -1,18 +1,18 @@
-//! Points, payouts and offences.
-ghost use Rattle.std.specs.Prelude.{◌≡◌, ◌+◌, ◌<◌, ◌≤◌, ◌++◌, map, OnOk, vec_len};
+//! Points, payouts, offences, and slashes that wait.
+ghost use Rattle.std.specs.Prelude.{◌≡◌, ◌+◌, ◌<◌, ◌≤◌, ◌^◌, ◌++◌, [], ◌∷◌, length, map, OnOk, vec_len};
 ghost use Rattle.std.specs.Vec.{vec_capacity};
 ghost use Rattle.stake_ledger.specs.Calls.{minted_free, room_of};
 ghost use Rattle.era_book.specs.Exposures.{amount_sum};
 ghost use Rattle.npos_runtime.specs.Outcome.{Goes, Untold};
 ghost use Rattle.npos_runtime.specs.CallRule.{Follows};
-ghost use Rattle.npos_runtime.specs.Live.{IsLive};
-ghost use Rattle.npos_runtime.specs.Offices.{is_root, points_rule, payout_rule, all_minted, paid_line, offence_rule, slash_outcome, slashes};
+ghost use Rattle.npos_runtime.specs.Live.{IsLive, CanDefer};
+ghost use Rattle.npos_runtime.specs.Offices.{is_root, points_rule, payout_rule, all_minted, paid_line, slashing_rule, deferring_rule, offence_rule, cancel_rule, slash_outcome, slashes, applied};
 
 use crate::Chain;
 use crate::lists::retire_unless;
 use block_receipts::{Line, Refusal, Stop};
 use chain_params::{era_reward_of, root_of};
-use era_book::Backer;
+use era_book::{Backer, DeferredSlash};
 use npos_base::{AccountId, List, NoMemory};
 use stake_ledger::{Book, LedgerRefusal};
 use std::alloc::Global;
@@ -142,7 +142,65 @@ fn slash_all(
     Ok(())
 }
 
-/// Slashes those who backed a validator in an era, and keeps the fraction.
+/// Slashes those who backed a validator in an era at once, and keeps the fraction.
+fn slash_now(
+    alloc: Global,
+    chain: &mut Chain,
+    more: &mut Vec<Line>,
+    era: u32,
+    validator: AccountId,
+    fraction: u32,
+) -> Result<(), Stop>
+    requires { IsLive chain.old }
+    ensures meets { Follows (slashing_rule chain.old era validator fraction)
+        chain.old chain.new result }
+    ensures told { OnOk result (more.new.items
+        ≡ more.old.items ++ (slashing_rule chain.old era validator fraction).told) }
+    ensures untold { Untold more.old.items more.new.items result }
+{
+    let dues = chain.eras.slash_list(alloc, era, validator, fraction)?;
+    slash_all(alloc, chain, more, dues)?;
+    chain.eras.mark_slashed(era, validator, fraction);
+    Ok(())
+}
+
+/// Tells one more line.
+fn tell(more: &mut Vec<Line>, line: Line) -> Result<(), NoMemory>
+    ensures { OnOk result (more.new.items ≡ more.old.items ++ line ∷ []) }
+{
+    more.push(line)?;
+    Ok(())
+}
+
+/// Queues what is due from those who backed a validator in an era, and keeps the fraction. The
+/// queue may be full, which is tried before the fraction is marked.
+fn slash_later(
+    alloc: Global,
+    chain: &mut Chain,
+    more: &mut Vec<Line>,
+    era: u32,
+    validator: AccountId,
+    fraction: u32,
+) -> Result<(), Stop>
+    requires some { 0 < chain.old.defer }
+    requires slashes { CanDefer chain.old }
+    requires numbers { chain.old.eras.next_slash + 1 < 2 ^ 64 }
+    ensures meets { Follows (deferring_rule chain.old era validator fraction)
+        chain.old chain.new result }
+    ensures told { OnOk result (more.new.items
+        ≡ more.old.items ++ (deferring_rule chain.old era validator fraction).told) }
+    ensures untold { Untold more.old.items more.new.items result }
+{
+    let dues = chain.eras.slash_list(alloc, era, validator, fraction)?;
+    let due = chain.eras.current() + chain.defer;
+    let number = chain.eras.queue_slash(due, dues)?;
+    chain.eras.mark_slashed(era, validator, fraction);
+    tell(more, Line::Deferred { number, due })?;
+    Ok(())
+}
+
+/// Reports a validator of an era: those who backed it are slashed, at once or some eras later, and
+/// the fraction is kept.
 pub fn offence(
     alloc: Global,
     chain: &mut Chain,
@@ -152,7 +210,9 @@ pub fn offence(
     validator: AccountId,
     fraction: u32,
 ) -> Result<(), Stop>
-    requires { IsLive chain.old }
+    requires live { IsLive chain.old }
+    requires slashes { CanDefer chain.old }
+    requires numbers { chain.old.eras.next_slash + 1 < 2 ^ 64 }
     ensures meets { Follows (offence_rule chain.old reporter era validator fraction)
         chain.old chain.new result }
     ensures told { OnOk result (more.new.items
@@ -162,8 +222,38 @@ pub fn offence(
     if !is_root(chain, reporter) {
         return Err(Stop::Refused(Refusal::NotRoot));
     }
-    let dues = chain.eras.slash_list(alloc, era, validator, fraction)?;
-    slash_all(alloc, chain, more, dues)?;
-    chain.eras.mark_slashed(era, validator, fraction);
+    if chain.defer == 0 {
+        slash_now(alloc, chain, more, era, validator, fraction)
+    } else {
+        slash_later(alloc, chain, more, era, validator, fraction)
+    }
+}
+
+/// Cancels a slash that waits. The fraction that was reported stays.
+pub fn cancel_slash(chain: &mut Chain, who: AccountId, number: u64) -> Result<(), Stop>
+    ensures { Follows (cancel_rule chain.old who number) chain.old chain.new result }
+{
+    if !is_root(chain, who) {
+        return Err(Stop::Refused(Refusal::NotRoot));
+    }
+    chain.eras.cancel_slash(number)?;
+    Ok(())
+}
+
+/// Takes out one slash after the other that is due, tells it, and slashes what is due by it.
+pub fn apply_due(alloc: Global, chain: &mut Chain, lines: &mut Vec<Line>) -> Result<(), NoMemory>
+    requires { IsLive chain.old }
+    ensures { OnOk result (Goes (applied (length chain.old.eras.queue) chain.old)
+        chain.new lines.old.items lines.new.items) }
+{
+    'slashes: while let Some(slash) = chain.eras.take_due() {
+        let DeferredSlash {
+            number,
+            lines: dues,
+            ..
+        } = slash;
+        tell(lines, Line::Applied { number })?;
+        slash_all(alloc, chain, lines, dues)?;
+    }
     Ok(())
 }

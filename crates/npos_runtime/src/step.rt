@@ -3,7 +3,7 @@ ghost use Rattle.std.specs.Prelude.{◌≡◌, ◌+◌, ◌<◌, ◌≤◌, ◌^
 ghost use Rattle.npos_runtime.specs.Outcome.{Goes, Outcome};
 ghost use Rattle.npos_runtime.specs.Step.{call_outcome, calls_outcome, opened, step};
 ghost use Rattle.npos_runtime.specs.Rounds.{round_phase};
-ghost use Rattle.npos_runtime.specs.Live.{IsLive, IsReady};
+ghost use Rattle.npos_runtime.specs.Live.{IsLive, IsReady, CanDefer};
 
 use crate::Chain;
 use crate::act::act;
@@ -39,6 +39,8 @@ fn take_call(
 ) -> Result<(), NoMemory>
     requires live { IsLive chain.old }
     requires numbers { chain.old.next + 1 < 2 ^ 64 }
+    requires slashes { CanDefer chain.old }
+    requires slash_numbers { chain.old.eras.next_slash + 1 < 2 ^ 64 }
     ensures { OnOk result (Goes
         (call_outcome index call chain.old) chain.new lines.old.items lines.new.items) }
 {
@@ -69,6 +71,8 @@ fn take_calls(
     requires live { IsLive chain.old }
     requires few { length calls.items < 2 ^ 32 }
     requires numbers { chain.old.next + length calls.items < 2 ^ 64 }
+    requires slashes { CanDefer chain.old }
+    requires slash_numbers { chain.old.eras.next_slash + length calls.items < 2 ^ 64 }
     ensures goes { OnOk result
         (Goes (calls_outcome 0 calls.items chain.old) chain.new lines.old.items lines.new.items) }
     ensures live_after { OnOk result (IsLive chain.new) }

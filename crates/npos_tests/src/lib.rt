@@ -5,6 +5,8 @@
 #![tactic(auto)]
 
 #[cfg(test)]
+mod deferred;
+#[cfg(test)]
 mod elections;
 #[cfg(test)]
 mod ordinary;

@@ -44,13 +44,15 @@ const BY_ERAS: [EraRefusal; 6] = [
 ];
 
 /// What a runtime refuses of its own, with the numbers.
-const BY_RUNTIME: [(Refusal, u32); 6] = [
+const BY_RUNTIME: [(Refusal, u32); 8] = [
     (Refusal::Era(EraRefusal::BadFraction), 15),
     (Refusal::NotBetter, 20),
     (Refusal::NotRoot, 27),
     (Refusal::WrongPhase, 28),
     (Refusal::WrongRound, 29),
     (Refusal::SolutionTooLong, 30),
+    (Refusal::Era(EraRefusal::NoSlash), 31),
+    (Refusal::Era(EraRefusal::TooManySlashes), 32),
 ];
 
 #[test]

@@ -24,6 +24,11 @@ fn start(alloc: Global, genesis: Genesis) -> Result<Runtime, GenesisFault> {
     let lengths = match &genesis {
         Genesis::Plain { endowments } => (endowments.len(), 0),
         Genesis::Full { endowments, params } => (endowments.len(), params.thresholds.len()),
+        Genesis::Deferred {
+            endowments,
+            params,
+            ..
+        } => (endowments.len(), params.thresholds.len()),
     };
     if lengths.0 > 9 || lengths.1 > 9 {
         return Err(GenesisFault::NoMemory);
@@ -87,6 +92,7 @@ fn the_laws_hold(_rt: HostRuntime) {
     laws::eras_follow_the_blocks();
     laws::payouts_are_within_the_reward();
     laws::slashes_are_within_the_stake();
+    laws::slashes_that_wait_take_what_is_due();
 }
 
 /// Params without fault but for the one with this number, if there is one.
@@ -119,10 +125,19 @@ fn with_fault(alloc: Global, number: u8) -> Result<Params, NoMemory> {
     Ok(params)
 }
 
-/// The number and the detail of the fault of a genesis with these params.
-fn fault_of(alloc: Global, params: Params) -> Result<(u8, u32), NoMemory> {
+/// The number and the detail of the fault of a genesis with these params, where a slash waits so
+/// many eras, if it waits any.
+fn fault_of(alloc: Global, params: Params, wait: Option<u32>) -> Result<(u8, u32), NoMemory> {
     let endowments = endowments(alloc)?;
-    Ok(match start(alloc, Genesis::Full { endowments, params }) {
+    let genesis = match wait {
+        None => Genesis::Full { endowments, params },
+        Some(defer_eras) => Genesis::Deferred {
+            endowments,
+            params,
+            defer_eras,
+        },
+    };
+    Ok(match start(alloc, genesis) {
         Ok(_) => (0, 0),
         Err(fault) => (fault.number(), fault.detail()),
     })
@@ -141,9 +156,21 @@ fn params_are_at_fault(rt: HostRuntime) -> Result<(), Fail> {
         (9, 2_097_153),
     ];
     for (number, detail) in table {
+        for wait in [None, Some(39)] {
+            let params = with_fault(rt.alloc(), number)?;
+            let fault = fault_of(rt.alloc(), params, wait)?;
+            assert_eq!(rt; fault, (number, detail));
+        }
+    }
+    Ok(())
+}
+
+#[test]
+fn a_slash_that_waits_too_long_is_the_last_fault(rt: HostRuntime) -> Result<(), Fail> {
+    for (number, fault) in [(0, (10, 40)), (6, (6, 0)), (9, (9, 2_097_153))] {
         let params = with_fault(rt.alloc(), number)?;
-        let fault = fault_of(rt.alloc(), params)?;
-        assert_eq!(rt; fault, (number, detail));
+        let found = fault_of(rt.alloc(), params, Some(40))?;
+        assert_eq!(rt; found, fault);
     }
     Ok(())
 }

@@ -1,7 +1,7 @@
 //! How the streams of tests are written: calls by name, and their bytes.
 use crate::stream_calls::Kind::{
-    Bond, BondExtra, Chill, Nominate, Offence, Payout, Points, PutInFront, Rebag, Rebond, Submit,
-    Unbond, Validate, Withdraw,
+    Bond, BondExtra, CancelSlash, Chill, Nominate, Offence, Payout, Points, PutInFront, Rebag,
+    Rebond, Submit, Unbond, Validate, Withdraw,
 };
 use npos_base::{AccountId, List, NoMemory};
 use scale_wire::Pen;
@@ -38,6 +38,8 @@ pub enum Kind {
     Payout(u64, u64),
     /// The era, the validator, and the fraction.
     Offence(u64, u64, u64),
+    /// The number of the slash.
+    CancelSlash(u64),
 }
 
 /// A stream, and what a replay of it writes.
@@ -76,7 +78,31 @@ pub fn put_genesis(
     root: u64,
     numbers: &[u64],
 ) -> Result<(), NoMemory> {
-    pen.put_u8(1)?;
+    put_tagged_genesis(pen, 1, accounts, endowment, root, numbers)
+}
+
+/// The same where slashes wait so many eras.
+pub fn put_deferred_genesis(
+    pen: &mut Pen,
+    accounts: u64,
+    endowment: u64,
+    root: u64,
+    numbers: &[u64],
+    defer: u64,
+) -> Result<(), NoMemory> {
+    put_tagged_genesis(pen, 2, accounts, endowment, root, numbers)?;
+    pen.put_compact(defer)
+}
+
+fn put_tagged_genesis(
+    pen: &mut Pen,
+    tag: u8,
+    accounts: u64,
+    endowment: u64,
+    root: u64,
+    numbers: &[u64],
+) -> Result<(), NoMemory> {
+    pen.put_u8(tag)?;
     pen.put_compact(accounts)?;
     for number in 0..accounts {
         put_account(pen, number + 1)?;
@@ -114,6 +140,7 @@ fn put_kind(pen: &mut Pen, kind: &Kind) -> Result<(), NoMemory> {
         Points(items) => put_points(pen, items),
         Payout(era, validator) => put_payout(pen, era, validator),
         Offence(era, validator, fraction) => put_offence(pen, era, validator, fraction),
+        CancelSlash(number) => put_amount(pen, 15, number),
     }
 }
 

@@ -10,7 +10,7 @@ use std::alloc::Global;
 use std::test::Fail;
 
 /// What a replay of these bytes writes, and its status.
-fn replay(alloc: Global, bytes: List<u8>) -> Result<(Vec<u8>, u8), NoMemory> {
+pub fn replay(alloc: Global, bytes: List<u8>) -> Result<(Vec<u8>, u8), NoMemory> {
     let mut words = Vec::new(alloc);
     words.push(String::from_str(alloc, "npos")?)?;
     words.push(String::from_str(alloc, "replay")?)?;

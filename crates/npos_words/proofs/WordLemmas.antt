@@ -1,6 +1,6 @@
 -- From the options that clap finds to the command, and what is known of a command.
 use Rattle.std.proofs.Common.{◌≡◌, ◌≤◌, ℕ, Bool, cond, true, false, ap, arith, List, [], ◌∷◌, codes, drop, refl, sym, subst, true≢false, ◌||◌, IfOk, IfSome, Option, Some, None, Result, Ok, Err}
-use Rattle.std.specs.List.{list_any}
+use Rattle.std.specs.List.{AllByRecursion, list_any}
 use Rattle.std.specs.Str.{bytes_eq}
 use Rattle.std.specs.Prelude.{not, ◌&&◌, option_and_then, option_map}
 use Rattle.clap.specs.Words.{first_value, found_of}
@@ -11,7 +11,7 @@ use Rattle.npos_words.specs.declared.command.Miner.{Miner}
 use Rattle.npos_words.specs.Found.{Finds}
 use Rattle.npos_words.specs.Numbers.{number_within}
 use Rattle.npos_words.specs.Options.{Setting, Text, options_of, value_of}
-use Rattle.npos_words.specs.Words.{Values, alone, begins_with_verb, command_after, command_by, command_of, demo_by, demo_names, demo_of, has_verb, is_bare, is_verb, KeepsBounds, mine_by, mine_names, mine_of, miner_of, number_of, rounds_of}
+use Rattle.npos_words.specs.Words.{Verb, Values, alone, asked_by, verbs, begins_with_verb, command_after, command_by, command_of, demo_by, demo_names, demo_of, has_verb, is_bare, is_verb, KeepsBounds, mine_by, mine_names, mine_of, miner_of, number_of, rounds_of}
 use Rattle.npos_words.proofs.NumberLemmas.{within_bounds}
 
 pub found_gives : {X : Type 0} (read : Values → Option X) (m : ArgMatches) (o : Option (List Setting)) → Finds (Some m) o
@@ -21,18 +21,15 @@ found_gives read m (Some given) h = ap read (λ i name. h name i)
 
 -- ## Where memory is wanted
 
-no_command : (verb : Text) (words : List Text) → is_verb verb ≡ false → command_by verb words ≡ None
-no_command verb words none = go (bytes_eq verb (codes "replay")) (bytes_eq verb (codes "check")) (bytes_eq verb (codes "mine")) (bytes_eq verb (codes "pack")) (bytes_eq verb (codes "show")) (bytes_eq verb (codes "demo")) none
-  where
-    go : (a b c d e f : Bool) → (a || (b || (c || (d || (e || (f || false)))))) ≡ false
-        → cond a (alone commands.Replay words) (cond b (alone commands.Check words) (cond c (mine_by words) (cond d (alone commands.Pack words) (cond e (alone commands.Show words) (cond f (demo_by words) None))))) ≡ None
-    go true b c d e f none = absurd (true≢false none)
-    go false true c d e f none = absurd (true≢false none)
-    go false false true d e f none = absurd (true≢false none)
-    go false false false true e f none = absurd (true≢false none)
-    go false false false false true f none = absurd (true≢false none)
-    go false false false false false true none = absurd (true≢false none)
-    go false false false false false false none = refl
+no_command : (verbs : List Verb) (word : Text) (words : List Text) → list_any (λ verb. bytes_eq word verb.name) verbs ≡ false
+    → asked_by verbs word words ≡ None
+no_command [] word words none = refl
+no_command (verb ∷ more) word words none = go (bytes_eq word verb.name) (no_command more word words) none where
+  go : (is : Bool) → (list_any (λ other. bytes_eq word other.name) more ≡ false → asked_by more word words ≡ None)
+      → (is || list_any (λ other. bytes_eq word other.name) more) ≡ false
+      → cond is (verb.asks words) (asked_by more word words) ≡ None
+  go true others none = absurd (true≢false none)
+  go false others none = others none
 
 -- words without a verb, or with one that is bare, have no form
 pub no_verb : (words : List Text) → has_verb words ≡ false → command_of words ≡ None
@@ -40,7 +37,7 @@ no_verb words e = go (list_any is_bare (drop 1 words)) (drop 1 words) e
   where
     by : (behind : List Text) → begins_with_verb behind ≡ false → command_after behind ≡ None
     by [] e = refl
-    by (verb ∷ words) e = no_command verb words e
+    by (verb ∷ words) e = no_command verbs verb words e
 
     true_and : (b : Bool) → (b && true) ≡ false → b ≡ false
     true_and true e = e
@@ -103,18 +100,19 @@ alone_kept : (command : Command) → KeepsBounds (Some command) → (o : Option 
 alone_kept command keeps None = tt
 alone_kept command keeps (Some given) = keeps
 
-by_kept : (verb : Text) (words : List Text) → KeepsBounds (command_by verb words)
-by_kept verb words = go (bytes_eq verb (codes "replay")) (bytes_eq verb (codes "check")) (bytes_eq verb (codes "mine")) (bytes_eq verb (codes "pack")) (bytes_eq verb (codes "show")) (bytes_eq verb (codes "demo"))
-  where
-    go : (a b c d e f : Bool)
-        → KeepsBounds (cond a (alone commands.Replay words) (cond b (alone commands.Check words) (cond c (mine_by words) (cond d (alone commands.Pack words) (cond e (alone commands.Show words) (cond f (demo_by words) None))))))
-    go true b c d e f = alone_kept commands.Replay tt (options_of [] words)
-    go false true c d e f = alone_kept commands.Check tt (options_of [] words)
-    go false false true d e f = read_kept mine_of mine_kept (options_of mine_names words)
-    go false false false true e f = alone_kept commands.Pack tt (options_of [] words)
-    go false false false false true f = alone_kept commands.Show tt (options_of [] words)
-    go false false false false false true = read_kept demo_of demo_kept (options_of demo_names words)
-    go false false false false false false = tt
+-- what a verb asks for keeps its bounds
+abbrev Keeps : Verb → Type 0
+Keeps verb = (words : List Text) → KeepsBounds (verb.asks words)
+
+asked_keeps : (verbs : List Verb) (word : Text) (words : List Text) → AllByRecursion Keeps verbs → KeepsBounds (asked_by verbs word words)
+asked_keeps [] word words keeps = tt
+asked_keeps (verb ∷ more) word words keeps = go (bytes_eq word verb.name) (asked_keeps more word words keeps.1) where
+  go : (is : Bool) → KeepsBounds (asked_by more word words) → KeepsBounds (cond is (verb.asks words) (asked_by more word words))
+  go true others = keeps.0 words
+  go false others = others
+
+by_kept : (word : Text) (words : List Text) → KeepsBounds (command_by word words)
+by_kept word words = asked_keeps verbs word words ((λ w. alone_kept commands.Replay tt (options_of [] w)), ((λ w. alone_kept commands.Check tt (options_of [] w)), ((λ w. read_kept mine_of mine_kept (options_of mine_names w)), ((λ w. alone_kept commands.Pack tt (options_of [] w)), ((λ w. alone_kept commands.Show tt (options_of [] w)), ((λ w. read_kept demo_of demo_kept (options_of demo_names w)), ((λ w. alone_kept commands.Pools tt (options_of [] w)), tt)))))))
 
 after_keeps : (words : List Text) → KeepsBounds (command_after words)
 after_keeps [] = tt

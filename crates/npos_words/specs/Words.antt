@@ -61,16 +61,34 @@ mine_by words = option_and_then (λ given. mine_of (value_of given)) (options_of
 abbrev pub demo_by : List Text → Option Command
 demo_by words = option_and_then (λ given. demo_of (value_of given)) (options_of demo_names words)
 
--- the command of a verb, by the words behind it
+-- a verb, and the command that the words behind it ask for
+pub record Verb : Type 0 where
+  pub name : Text
+  pub asks : List Text → Option Command
+
+abbrev pub verb : Text → (List Text → Option Command) → Verb
+verb word reading = record { name = word; asks = reading }
+
+abbrev pub verbs : List Verb
+verbs =
+    verb (codes "replay") (alone commands.Replay)
+    ∷ verb (codes "check") (alone commands.Check)
+    ∷ verb (codes "mine") mine_by
+    ∷ verb (codes "pack") (alone commands.Pack)
+    ∷ verb (codes "show") (alone commands.Show)
+    ∷ verb (codes "demo") demo_by
+    ∷ verb (codes "pools") (alone commands.Pools)
+    ∷ []
+
+-- what the first of these verbs that is the word asks for
+abbrev pub asked_by : List Verb → Text → List Text → Option Command
+asked_by [] word words = None
+asked_by (verb ∷ more) word words =
+    if bytes_eq word verb.name then verb.asks words else asked_by more word words
+
+-- the command of a word, by the words behind it
 abbrev pub command_by : Text → List Text → Option Command
-command_by verb words =
-    if bytes_eq verb (codes "replay") then alone commands.Replay words
-    else if bytes_eq verb (codes "check") then alone commands.Check words
-    else if bytes_eq verb (codes "mine") then mine_by words
-    else if bytes_eq verb (codes "pack") then alone commands.Pack words
-    else if bytes_eq verb (codes "show") then alone commands.Show words
-    else if bytes_eq verb (codes "demo") then demo_by words
-    else None
+command_by word words = asked_by verbs word words
 
 -- a word of one or two hyphens alone, which is neither an option nor a value
 abbrev pub is_bare : Text → Bool
@@ -87,11 +105,8 @@ command_of words = if list_any is_bare (drop 1 words) then None else command_aft
 
 -- ## Where memory is wanted
 
-abbrev pub verbs : List Text
-verbs = codes "replay" ∷ codes "check" ∷ codes "mine" ∷ codes "pack" ∷ codes "show" ∷ codes "demo" ∷ []
-
 abbrev pub is_verb : Text → Bool
-is_verb text = list_any (λ verb. bytes_eq text verb) verbs
+is_verb text = list_any (λ verb. bytes_eq text verb.name) verbs
 
 abbrev pub begins_with_verb : List Text → Bool
 begins_with_verb [] = false

@@ -28,6 +28,8 @@ pub enum Command {
         /// How many seats it has, from 1 to 512.
         seats: u32,
     },
+    /// To go through what is asked of a stake pool.
+    Pools,
 }
 
 /// Who makes a committee.

@@ -10,7 +10,6 @@ use Rattle.npos_base.specs.declared.figures.Edge.{Edge}
 use Rattle.npos_base.specs.declared.limits.TheConstants.{MOST_NOMINATIONS, MOST_VOTERS}
 use Rattle.compact_solution.specs.Packing.{IsPackable, edges_of, stake_at, same_pair}
 use Rattle.compact_solution.proofs.FitLemmas.{short_filter}
-use Rattle.compact_solution.proofs.GroupLemmas.{all_nominations}
 
 both : (b c : Bool) → (b && c) ≡ true → (b ≡ true) × (c ≡ true)
 both true c e = (refl, e)
@@ -65,7 +64,7 @@ packable stakes committee edges e =
       pairs_distinct = distinct_from edges c.0;
       to_members = all_from (λ (edge : Edge). list_any (λ member. nat_eq member edge.target) committee ≡ true) (λ edge. list_any (λ member. nat_eq member edge.target) committee) (λ edge e. e) edges d.0;
       above = all_from (λ (edge : Edge). 0 < edge.amount) (λ edge. nat_lt 0 edge.amount) (λ edge e. grind (arith, nat_tests, e)) edges f.0;
-      few_edges = λ voter. omega (arith, few, all_nominations, short_filter (λ (edge : Edge). nat_eq edge.voter voter) edges);
+      few_edges = λ voter. omega (arith, few, short_filter (λ (edge : Edge). nat_eq edge.voter voter) edges);
       within = λ voter h. within_at voter h (all_from (λ (voter : ℕ). sum_by (λ edge. edge.amount) (edges_of edges voter) ≤ stake_at stakes voter) (has_stake stakes edges) (λ voter e. grind (arith, nat_tests, e)) (range_with_len 0 (length stakes)) g.1);
     } where
       within_at : (voter : ℕ) → voter < length stakes → All (λ (voter : ℕ). sum_by (λ edge. edge.amount) (edges_of edges voter) ≤ stake_at stakes voter) (range_with_len 0 (length stakes))

@@ -21,7 +21,7 @@ struct Case {
 }
 
 /// The worked election, in which one voter fills up what the other cannot; then one whose members
-/// are not all nominated; then a voter of 16 members with ties.
+/// are not all nominated; then a voter of 24 members with ties.
 const CASES: [Case; 4] = [
     Case {
         voters: &[(60, &[0, 1]), (40, &[0])],
@@ -47,13 +47,19 @@ const CASES: [Case; 4] = [
     Case {
         voters: &[(
             1000,
-            &[15, 14, 13, 12, 11, 10, 9, 8, 7, 6, 5, 4, 3, 2, 1, 0],
+            &[
+                23, 22, 21, 20, 19, 18, 17, 16, 15, 14, 13, 12, 11, 10, 9, 8, 7, 6, 5, 4, 3, 2, 1,
+                0,
+            ],
         )],
-        members: &[0, 2, 4, 6, 8, 10, 12, 14, 1, 3, 5, 7, 9, 11, 13, 15],
+        members: &[
+            0, 2, 4, 6, 8, 10, 12, 14, 16, 18, 20, 22, 1, 3, 5, 7, 9, 11, 13, 15, 17, 19, 21, 23,
+        ],
         rounds: 2,
         made: 2,
         amounts: &[
-            63, 63, 63, 63, 63, 63, 63, 63, 62, 62, 62, 62, 62, 62, 62, 62,
+            42, 42, 42, 42, 42, 42, 42, 42, 42, 42, 42, 42, 42, 42, 42, 42, 41, 41, 41, 41, 41, 41,
+            41, 41,
         ],
     },
 ];
@@ -62,10 +68,10 @@ fn account(number: u128) -> AccountId {
     AccountId { hi: 1, lo: number }
 }
 
-/// An election of 16 targets and 2 seats.
+/// An election of 24 targets and 2 seats.
 fn election(alloc: Global, voters: &[(u64, &[u16])]) -> Result<Snapshot, NoMemory> {
     let mut builder = SnapshotBuilder::new(alloc);
-    for target in 0..16_usize {
+    for target in 0..24_usize {
         builder
             .add_target(account(target as u128))
             .map_err(|_| NoMemory)?;
@@ -73,7 +79,7 @@ fn election(alloc: Global, voters: &[(u64, &[u16])]) -> Result<Snapshot, NoMemor
     for voter in 0..voters.len() {
         let (stake, votes) = voters[voter];
         builder
-            .add_voter(account(16 + voter as u128), stake, votes)
+            .add_voter(account(24 + voter as u128), stake, votes)
             .map_err(|_| NoMemory)?;
     }
     match builder.finish(2) {

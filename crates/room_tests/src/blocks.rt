@@ -58,17 +58,31 @@ const FULL: [u8; 82] = [
     0x14, 0x18, 0x1c, 0x20, 0x24, // queue 5, solutions of 6 bytes, deposit 7, reward 8, era reward 9
 ];
 
+// The same where a slash waits three eras.
+const DEFERRED: [u8; 83] = [
+    0x02, 0x04, // Deferred, one endowment
+    0, 0, 0, 0, 0, 0, 0, 0, 0, 0, 0, 0, 0, 0, 0, 0, 0, 0, 0, 0, 0, 0, 0, 0, 0, 0, 0, 0, 0, 0, 0,
+    0x01, 0x04, // 1
+    0, 0, 0, 0, 0, 0, 0, 0, 0, 0, 0, 0, 0, 0, 0, 0, 0, 0, 0, 0, 0, 0, 0, 0, 0, 0, 0, 0, 0, 0, 0,
+    0x07, // root
+    0x08, 0x50, 0x08, 0x0c, 0x10, 0x04, // seats 2, eras of 20 blocks, offset 2, signed 3, bonding eras 4, least bond 1
+    0x08, 0x28, 0x91, 0x01, // the thresholds 10 and 100
+    0x14, 0x18, 0x1c, 0x20, 0x24, // queue 5, solutions of 6 bytes, deposit 7, reward 8, era reward 9
+    0x0c, // slashes wait 3 eras
+];
+
 // Bytes that are refused as a whole genesis, the place and the reason.
-const REFUSED: [(&[u8], u64, Why); 5] = [
+const REFUSED: [(&[u8], u64, Why); 6] = [
     (&[], 0, Why::Short),
     (&[0x09], 0, Why::BadTag),
+    (&[0x03], 0, Why::BadTag),
     (&[0x00, 0x06, 0x00, 0x04, 0x00], 1, Why::TooMany),
     (&[0x00, 0x04, 0, 0, 0], 2, Why::Short),
     (&[0x00, 0x00, 0xff], 2, Why::Trailing),
 ];
 
 // One call of each kind: its tag and its fields.
-const KINDS: [&[u8]; 15] = [
+const KINDS: [&[u8]; 16] = [
     &[
         0, 0, 0, 0, 0, 0, 0, 0, 0, 0, 0, 0, 0, 0, 0, 0, 0, 0, 0, 0, 0, 0, 0, 0, 0, 0, 0, 0, 0, 0,
         0, 0, 0x02, 0xa0,
@@ -110,6 +124,7 @@ const KINDS: [&[u8]; 15] = [
         0x0e, 0x04, 0, 0, 0, 0, 0, 0, 0, 0, 0, 0, 0, 0, 0, 0, 0, 0, 0, 0, 0, 0, 0, 0, 0, 0, 0, 0,
         0, 0, 0, 0, 0, 0x06, 0x08,
     ],
+    &[0x0f, 0x02, 0x28, 0x6b, 0xee],
 ];
 
 // What is written again of a value that is the whole of the bytes.
@@ -128,7 +143,7 @@ fn what_is_read_is_written_again(rt: HostRuntime) -> Result<(), Fail> {
     for bytes in [PACKED.as_slice(), PLAIN_WORK.as_slice()] {
         assert_eq!(rt; rewritten::<Bundle>(rt.alloc(), bytes)?.as_slice(), bytes);
     }
-    for bytes in [PLAIN.as_slice(), FULL.as_slice()] {
+    for bytes in [PLAIN.as_slice(), FULL.as_slice(), DEFERRED.as_slice()] {
         assert_eq!(rt; rewritten::<Genesis>(rt.alloc(), bytes)?.as_slice(), bytes);
     }
     let block = rewritten::<Option<Block>>(rt.alloc(), &BLOCK)?;
@@ -157,22 +172,30 @@ fn transfer_of(kind: &CallKind) -> Option<(AccountId, u64)> {
 
 #[test]
 fn a_genesis_by_its_fields(rt: HostRuntime) -> Result<(), Fail> {
-    let (endowments, none) = fields_of(read_whole::<Genesis>(rt.alloc(), &PLAIN)?);
+    let (endowments, none, _) = fields_of(read_whole::<Genesis>(rt.alloc(), &PLAIN)?);
     assert_eq!(rt;
         (endowments.as_slice(), none.is_none()),
         (ENDOWMENTS.as_slice(), true)
     );
-    let (_, params) = fields_of(read_whole::<Genesis>(rt.alloc(), &FULL)?);
-    let params = params.ok_or("not full")?;
-    assert_eq!(rt; (params.root, figures_of(&params)), (account(7), FIGURES));
-    assert_eq!(rt; params.thresholds.as_slice(), [10, 100].as_slice());
+    for (bytes, eras) in [(FULL.as_slice(), None), (DEFERRED.as_slice(), Some(3))] {
+        let (_, params, defer_eras) = fields_of(read_whole::<Genesis>(rt.alloc(), bytes)?);
+        let params = params.ok_or("not full")?;
+        assert_eq!(rt; (params.root, figures_of(&params)), (account(7), FIGURES));
+        assert_eq!(rt; params.thresholds.as_slice(), [10, 100].as_slice());
+        assert_eq!(rt; defer_eras, eras);
+    }
     Ok(())
 }
 
-fn fields_of(genesis: Genesis) -> (List<Endowment>, Option<Params>) {
+fn fields_of(genesis: Genesis) -> (List<Endowment>, Option<Params>, Option<u32>) {
     match genesis {
-        Genesis::Plain { endowments } => (endowments, None),
-        Genesis::Full { endowments, params } => (endowments, Some(params)),
+        Genesis::Plain { endowments } => (endowments, None, None),
+        Genesis::Full { endowments, params } => (endowments, Some(params), None),
+        Genesis::Deferred {
+            endowments,
+            params,
+            defer_eras,
+        } => (endowments, Some(params), Some(defer_eras)),
     }
 }
 
@@ -254,7 +277,11 @@ fn take_whole(reader: &mut StreamReader, places: &mut Vec<u64>) -> Result<(), Re
 
 // A genesis of each kind, before a block of two transfers and the None, and the places in that
 // stream.
-const STREAMS: [(&[u8], [u64; 3]); 2] = [(&PLAIN, [69, 70, 205]), (&FULL, [82, 83, 218])];
+const STREAMS: [(&[u8], [u64; 3]); 3] = [
+    (&PLAIN, [69, 70, 205]),
+    (&FULL, [82, 83, 218]),
+    (&DEFERRED, [83, 84, 219]),
+];
 
 #[test]
 fn a_stream_by_pieces(rt: HostRuntime) -> Result<(), Fail> {

@@ -1,9 +1,9 @@
-//! The worked payout and the worked slashes, each refusal, and the eras that go. Expected answers
-//! are the rules', by hand.
-ghost use Rattle.std.specs.Prelude.{◌≡◌, IfOk};
+//! The worked payout and the worked slashes, each refusal, the eras that go, and the slashes that
+//! wait. Expected answers are the rules', by hand.
+ghost use Rattle.std.specs.Prelude.{◌≡◌, ◌+◌, ◌<◌, ◌≤◌, IfOk};
 ghost use Rattle.era_book.specs.Exposures.{AreSound};
 
-use era_book::{Backer, EraBook, EraRefusal, Exposure, laws};
+use era_book::{Backer, EraBook, EraRefusal, Exposure, MOST_SLASHES, laws};
 use npos_base::{AccountId, Edge, List, NoMemory, Reason};
 use std::alloc::Global;
 use std::fmt::Write;
@@ -30,6 +30,44 @@ const REPORTS: [(u32, u8, u32, &str); 9] = [
     (9, 9, 1_000_000_001, "refused 15"),
     (9, 9, 1, "refused 21"),
     (2, 3, 1, "refused 23"),
+];
+
+/// What is done with the slashes that wait.
+enum Step {
+    /// The next era begins.
+    Era,
+    /// A slash is queued for an era.
+    Queue(u32),
+    /// The slash of a number is cancelled.
+    Cancel(u64),
+    /// The next slash that is due is taken.
+    Take,
+}
+
+/// Steps in turn, and what is told of each: the era that has begun, the number of a slash that is
+/// queued, the refusal, or the slash that is taken.
+const STEPS: [(Step, &str); 21] = [
+    (Step::Take, "none"),
+    (Step::Queue(2), "1"),
+    (Step::Queue(2), "2"),
+    (Step::Queue(2), "3"),
+    (Step::Queue(3), "4"),
+    (Step::Cancel(5), "refused 31"),
+    (Step::Cancel(0), "refused 31"),
+    (Step::Era, "era 1"),
+    (Step::Take, "none"),
+    (Step::Cancel(2), "ok"),
+    (Step::Cancel(2), "refused 31"),
+    (Step::Era, "era 2"),
+    (Step::Take, "1 for 2"),
+    (Step::Take, "3 for 2"),
+    (Step::Take, "none"),
+    (Step::Queue(4), "5"),
+    (Step::Era, "era 3"),
+    (Step::Era, "era 4"),
+    (Step::Take, "4 for 3"),
+    (Step::Take, "5 for 4"),
+    (Step::Take, "none"),
 ];
 
 /// The account of 31 bytes 0 and this one.
@@ -82,7 +120,9 @@ fn three(alloc: Global) -> Result<List<Exposure>, NoMemory>
 }
 
 /// The next era begins without an exposure.
-fn start_empty(alloc: Global, book: &mut EraBook) -> Result<(), Fail> {
+fn start_empty(alloc: Global, book: &mut EraBook) -> Result<(), Fail>
+    ensures { book.new.next_slash ≡ book.old.next_slash }
+{
     if book.current() < 1000 {
         book.start_era(List::new(alloc))?;
     }
@@ -176,6 +216,74 @@ fn eighty_four_eras_stay(rt: HostRuntime) -> Result<(), Fail> {
     Ok(())
 }
 
+/// Queues a slash of one line for the era, where it can be queued for it, and tells its number.
+fn queue_for(alloc: Global, book: &mut EraBook, due: u32) -> Result<String, Fail>
+    requires { book.old.next_slash < 1000 }
+    ensures { book.new.next_slash ≤ book.old.next_slash + 1 }
+{
+    let mut text = String::new(alloc);
+    let none_later = book.queued().iter().all(|slash| slash.due <= due);
+    if due > book.current() && none_later {
+        let lines = List::from_vec(vec![in alloc; backer(7, 20)]?);
+        match book.queue_slash(due, lines) {
+            Ok(number) => write!(text, "{}", number)?,
+            Err(refusal) => write!(text, "refused {}", refusal.number().unwrap_or(0))?,
+        }
+    }
+    Ok(text)
+}
+
+/// Does the step, and tells what comes of it.
+fn done(alloc: Global, book: &mut EraBook, step: &Step) -> Result<String, Fail>
+    requires { book.old.next_slash < 1000 }
+    ensures { book.new.next_slash ≤ book.old.next_slash + 1 }
+{
+    let mut text = String::new(alloc);
+    match step {
+        Step::Era => {
+            start_empty(alloc, book)?;
+            write!(text, "era {}", book.current())?;
+        }
+        Step::Queue(due) => return queue_for(alloc, book, *due),
+        Step::Cancel(number) => match book.cancel_slash(*number) {
+            Ok(()) => write!(text, "ok")?,
+            Err(refusal) => write!(text, "refused {}", refusal.number().unwrap_or(0))?,
+        },
+        Step::Take => match book.take_due() {
+            Some(slash) => write!(text, "{} for {}", slash.number, slash.due)?,
+            None => write!(text, "none")?,
+        },
+    }
+    Ok(text)
+}
+
+#[test]
+fn slashes_wait_until_they_are_due(rt: HostRuntime) -> Result<(), Fail> {
+    let alloc = rt.alloc();
+    let mut book = EraBook::new(alloc);
+    for (step, told) in &STEPS {
+        assert_eq!(rt; done(alloc, &mut book, step)?.as_str(), *told);
+    }
+    assert_eq!(rt; book.queued().len(), 0);
+    Ok(())
+}
+
+#[test]
+fn no_more_slashes_wait_than_can(rt: HostRuntime) -> Result<(), Fail> {
+    let alloc = rt.alloc();
+    let mut book = EraBook::new(alloc);
+    for _ in 0..MOST_SLASHES {
+        queue_for(alloc, &mut book, 1)?;
+    }
+    assert_eq!(rt; book.queued().len(), 256);
+    assert_eq!(rt; queue_for(alloc, &mut book, 1)?.as_str(), "refused 32");
+    assert_eq!(rt; book.queued().len(), 256);
+    assert_eq!(rt; book.cancel_slash(100), Ok(()));
+    assert_eq!(rt; queue_for(alloc, &mut book, 1)?.as_str(), "257");
+    assert_eq!(rt; queue_for(alloc, &mut book, 2)?.as_str(), "refused 32");
+    Ok(())
+}
+
 /// The edges of three voters to the first target, not by voter.
 const MIXED: [Edge; 3] = [
     Edge {
@@ -219,5 +327,9 @@ fn each_law_is_called(_rt: HostRuntime) {
     laws::dues_telescope();
     laws::payouts_are_within_the_reward();
     laws::dues_are_within_the_exposures();
+    laws::eras_stay_in_order();
+    laws::later_payouts_are_within_the_reward();
+    laws::later_dues_are_within_the_exposures();
+    laws::what_is_taken_was_queued();
     laws::exposures_are_the_edges();
 }

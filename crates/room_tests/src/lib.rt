@@ -26,6 +26,8 @@ mod packed;
 #[cfg(test)]
 mod places;
 #[cfg(test)]
+mod pools;
+#[cfg(test)]
 mod queues;
 #[cfg(test)]
 mod snapshots;

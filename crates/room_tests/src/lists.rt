@@ -121,7 +121,7 @@ fn a_nomination_is_refused_for_its_first_fault(rt: HostRuntime) -> Result<(), Fa
     let alloc = rt.alloc();
     let mut roles = Roles::new(alloc);
     roles.validate(at(1), 0)?;
-    let many = [at(1); 17];
+    let many = [at(1); 25];
     let table: [(&[AccountId], ListRefusal); 5] = [
         (&[], ListRefusal::NoTargets),
         (&many, ListRefusal::TooManyTargets),
@@ -135,6 +135,25 @@ fn a_nomination_is_refused_for_its_first_fault(rt: HostRuntime) -> Result<(), Fa
             Err(refusal)
         );
     }
+    Ok(())
+}
+
+#[test]
+fn a_nominator_names_up_to_24_validators(rt: HostRuntime) -> Result<(), Fail> {
+    let alloc = rt.alloc();
+    let mut roles = Roles::new(alloc);
+    let mut named = [at(0); 25];
+    for n in 0..25 {
+        named[n] = at(n as u8);
+        roles.validate(named[n], 0)?;
+    }
+    let most = &named[..24];
+    assert_eq!(rt; roles.nominate(at(30), list_of(alloc, most)?), Ok(()));
+    assert_eq!(rt; roles.targets_of(at(30)), most);
+    assert_eq!(rt;
+        roles.nominate(at(30), list_of(alloc, &named)?),
+        Err(ListRefusal::TooManyTargets)
+    );
     Ok(())
 }
 

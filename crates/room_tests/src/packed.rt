@@ -67,6 +67,16 @@ fn judged(
 /// The right entries of both voters.
 const RIGHT: [u8; 5] = [0x08, 0x00, 0x00, 0x04, 0x04];
 
+/// The same in the wide form.
+const WIDE: [u8; 6] = [0xff, 0x08, 0x00, 0x00, 0x04, 0x04];
+
+/// Voter 0 in the 17th group of a wide solution, with target 0 time and again.
+const SEVENTEENTH: [u8; 52] = [
+    0xff, 0, 0, 0, 0, 0, 0, 0, 0, 0, 0, 0, 0, 0, 0, 0, 0, // 16 empty groups
+    0x04, 0x00, 0, 4, 0, 4, 0, 4, 0, 4, 0, 4, 0, 4, 0, 4, 0, 4, 0, 4, 0, 4, 0, 4, 0, 4, 0, 4, 0, 4,
+    0, 4, 0, 4, 0x00,
+];
+
 #[test]
 fn the_first_fault_of_bytes_is_the_verdict(rt: HostRuntime) -> Result<(), Fail> {
     let unlike = Verdict::NotNominated {
@@ -74,7 +84,7 @@ fn the_first_fault_of_bytes_is_the_verdict(rt: HostRuntime) -> Result<(), Fail> 
         target: 0,
     };
     // Each after the right entry of voter 0, and how many empty groups follow.
-    let table: [(&[u8], usize, Verdict); 14] = [
+    let table: [(&[u8], usize, Verdict); 18] = [
         (&RIGHT, 15, Verdict::Yes),
         (&RIGHT, 16, undecodable(20, Why::Trailing)),
         (&[0x08, 0x00, 0x00, 0x04], 0, undecodable(4, Why::Short)),
@@ -115,6 +125,10 @@ fn the_first_fault_of_bytes_is_the_verdict(rt: HostRuntime) -> Result<(), Fail> 
             Verdict::BadShare(1),
         ),
         (&[0x04, 0x00, 0x00], 15, Verdict::WrongSize(1)),
+        (&WIDE, 23, Verdict::Yes),
+        (&WIDE, 24, undecodable(29, Why::Trailing)),
+        (&[0xff], 0, undecodable(1, Why::Short)),
+        (&SEVENTEENTH, 7, Verdict::TargetTwice(0)),
     ];
     let mut checker = checker_of(rt.alloc(), small(rt.alloc(), SIXTY, FORTY)?)?;
     let right = whole(rt.alloc(), &RIGHT, 15)?;

@@ -86,7 +86,7 @@ fn seats_are_refused_for_their_first_fault(rt: HostRuntime) -> Result<(), Fail> 
 #[test]
 fn voters_are_refused_for_their_first_fault(rt: HostRuntime) -> Result<(), Fail> {
     let mut builder = two_voters(rt.alloc())?;
-    let many = [0; 17];
+    let many = [0; 25];
     let table: [(AccountId, u64, &[u16], SnapshotFault); 8] = [
         (at(4), 0, &[], SnapshotFault::RepeatedVoter(2)),
         (at(6), 0, &[], SnapshotFault::ZeroStake(2)),
@@ -104,6 +104,26 @@ fn voters_are_refused_for_their_first_fault(rt: HostRuntime) -> Result<(), Fail>
         builder.add_target(at(2)),
         Err(SnapshotFault::RepeatedTarget(3))
     );
+    Ok(())
+}
+
+#[test]
+fn a_voter_has_up_to_24_votes(rt: HostRuntime) -> Result<(), Fail> {
+    let mut builder = full(rt.alloc(), 25, 0)?;
+    let mut votes = [0; 25];
+    for n in 0..25 {
+        votes[n] = 24 - n as u16;
+    }
+    let most = &votes[..24];
+    assert_eq!(rt; builder.add_voter(at(1), 1, most), Ok(()));
+    assert_eq!(rt;
+        builder.add_voter(at(2), 1, &votes),
+        Err(SnapshotFault::TooManyVotes(1))
+    );
+    let Ok(snapshot) = builder.finish(1) else {
+        return Err(Fail::from("no snapshot"));
+    };
+    assert_eq!(rt; snapshot.votes(0), most);
     Ok(())
 }
 

@@ -294,14 +294,14 @@ fn the_first_fault_is_the_verdict(rt: HostRuntime) -> Result<(), Fail> {
     Ok(())
 }
 
-/// The votes of a voter of the largest snapshot: eight targets that are elected, eight that are
+/// The votes of a voter of the largest snapshot: twelve targets that are elected, twelve that are
 /// not.
 fn large_votes(voter: u16) -> [u16; MOST_NOMINATIONS] {
     let mut votes = [0; MOST_NOMINATIONS];
-    for i in 0..8 {
-        let place = usize::from(voter) * 8 + i;
+    for i in 0..12 {
+        let place = usize::from(voter) * 12 + i;
         votes[i] = (place % 512) as u16;
-        votes[i + 8] = (512 + place % 1536) as u16;
+        votes[i + 12] = (512 + place % 1536) as u16;
     }
     votes
 }
@@ -314,13 +314,13 @@ fn large(alloc: Global) -> Result<Snapshot, NoMemory> {
     }
     for voter in 0..16384 {
         builder
-            .add_voter(at(voter), 16, &large_votes(voter))
+            .add_voter(at(voter), 24, &large_votes(voter))
             .map_err(|_| NoMemory)?;
     }
     finished(builder, 512)
 }
 
-/// Each voter's stake, in eight equal parts.
+/// Each voter's stake, in twelve equal parts.
 fn large_weights(alloc: Global, snapshot: &Snapshot) -> Result<Weights, NoMemory> {
     let mut weights = Weights::with_room(alloc, snapshot)?;
     for target in 0..512 {
@@ -328,7 +328,7 @@ fn large_weights(alloc: Global, snapshot: &Snapshot) -> Result<Weights, NoMemory
         weights.push_member(target);
     }
     for voter in 0..16384 {
-        for target in &large_votes(voter)[..8] {
+        for target in &large_votes(voter)[..12] {
             weights.reserve(0, 1)?;
             weights.push_edge(Edge {
                 voter: u32::from(voter),
@@ -340,13 +340,13 @@ fn large_weights(alloc: Global, snapshot: &Snapshot) -> Result<Weights, NoMemory
     Ok(weights)
 }
 
-/// Whether the largest weights pass 64 times.
+/// Whether the largest weights pass 32 times.
 fn largest_passes(alloc: Global) -> Result<bool, NoMemory> {
     let snapshot = large(alloc)?;
     let weights = large_weights(alloc, &snapshot)?;
     let mut checker = checker_of(alloc, snapshot)?;
     let mut passes = true;
-    for _ in 0..64 {
+    for _ in 0..32 {
         passes &= checker.verdict(&weights) == Verdict::Yes;
     }
     Ok(passes)

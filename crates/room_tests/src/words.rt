@@ -6,11 +6,13 @@ use std::test::Fail;
 
 /// Words behind the program's name, parted by blanks, and the text of their command, which is empty
 /// where they have none.
-const WORDS: [(&str, &str); 49] = [
+const WORDS: [(&str, &str); 51] = [
     ("replay", "replay"),
     ("check", "check"),
     ("pack", "pack"),
     ("show", "show"),
+    ("pools", "pools"),
+    ("pools --rounds 3", ""),
     ("replay x", ""),
     ("replay --", ""),
     ("check --help", ""),
@@ -71,6 +73,7 @@ fn told(alloc: Global, command: &Option<Command>) -> Result<String, Fail> {
         Some(Command::Check) => format!(in alloc; "check")?,
         Some(Command::Pack) => format!(in alloc; "pack")?,
         Some(Command::Show) => format!(in alloc; "show")?,
+        Some(Command::Pools) => format!(in alloc; "pools")?,
         Some(Command::Mine { miner, rounds }) => {
             let name = match miner {
                 Miner::Fill => "fill",

@@ -6,6 +6,7 @@ pub mod LittleEndian
 pub mod Compact
 pub mod Parts
 pub mod Composite
+pub mod Marked
 pub mod Values
 -- What the functions do, and what follows for every type.
 pub mod Reading
@@ -18,6 +19,7 @@ pub mod WholeReading
 pub mod TableLaws
 pub mod FormLaws
 pub mod PartLaws
+pub mod MarkedLaws
 pub mod AccountLaws
 pub mod LittleEndianLaws
 pub mod CompactSpellingLaws

@@ -14,5 +14,6 @@ pub use cursor::Cursor;
 pub use pen::Pen;
 pub use up_to::{BytesUpTo, UpTo};
 pub use wire::{
-    Wire, read_bytes, read_list, read_whole, write_both, write_bytes, write_list, write_tag,
+    Wire, read_bytes, read_list, read_whole, write_both, write_bytes, write_fields, write_list,
+    write_tag,
 };

@@ -118,6 +118,16 @@ pub fn write_tag(tag: u8, pen: &mut Pen) -> Result<(), NoMemory>
     pen.put_bytes(&[tag])
 }
 
+/// Appends a variant: its tag, and then what its fields are together.
+#[tactic(auto, using(crate::proofs::ReadLemmas::writes_behind))]
+pub fn write_fields<T: Wire>(tag: u8, fields: &T, pen: &mut Pen) -> Result<(), NoMemory>
+    requires { T.form.in_range fields.now }
+    ensures { Writes (tag ∷ T.form.spelling fields.now) pen.old result pen.new }
+{
+    write_tag(tag, pen)?;
+    fields.write(pen)
+}
+
 /// Appends the first and then the second, as a pair of the two is spelled.
 pub fn write_both<A: Wire, B: Wire>(first: &A, second: &B, pen: &mut Pen) -> Result<(), NoMemory>
     requires { (pair A.form B.form).in_range (first.now, second.now) }

@@ -10,7 +10,7 @@ use std::alloc::{AllocError, AllocFailed};
 pub enum ListRefusal {
     /// A nomination names no target.
     NoTargets,
-    /// A nomination names more than 16 targets.
+    /// A nomination names more than 24 targets.
     TooManyTargets,
     /// A nomination names a target twice.
     RepeatedTarget,

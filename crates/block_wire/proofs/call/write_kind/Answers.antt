@@ -91,3 +91,9 @@ write_fields-requires-in-Offence c = rw c.in-Offence.is at c.requires
 
 pub returns-in-Offence : goal.returns-in-Offence
 returns-in-Offence c = rw c.in-Offence.is c.write_fields-in-Offence.ensures
+
+pub write_fields-requires-in-CancelSlash : goal.write_fields-requires-in-CancelSlash
+write_fields-requires-in-CancelSlash c = rw c.in-CancelSlash.is at c.requires
+
+pub returns-in-CancelSlash : goal.returns-in-CancelSlash
+returns-in-CancelSlash c = rw c.in-CancelSlash.is c.write_fields-in-CancelSlash.ensures

@@ -11,3 +11,9 @@ write_full-requires c = rw c.in-Full.is at c.requires
 
 pub returns-in-Full : goal.returns-in-Full
 returns-in-Full c = rw c.in-Full.is c.write_full.ensures
+
+pub write_deferred-requires : goal.write_deferred-requires
+write_deferred-requires c = rw c.in-Deferred.is at c.requires
+
+pub returns-in-Deferred : goal.returns-in-Deferred
+returns-in-Deferred c = rw c.in-Deferred.is c.write_deferred.ensures

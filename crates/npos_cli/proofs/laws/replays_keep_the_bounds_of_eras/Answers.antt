@@ -5,3 +5,4 @@ pub returns : goal.returns
 returns c =
     eras_kept c.payouts_are_within_the_reward.ensures.together c.payouts_are_within_the_reward.ensures.each c.slashes_are_within_the_stake.ensures.each
     c.slashes_are_within_the_stake.ensures.taken c.each_round_is_decided_once.ensures c.slashes_are_within_the_stake.ensures.due
+    c.slashes_that_wait_take_what_is_due.ensures.each c.slashes_that_wait_take_what_is_due.ensures.applied c.slashes_that_wait_take_what_is_due.ensures.together

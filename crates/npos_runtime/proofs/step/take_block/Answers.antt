@@ -4,11 +4,12 @@ use Rattle.npos_runtime.specs.Step.{before_calls, era_phase, calls_outcome}
 use Rattle.npos_runtime.specs.Rounds.{round_phase}
 use Rattle.npos_runtime.specs.Deciding.{decision_phase}
 use Rattle.block_wire.specs.declared.block.Block.{Block}
-use Rattle.npos_runtime.specs.Live.{IsLive, IsBetweenBlocks}
+use Rattle.npos_runtime.specs.Live.{IsLive, CanDefer, IsBetweenBlocks}
 use Rattle.npos_runtime.proofs.TimeLemmas.{between_step}
 use Rattle.chain_params.proofs.PhaseLemmas.{era_within}
 use Rattle.npos_runtime.proofs.PhaseTable.{live_era, live_round}
-use Rattle.npos_runtime.proofs.LiveLemmas.{live_before, due_before, next_before, due_calls, next_calls}
+use Rattle.npos_runtime.proofs.WaitingLemmas.{sound_waiting}
+use Rattle.npos_runtime.proofs.LiveLemmas.{can_before, slash_before, slash_calls, live_before, due_before, next_before, due_calls, next_calls}
 use Rattle.npos_runtime.proofs.step.take_block.Goals as goal
 
 -- the chain when its calls begin
@@ -55,6 +56,27 @@ take_calls-requires-clause-numbers c =
       c.requires.few,
     )
 
+pub take_calls-requires-clause-slashes : goal.take_calls-requires-clause-slashes
+take_calls-requires-clause-slashes c =
+    let rests = c.requires.ready.between in
+    subst CanDefer
+    (sym (begun c.args.chain.now c.begin_era.new.chain c.begin_round.new.chain c.decide_round.new.chain
+    c.in_ok-begin_era.ensures.state c.in_ok-begin_round.ensures.state c.in_ok-decide_round.ensures.state))
+    (can_before c.args.chain.now rests.live rests.era (sound_waiting c.args.chain.now.waiting rests.elected rests.live.waiting) rests.slashes)
+
+pub take_calls-requires-clause-slash_numbers : goal.take_calls-requires-clause-slash_numbers
+take_calls-requires-clause-slash_numbers c =
+    let same = begun c.args.chain.now c.begin_era.new.chain c.begin_round.new.chain c.decide_round.new.chain
+    c.in_ok-begin_era.ensures.state c.in_ok-begin_round.ensures.state c.in_ok-decide_round.ensures.state in
+    omega (
+      arith,
+      ap (λ (chain : Chain). chain.eras.next_slash) same,
+      slash_before c.args.chain.now,
+      c.requires.ready.slash_numbered,
+      c.requires.ready.between.live.due.at_most,
+      c.requires.few,
+    )
+
 pub returns-clause-ready_after : goal.returns-clause-ready_after
 returns-clause-ready_after c =
     let same = begun c.args.chain.now c.begin_era.new.chain c.begin_round.new.chain c.decide_round.new.chain
@@ -76,6 +98,20 @@ returns-clause-ready_after c =
         ap (λ (chain : Chain). chain.due) same,
         due_before c.args.chain.now,
         c.requires.ready.numbered,
+        c.requires.ready.between.live.due.at_least,
+        c.requires.few,
+      );
+      slash_numbered = omega (
+        arith,
+        ap (λ (chain : Chain). chain.eras.next_slash) called,
+        slash_calls 0 c.args.calls.items c.decide_round.new.chain,
+        ap (λ (chain : Chain). chain.eras.next_slash) same,
+        slash_before c.args.chain.now,
+        ap (λ (chain : Chain). chain.due) called,
+        due_calls 0 c.args.calls.items c.decide_round.new.chain,
+        ap (λ (chain : Chain). chain.due) same,
+        due_before c.args.chain.now,
+        c.requires.ready.slash_numbered,
         c.requires.ready.between.live.due.at_least,
         c.requires.few,
       );

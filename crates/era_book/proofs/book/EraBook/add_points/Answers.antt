@@ -5,7 +5,9 @@ use Rattle.era_book.proofs.EraLemmas.{kept_first, sound_pointed}
 use Rattle.era_book.proofs.book.EraBook.add_points.Goals as goal
 
 pub invariant_of-self : goal.invariant_of-self
-invariant_of-self c =
-    kept_first c.self.inside.current c.self.inside.latest c.gain_all.new.self c.self.inside.earlier.items c.self.invariant
-    (subst AreMembers (sym c.gain_all.ensures)
-    (sound_pointed c.self.inside.latest c.args.items.now (All-head AreMembers c.self.inside.latest c.self.inside.earlier.items c.self.invariant.sound)))
+invariant_of-self c = (
+  kept_first c.self.inside.current c.self.inside.latest c.gain_all.new.self c.self.inside.earlier.items c.self.invariant.0
+      (subst AreMembers (sym c.gain_all.ensures)
+      (sound_pointed c.self.inside.latest c.args.items.now (All-head AreMembers c.self.inside.latest c.self.inside.earlier.items c.self.invariant.0.sound))),
+  c.self.invariant.1,
+)

@@ -1,0 +1,11 @@
+pub mod Quotients
+pub mod LeaveLemmas
+pub mod MemberLemmas
+pub mod RewardLemmas
+pub mod MoveLemmas
+pub mod SoundLemmas
+pub mod LawLemmas
+pub mod DilutionLemmas
+pub mod EndowLemmas
+pub mod StartLemmas
+pub mod FaultLemmas

@@ -1,0 +1,8 @@
+use Rattle.stake_pools.proofs.EndowLemmas.{opened_more}
+use Rattle.stake_pools.proofs.start.endow_all.Goals as goal
+
+pub loop-place-preserved : goal.loop-place-preserved
+loop-place-preserved c =
+    opened_more c.args.pool c.args.endowments.now c.loop-place.place c.args.book.now c.loop-place.book c.endow.new.book
+    (record { hi = 0; lo = 0 }, 0) c.loop-place.invariant c.loop-place-test.true
+    c.in_ok-endow.ensures.ok.0 c.in_ok-endow.ensures.ok.1

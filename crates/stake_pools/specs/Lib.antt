@@ -1,0 +1,15 @@
+pub mod Leaves
+pub mod Members
+pub mod Moves
+pub mod Input
+pub mod InputLaws
+pub mod Refusals
+pub mod Genesis
+pub mod Chain
+pub mod Rules
+pub mod Step
+pub mod Sound
+pub mod Life
+pub mod Laws
+pub mod Kept
+pub mod Opening

@@ -1,0 +1,16 @@
+//! The lines that an item tells.
+
+use npos_base::AccountId;
+
+/// One line that an item tells. The program prints it; here it is data.
+#[derive(Clone, Copy, Debug, PartialEq, Eq)]
+pub enum PoolLine {
+    /// The item was accepted.
+    Accepted,
+    /// The item was refused, for the reason of this number.
+    Refused(u32),
+    /// So much was paid to the member, from what is active or from the pot.
+    Paid { who: AccountId, amount: u64 },
+    /// So much of the pool was burned.
+    Slashed { who: AccountId, amount: u64 },
+}
