@@ -1,2 +1,3 @@
 pub mod IndexLemmas
 pub mod StandLemmas
+pub mod OrderLemmas

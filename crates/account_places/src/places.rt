@@ -1,5 +1,7 @@
 //! Where accounts stand: each account that comes has the next place.
-ghost use Rattle.std.specs.Prelude.{◌≡◌, ◌<◌, [], ◌∷◌, ◌++◌, None, Some, OnErr, OnOk, length, slice_get};
+ghost use Rattle.std.specs.Prelude.{◌≡◌, ◌<◌, [], ◌∷◌, ◌++◌, None, Some, OnErr, OnOk, IfOk, length, slice_get, count_by};
+ghost use Rattle.std.specs.Map.{keys_of};
+ghost use Rattle.std.specs.Ordering.{is_lt};
 ghost use Rattle.std.specs.BTreeMap.{insert_entry};
 ghost use Rattle.npos_base.specs.Account.{account_cmp};
 ghost use Rattle.account_places.specs.Places.{place_in, by_account, Stand};
@@ -8,6 +10,7 @@ ghost use Rattle.account_places.specs.Index.{Finds, StandOnce};
 use crate::index::{Index, stands_at};
 use npos_base::{AccountId, NoMemory};
 use std::alloc::Global;
+use std::collections::BTreeMap;
 use std::marker::Model;
 
 /// The places of accounts, each of which keeps its own for good. Contracts see the accounts in the
@@ -81,6 +84,31 @@ impl Places {
         self.accounts[place]
     }
 
+    /// The accounts with their places, by rising account.
+    pub fn by_account(&self, alloc: Global) -> Result<BTreeMap<AccountId, usize>, NoMemory>
+        ensures { IfOk result (λ places. places.entries ≡ by_account self.now) }
+    {
+        let mut places = BTreeMap::new(alloc);
+        for (place, account) in self.accounts.iter().enumerate() {
+            places.insert(*account, place)?;
+        }
+        Ok(places)
+    }
+
+    /// The account with this many below it. It takes no memory and may look at all pairs of
+    /// accounts.
+    pub fn in_order(&self, rank: usize) -> AccountId
+        requires { rank < length (by_account self.now) }
+        ensures { slice_get (keys_of (by_account self.now)) rank ≡ Some result }
+    {
+        for account in &self.accounts {
+            if count_below(self.accounts.as_slice(), *account) == rank {
+                return *account;
+            }
+        }
+        unreachable!()
+    }
+
     /// Gives the next place to an account that has none.
     pub fn put(&mut self, who: AccountId) -> Result<(), NoMemory>
         requires { place_in (by_account self.old) who ≡ None }
@@ -117,4 +145,11 @@ fn widen(alloc: Global, index: &mut Index, accounts: &[AccountId])
         return;
     };
     *index = wider;
+}
+
+/// How many of the accounts are below this one.
+fn count_below(accounts: &[AccountId], who: AccountId) -> usize
+    ensures { result ≡ count_by (λ account. is_lt (account_cmp account who)) accounts.now }
+{
+    accounts.iter().filter(|account| **account < who).count()
 }

@@ -173,16 +173,9 @@ fn list_entry(
 {
     if !kept.is_empty() {
         let entry = entry_of(alloc, voter, stake, kept)?;
-        put(&mut groups[kept.len() - 1], entry)?;
+        groups[kept.len() - 1].put(entry)?;
     }
     Ok(())
-}
-
-/// Appends the entry.
-fn put(group: &mut List<Entry>, entry: Entry) -> Result<(), NoMemory>
-    ensures { OnOk result (group.new ≡ group.old ++ entry ∷ []) }
-{
-    group.push(entry).map_err(|_| NoMemory)
 }
 
 /// As many empty groups as a solution has.

@@ -12,3 +12,6 @@ pub mod OrderLemmas
 pub mod SoundLemmas
 pub mod EventLemmas
 pub mod DeferredLemmas
+pub mod RecordLemmas
+pub mod WholeLemmas
+pub mod BackedLemmas

@@ -92,7 +92,7 @@ one b = cond b 1 0
 abbrev pub pair_count : Edge → List Edge → ℕ
 pair_count pair edges = sum_by (λ edge. one (same_pair pair edge)) edges
 
-both : (a b : Bool) → (a && b) ≡ true → (a ≡ true) × (b ≡ true)
+pub both : (a b : Bool) → (a && b) ≡ true → (a ≡ true) × (b ≡ true)
 both true b e = (refl, e)
 both false b e = absurd (true≢false (sym e))
 
@@ -247,13 +247,13 @@ filters_swap p q (e ∷ es) = at (p e) (q e) refl refl (filters_swap p q es) whe
   at false true is also rest = ap (λ b. cond b (e ∷ filter p (filter q es)) (filter p (filter q es))) is ∙ rest
   at false false is also rest = rest
 
-kept_by_voter : (p : Edge → Bool) (n : ℕ) (edges : List Edge) → filter p (edges_by_voter n edges) ≡ edges_by_voter n (filter p edges)
+pub kept_by_voter : (p : Edge → Bool) (n : ℕ) (edges : List Edge) → filter p (edges_by_voter n edges) ≡ edges_by_voter n (filter p edges)
 kept_by_voter p zero edges = refl
 kept_by_voter p (suc n) edges =
     filter-append p (edges_by_voter n edges) (filter (from n) edges)
     ∙ ap₂ (λ xs ys. xs ++ ys) (kept_by_voter p n edges) (filters_swap p (from n) edges)
 
-same_chunks : (n : ℕ) (xs ys : List Edge) → ((voter : ℕ) → filter (from voter) xs ≡ filter (from voter) ys) → edges_by_voter n xs ≡ edges_by_voter n ys
+pub same_chunks : (n : ℕ) (xs ys : List Edge) → ((voter : ℕ) → filter (from voter) xs ≡ filter (from voter) ys) → edges_by_voter n xs ≡ edges_by_voter n ys
 same_chunks zero xs ys each = refl
 same_chunks (suc n) xs ys each = ap₂ (λ us vs. us ++ vs) (same_chunks n xs ys each) (each n)
 
@@ -282,7 +282,7 @@ length_sum : (xs : List Edge) → length xs ≡ sum_by (λ (edge : Edge). 1) xs
 length_sum [] = refl
 length_sum (x ∷ xs) = omega (arith, length_sum xs, sum_by-cons (λ (edge : Edge). 1) x xs)
 
-filters_join : (p q : Edge → Bool) (edges : List Edge) → filter p (filter q edges) ≡ filter (λ edge. q edge && p edge) edges
+pub filters_join : (p q : Edge → Bool) (edges : List Edge) → filter p (filter q edges) ≡ filter (λ edge. q edge && p edge) edges
 filters_join p q [] = refl
 filters_join p q (e ∷ es) = at (q e) refl (filters_join p q es) where
   at : (b : Bool) → q e ≡ b → filter p (filter q es) ≡ filter (λ edge. q edge && p edge) es

@@ -1,12 +1,18 @@
 -- What holds of payouts and slashes, whatever happens to an era book.
-use Rattle.std.specs.Prelude.{◌≡◌, ℕ, ◌+◌, ◌≤◌, List}
+use Rattle.std.specs.Prelude.{◌≡◌, ◌≢◌, ℕ, ◌+◌, ◌≤◌, false, List, [], map, All}
+use Rattle.std.specs.Map.{values_of}
 use Rattle.npos_base.specs.declared.account.AccountId.{AccountId}
+use Rattle.npos_base.specs.declared.figures.Edge.{Edge}
 use Rattle.era_book.specs.declared.exposure.Exposure.{Exposure}
+use Rattle.era_book.specs.Committee.{IsElected, exposure_of}
 use Rattle.era_book.specs.Exposures.{IsSound, exposed_for}
 use Rattle.era_book.specs.Payouts.{payout_of}
 use Rattle.era_book.specs.Slashes.{due}
-use Rattle.era_book.specs.Eras.{Eras, first_era}
-use Rattle.era_book.specs.Events.{Event, IsAccepted, after, AreAccepted, after_all, given_by, pays, makes_due, waiting_for, queues, takes, exposures_of}
+use Rattle.era_book.specs.Eras.{Eras, first_era, is_unknown, members_in, AreKept}
+use Rattle.era_book.specs.declared.record.MemberRecord.{MemberRecord}
+use Rattle.era_book.specs.Members.{Members}
+use Rattle.era_book.specs.Records.{record_of, records_in, members_from, era_put, bare_at, IsBacked, AreWhole, AreEras}
+use Rattle.era_book.specs.Events.{Event, Started, IsAccepted, after, AreAccepted, after_all, given_by, pays, makes_due, waiting_for, queues, takes, exposures_of}
 use Rattle.era_book.specs.Course.{AreInOrder, paid_before, due_before, held_in}
 
 -- a validator and its backers are paid at most what is to be paid to them
@@ -56,3 +62,44 @@ abbrev pub WaitingLaw : Type 0
 WaitingLaw = (who : AccountId) (events : List Event) (eras : Eras) →
     given_by (takes who) events eras + waiting_for who (after_all events eras).queue
     ≤ waiting_for who eras.queue + given_by (queues who) events eras
+
+-- what a value stands for is told by it, and every member of an era that is put is shown by it as
+-- it was put; each other era is as it was
+abbrev pub PutLaw : Type 0
+PutLaw = (eras : Eras) (era : ℕ) (values : List MemberRecord) → AreKept eras →
+    is_unknown eras era ≡ false →
+    (records_in (era_put era values eras) era ≡ values)
+    × ((other : ℕ) → other ≢ era → members_in (era_put era values eras) other ≡ members_in eras other)
+
+-- whole members are made anew from their values
+abbrev pub ValuesLaw : Type 0
+ValuesLaw = (members : Members) → AreWhole members →
+    members_from (map record_of (values_of members)) ≡ members
+
+-- in a bare book nobody is exposed
+abbrev pub BareLaw : Type 0
+BareLaw = (current next era : ℕ) → members_in (bare_at current next) era ≡ []
+
+-- eras are told by their number, their members, and what waits
+abbrev pub SameErasLaw : Type 0
+SameErasLaw = (one other : Eras) → AreKept one → AreKept other → one.current ≡ other.current →
+    one.queue ≡ other.queue → one.next_slash ≡ other.next_slash →
+    ((era : ℕ) → members_in one era ≡ members_in other era) → one ≡ other
+
+-- where an era begins, its exposures are backed
+abbrev pub BringsBacked : Event → Type 0
+BringsBacked (Started exposures) = All IsBacked exposures
+BringsBacked event = Unit {0}
+
+-- in every era the members are whole from the start on, whatever happens, as long as the exposures
+-- with which eras begin are backed
+abbrev pub WholeLaw : Type 0
+WholeLaw = AreEras first_era
+    × ((event : Event) (eras : Eras) → IsAccepted event eras → BringsBacked event → AreKept eras →
+    AreEras eras → AreEras (after event eras))
+
+-- the exposures of an elected committee are backed
+abbrev pub BackedLaw : Type 0
+BackedLaw = (targets voters : List AccountId) (commissions supports : List ℕ) (edges : List Edge)
+    (members : List ℕ) → IsElected targets voters commissions supports edges members →
+    All IsBacked (map (exposure_of targets commissions supports voters edges) members)

@@ -5,6 +5,7 @@ pub mod Members
 pub mod Eras
 pub mod Calls
 pub mod Deferred
+pub mod Records
 pub mod Owed
 pub mod Reasons
 pub mod Events

@@ -1,5 +1,5 @@
 //! The eras that are kept.
-ghost use Rattle.std.specs.Prelude.{◌≡◌, ◌≤◌, ◌<◌, ◌-◌, ◌^◌, length, map, position, None, is_none, IfSome, IfOk, OnOk, OnErr, IfErr};
+ghost use Rattle.std.specs.Prelude.{◌≡◌, ◌≤◌, ◌<◌, ◌-◌, ◌^◌, [], length, map, replicate, position, None, is_none, IfSome, IfOk, OnOk, OnErr, IfErr};
 ghost use Rattle.std.specs.Option.{option_copied};
 ghost use Rattle.npos_base.specs.Refusal.{MeetsAlways, answer_of};
 ghost use Rattle.era_book.specs.Owed.{IsDue, Meets};
@@ -7,10 +7,11 @@ ghost use Rattle.era_book.specs.Exposures.{amount_sum, AreApart, AreSound};
 ghost use Rattle.era_book.specs.Committee.{IsElected, edges_by_voter, exposure_of};
 ghost use Rattle.era_book.specs.Eras.{first_era, started, begun_with, member_in, era_of, is_unknown, OthersStay, EarlierStay, HasExposures, HasNoOther, AreMembers, AreKept};
 ghost use Rattle.era_book.specs.Calls.{points_refusal, pointed, payout_refusal, payout_in, IsUnclaimed, paid, slash_refusal, slash_in, IsBelow, reported};
+ghost use Rattle.era_book.specs.Records.{bare_at, records_in, AreMembersFor, era_put, CanJoin, slash_put};
 ghost use Rattle.era_book.specs.Deferred.{has_number, queue_refusal, queueing, IsQueueable, cancel_refusal, cancelling, next_due, without_next_due, AreQueued};
 
 use crate::era::Era;
-use crate::{Backer, DeferredSlash, EraRefusal, Exposure, MOST_SLASHES, Payout};
+use crate::{Backer, DeferredSlash, EraRefusal, Exposure, MOST_SLASHES, MemberRecord, Payout};
 use npos_base::{AccountId, Edge, List, MOST_PAST_ERAS, NoMemory, WHOLE_FRACTION};
 use std::alloc::Global;
 use std::marker::Model;
@@ -62,6 +63,17 @@ fn place_of(slashes: &[DeferredSlash], number: u64) -> Option<usize>
     slashes.iter().position(|slash| slash.number == number)
 }
 
+/// So many eras without members.
+fn empty_eras(alloc: Global, count: usize) -> Result<Vec<Era>, NoMemory>
+    ensures { IfOk result (λ eras. eras.items ≡ replicate count []) }
+{
+    let mut eras = Vec::with_capacity(alloc, count)?;
+    for _ in 0..count {
+        eras.push(Era::new(alloc))?;
+    }
+    Ok(eras)
+}
+
 impl EraBook {
     /// The book at era 0, which has no exposure. It takes no memory.
     pub fn new(alloc: Global) -> EraBook
@@ -74,6 +86,52 @@ impl EraBook {
             earlier: Vec::new(alloc),
             queue: Vec::new(alloc),
             next_slash: 1,
+        }
+    }
+
+    /// The book at an era, in which nobody was ever exposed and no slash waits. The next slash has
+    /// this number.
+    pub fn at_era(alloc: Global, current: u32, next_slash: u64) -> Result<EraBook, NoMemory>
+        requires { 1 ≤ next_slash }
+        ensures { IfOk result (λ book. book ≡ bare_at current next_slash) }
+    {
+        let past = current.min(MOST_PAST_ERAS) as usize;
+        let earlier = empty_eras(alloc, past)?;
+        Ok(EraBook {
+            alloc,
+            current,
+            latest: Era::new(alloc),
+            earlier,
+            queue: Vec::new(alloc),
+            next_slash,
+        })
+    }
+
+    /// The era has these members, in place of any that it had: it is the current one or one of the
+    /// 84 before it, the members rise strictly by account, no commission is above the whole, no
+    /// account backs one member twice, and each support is the sum of its backers' amounts.
+    pub fn put_era(&mut self, era: u32, members: List<MemberRecord>) -> Result<(), NoMemory>
+        requires { AreMembersFor self.old era members }
+        ensures ok { OnOk result (self.new ≡ era_put era members self.old) }
+        ensures err { OnErr result (self.new ≡ self.old) }
+    {
+        let members = Era::with_values(self.alloc, members)?;
+        let age = (self.current - era) as usize;
+        if age == 0 {
+            self.latest = members;
+        } else {
+            self.earlier[age - 1] = members;
+        }
+        Ok(())
+    }
+
+    /// The members of an era as values, by rising account. An era that is not kept has none.
+    pub fn era_members(&self, alloc: Global, era: u32) -> Result<List<MemberRecord>, NoMemory>
+        ensures { IfOk result (λ members. members ≡ records_in self.now era) }
+    {
+        match self.era(era) {
+            Some(members) => members.values(alloc),
+            None => Ok(List::new(alloc)),
         }
     }
 
@@ -287,11 +345,30 @@ impl EraBook {
         }
         let number = self.next_slash;
         let slash = DeferredSlash { number, due, lines };
-        if self.queue.push(slash).is_err() {
-            return Err(EraRefusal::NoMemory);
+        if let Err(refused) = self.queue.push(slash) {
+            return Err(EraRefusal::from(NoMemory::from(refused)));
         }
         self.next_slash += 1;
         Ok(number)
+    }
+
+    /// The slash waits behind the others, under the number that it has: that is above theirs and
+    /// below the next one. It is not due before them, fewer than 256 wait, and no account has two of
+    /// its lines.
+    pub fn put_slash(&mut self, slash: DeferredSlash) -> Result<(), NoMemory>
+        requires { CanJoin slash self.old }
+        ensures ok { OnOk result (self.new ≡ slash_put slash self.old) }
+        ensures err { OnErr result (self.new ≡ self.old) }
+    {
+        self.queue.push(slash)?;
+        Ok(())
+    }
+
+    /// The number that the next queued slash takes.
+    pub fn next_slash(&self) -> u64
+        ensures { result ≡ self.now.next_slash }
+    {
+        self.next_slash
     }
 
     /// The slash of this number waits no more. It takes no memory, and refuses with `NoSlash` where

@@ -4,15 +4,19 @@ ghost use Rattle.std.specs.List.{list_all};
 ghost use Rattle.era_book.specs.Payouts.{part};
 ghost use Rattle.era_book.specs.Members.{member_of, members_with, with_points, with_member, total_points};
 ghost use Rattle.era_book.specs.Committee.{IsElected, edges_by_voter, exposure_of};
+ghost use Rattle.std.specs.List.Sorted.{IsStrictlySortedBy};
+ghost use Rattle.std.specs.Map.{keys_of, values_of};
+ghost use Rattle.npos_base.specs.Account.{account_cmp};
+ghost use Rattle.era_book.specs.Records.{members_from, record_of};
 ghost use Rattle.era_book.specs.Calls.{claiming, keeping};
 
-use crate::Exposure;
 use crate::elected::seats_by_voter;
 use crate::member::Member;
 use crate::members::{claim, gain, keep};
 use crate::names::Names;
 use crate::seat::Seat;
-use npos_base::{AccountId, Edge, List, NoMemory};
+use crate::{Exposure, MemberRecord};
+use npos_base::{AccountId, Edge, List, NoMemory, Room};
 use std::alloc::Global;
 use std::collections::BTreeMap;
 use std::marker::Model;
@@ -70,6 +74,42 @@ impl Era {
             members,
             points: 0,
         })
+    }
+
+    /// The members that these values stand for, whose accounts rise strictly.
+    pub fn with_values(alloc: Global, values: List<MemberRecord>) -> Result<Era, NoMemory>
+        requires { IsStrictlySortedBy account_cmp (keys_of (members_from values)) }
+        ensures { IfOk result (λ era. era ≡ members_from values) }
+    {
+        if values.is_empty() {
+            return Ok(Era::new(alloc));
+        }
+        let mut names = Names::new(alloc)?;
+        let mut members = BTreeMap::new(alloc);
+        let mut points = 0;
+        for value in values.into_vec() {
+            let seat = Seat::of(alloc, &mut names, &value)?;
+            members.insert(value.exposure.validator, seat)?;
+            points += u128::from(value.points);
+        }
+        let accounts = names.accounts(alloc)?;
+        Ok(Era {
+            accounts,
+            members,
+            points,
+        })
+    }
+
+    /// The members as values, by rising account.
+    pub fn values(&self, alloc: Global) -> Result<List<MemberRecord>, NoMemory>
+        ensures { IfOk result (λ values. values ≡ map record_of (values_of self.now)) }
+    {
+        let mut values = Room::with_room(alloc, self.members.len())?;
+        for seat in self.members.values() {
+            let value = seat.value(alloc, self.accounts.as_slice())?;
+            values.push_within(value);
+        }
+        Ok(values.into_list())
     }
 
     /// The members of an era that begins with an elected committee, with their exposures by the

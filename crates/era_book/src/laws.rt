@@ -1,6 +1,6 @@
 //! What holds of payouts and slashes. Each law is the contract of a function that does nothing.
 ghost use Rattle.era_book.specs.Committee.{SupportLaw, SpentLaw, BackersLaw, SoundLaw, OrderLaw};
-ghost use Rattle.era_book.specs.Laws.{PayoutLaw, TelescopeLaw, RewardLaw, DueLaw, InOrderLaw, RewardOnLaw, DueOnLaw, WaitingLaw};
+ghost use Rattle.era_book.specs.Laws.{PayoutLaw, TelescopeLaw, RewardLaw, DueLaw, InOrderLaw, RewardOnLaw, DueOnLaw, WaitingLaw, PutLaw, ValuesLaw, BareLaw, SameErasLaw, WholeLaw, BackedLaw};
 
 /// A validator and its backers together are paid at most what is to be paid to them: each part is
 /// rounded down.
@@ -61,4 +61,20 @@ pub fn exposures_are_the_edges()
     ensures distinct { BackersLaw }
     ensures sound { SoundLaw }
     ensures order { OrderLaw }
+{}
+
+/// Eras are made anew from what they show: a book at their number without members gets the members
+/// of each, which it then shows, and is the book that they were in.
+pub fn eras_are_made_anew_from_their_members()
+    ensures put { PutLaw }
+    ensures values { ValuesLaw }
+    ensures bare { BareLaw }
+    ensures same { SameErasLaw }
+{}
+
+/// Whatever happens to an era book, the members of each era stay whole, and era 0 has none, as long
+/// as the exposures with which eras begin are backed; those of an elected committee are.
+pub fn members_stay_whole()
+    ensures whole { WholeLaw }
+    ensures backed { BackedLaw }
 {}

@@ -1,12 +1,13 @@
 //! How a member is kept: its backers by the places of their accounts.
-ghost use Rattle.std.specs.Prelude.{◌≡◌, ◌+◌, List as list, IfOk};
+ghost use Rattle.std.specs.Prelude.{◌≡◌, ◌+◌, ◌<◌, ◌^◌, List as list, IfOk};
 ghost use Rattle.npos_base.specs.declared.account.AccountId.{AccountId};
 ghost use Rattle.era_book.specs.Committee.{account_at};
 ghost use Rattle.era_book.specs.Members.{newcomer, gaining};
+ghost use Rattle.era_book.specs.Records.{member_from, record_of};
 ghost use Rattle.era_book.specs.Seats.{Grows, AreWithin, backers_seen, member_seen};
 
 use crate::names::Names;
-use crate::{Backer, Exposure};
+use crate::{Backer, Exposure, MemberRecord};
 use npos_base::{AccountId, List, NoMemory, Room};
 use std::alloc::Global;
 
@@ -53,6 +54,50 @@ impl Seat {
         })
     }
 
+    /// The member that the value stands for. The accounts of its backers are named.
+    pub fn of(alloc: Global, names: &mut Names, value: &MemberRecord) -> Result<Seat, NoMemory>
+        ensures grows { Grows names.old names.new }
+        ensures seen { IfOk result
+            (λ seat. member_seen names.new seat ≡ member_from value.now) }
+        ensures within { IfOk result (λ seat. AreWithin names.new seat.shares) }
+        ensures points { IfOk result (λ seat. seat.points < 2 ^ 32) }
+    {
+        let seat = Seat::new(alloc, names, &value.exposure)?;
+        Ok(seat.later(value.points, value.claimed, value.fraction))
+    }
+
+    /// The seat after this became of its member.
+    fn later(self, points: u32, claimed: bool, fraction: u32) -> Seat
+        ensures seat { result
+            ≡ record self { points = points; claimed = claimed; fraction = fraction } }
+        ensures points { result.points < 2 ^ 32 }
+    {
+        let mut seat = self;
+        seat.points = points;
+        seat.claimed = claimed;
+        seat.fraction = fraction;
+        seat
+    }
+
+    /// The member as a value, with the accounts of its backers by place.
+    pub fn value(&self, alloc: Global, accounts: &[AccountId]) -> Result<MemberRecord, NoMemory>
+        ensures { IfOk result (λ value. value ≡ record_of (member_seen accounts.now self.now)) }
+    {
+        let backers = backers_at(alloc, accounts, self.shares.as_slice())?;
+        let exposure = Exposure {
+            validator: self.validator,
+            commission: self.commission,
+            support: self.support,
+            backers,
+        };
+        Ok(MemberRecord {
+            exposure,
+            points: self.points,
+            claimed: self.claimed,
+            fraction: self.fraction,
+        })
+    }
+
     /// Adds the points, up to the most that a member can have, and answers how many those were.
     pub fn gain(&mut self, points: u32) -> u32
         ensures member { (accounts : list AccountId) → member_seen accounts self.new
@@ -80,6 +125,24 @@ fn named(alloc: Global, names: &mut Names, backers: &[Backer]) -> Result<List<Sh
         });
     }
     Ok(shares.into_list())
+}
+
+/// The backers whose accounts stand at these places.
+fn backers_at(
+    alloc: Global,
+    accounts: &[AccountId],
+    shares: &[Share],
+) -> Result<List<Backer>, NoMemory>
+    ensures { IfOk result (λ backers. backers ≡ backers_seen accounts.now shares.now) }
+{
+    let mut backers = Room::with_room(alloc, shares.len())?;
+    for share in shares {
+        backers.push_within(Backer {
+            who: account_at(accounts, share.place),
+            amount: share.amount,
+        });
+    }
+    Ok(backers.into_list())
 }
 
 /// The account at the place.

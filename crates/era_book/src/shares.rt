@@ -84,12 +84,8 @@ fn gather(
 fn put(shares: &mut List<Share>, edge: Edge) -> Result<(), NoMemory>
     ensures ok { OnOk result (shares.new ≡ shares.old ++ share_of edge ∷ []) }
 {
-    let share = Share {
+    shares.put(Share {
         place: edge.voter,
         amount: edge.amount,
-    };
-    match shares.push(share) {
-        Ok(()) => Ok(()),
-        Err(_) => Err(NoMemory),
-    }
+    })
 }

@@ -8,7 +8,7 @@ ghost use Rattle.npos_cli.specs.Status.{number_of};
 ghost use Rattle.npos_cli.specs.Ran.{traffic};
 ghost use Rattle.npos_cli.specs.Says.{Says};
 
-use npos_base::{Sink, Source, StdinSource, StdoutSink};
+use npos_base::{NoMemory, Sink, Source, StdinSource, StdoutSink};
 use npos_cli::{Status, run};
 use std::alloc::Global;
 use std::env;
@@ -29,16 +29,16 @@ fn words(rt: &HostRuntime) -> Result<Vec<String>, u8> {
     };
     let mut words = Vec::new(rt.alloc());
     for word in args {
-        if words.push(word).is_err() {
-            return Err(Status::NoMemory.number());
+        if let Err(refused) = words.push(word) {
+            return Err(Status::from(NoMemory::from(refused)).number());
         }
     }
     Ok(words)
 }
 
 /// Runs the program over its words and ends with the number of its status, of which all holds that
-/// `run` says. Where there are no words
-/// it ends with the status that says why, and reads and writes nothing.
+/// `run` says. Where there are no words it ends with the status that says why, and reads and writes
+/// nothing.
 fn finish<S: Source, K: Sink>(
     alloc: Global,
     words: Result<Vec<String>, u8>,

@@ -1,5 +1,5 @@
 -- Entries by rising key, after one is put in.
-use Rattle.std.proofs.Common.{◌≡◌, false, cond, List, [], ◌∷◌, refl, ap, sym, ◌∙◌, Some, None}
+use Rattle.std.proofs.Common.{◌≡◌, false, cond, List, [], ◌∷◌, ◌++◌, refl, ap, sym, ◌∙◌, Some, None}
 use Rattle.std.specs.BTreeMap.{insert_entry, is_at}
 use Rattle.std.specs.Cmp.{IsTotalOrder}
 use Rattle.std.specs.List.{AllByRecursion}
@@ -10,7 +10,7 @@ use Rattle.std.specs.declared.cmp.Ordering.{Ordering}
 use Rattle.std.specs.declared.cmp.Ordering.TheVariants.{Less, Equal, Greater}
 use Rattle.std.proofs.lemmas.Map.{lookup-none}
 use Rattle.std.proofs.lemmas.Map.Entries.{none_below_head}
-use Rattle.std.proofs.lemmas.Map.Keys.{sorted_tail}
+use Rattle.std.proofs.lemmas.Map.Keys.{sorted_head, sorted_tail}
 use Rattle.std.proofs.lemmas.Cmp.{tied_itself, alike_right}
 
 module _ {K X : Type 0} {R : K → K → Ordering} (o : IsTotalOrder R) (k : K) (v : X) where
@@ -92,3 +92,23 @@ module _ {K X : Type 0} {R : K → K → Ordering} (o : IsTotalOrder R) (k : K) 
   pub taken_back : (es : List (K × X)) → lookup (is_at (R k)) es ≡ None → remove_entry (is_at (R k)) (insert_entry R es k v) ≡ es
   taken_back [] none = rw (tied_itself o k) refl
   taken_back (e ∷ es) none = taken_at e es (R k e.0) refl none (taken_back es)
+
+  all_behind : (P : K → Type 0) (es rest : List (K × X)) → AllByRecursion P (keys_of (es ++ (k, v) ∷ rest)) → P k
+  all_behind P [] rest all = all.0
+  all_behind P (e ∷ es) rest all = all_behind P es rest all.1
+
+  -- a key that is above all others is put behind them
+  pub last_put : (es rest : List (K × X)) → IsStrictlySortedBy R (keys_of (es ++ (k, v) ∷ rest)) → insert_entry R es k v ≡ es ++ (k, v) ∷ []
+  last_put [] rest s = refl
+  last_put (e ∷ es) rest s =
+      let above : R k e.0 ≡ Greater =
+      o.antisymm k e.0 ∙ ap ordering_reverse (all_behind (λ y. R e.0 y ≡ Less) es rest (sorted_head R e.0 (keys_of (es ++ (k, v) ∷ rest)) s)) in
+      rw above (ap (λ l. e ∷ l) (last_put es rest (sorted_tail R e.0 (keys_of (es ++ (k, v) ∷ rest)) s)))
+
+  -- and was not among them
+  pub last_new : (es rest : List (K × X)) → IsStrictlySortedBy R (keys_of (es ++ (k, v) ∷ rest)) → lookup (is_at (R k)) es ≡ None
+  last_new [] rest s = refl
+  last_new (e ∷ es) rest s =
+      let above : R k e.0 ≡ Greater =
+      o.antisymm k e.0 ∙ ap ordering_reverse (all_behind (λ y. R e.0 y ≡ Less) es rest (sorted_head R e.0 (keys_of (es ++ (k, v) ∷ rest)) s)) in
+      rw above (last_new es rest (sorted_tail R e.0 (keys_of (es ++ (k, v) ∷ rest)) s))

@@ -1,5 +1,5 @@
 -- Readers and writers as sources and sinks.
-use Rattle.std.specs.Prelude.{⊤, ℕ, ◌-◌, List, length, Option, Some, None}
+use Rattle.std.specs.Prelude.{◌≡◌, ℕ, ◌-◌, Bool, true, false, List, length, Option, None, IsSome, option_map}
 use Rattle.npos_base.specs.Outside.{Told}
 
 -- the bytes that are left, where they are told, and the count of faults
@@ -12,15 +12,12 @@ pub record Taken : Type 0 where
   pub told : Option Told
   pub faults : ℕ
 
--- what a writer holds, all but the last bytes of which were flushed; nothing where it does not
--- tell, or is not to
-abbrev pub told_by : Option (List ℕ) → Option ℕ → Option Told
-told_by None unflushed = None
-told_by (Some held) None = None
-told_by (Some held) (Some unflushed) = Some record { written = held; flushed = length held - unflushed }
+-- what a writer holds, all but the last bytes of which were flushed; nothing where it is not told
+abbrev pub told_by : Bool → Option (List ℕ) → ℕ → Option Told
+told_by false held unflushed = None
+told_by true held unflushed =
+    option_map (λ written. record { written = written; flushed = length written - unflushed }) held
 
--- a writer that is to tell what it holds tells it
-abbrev pub Tells : Option (List ℕ) → Option ℕ → Type 0
-Tells held None = ⊤
-Tells None (Some unflushed) = ⊥
-Tells (Some held) (Some unflushed) = ⊤
+-- a writer whose bytes are to be told tells them
+abbrev pub Tells : Bool → Option (List ℕ) → Type 0
+Tells is_told held = is_told ≡ true → IsSome held

@@ -7,3 +7,4 @@ pub mod Outside
 pub mod Refusal
 pub mod Room
 pub mod Score
+pub mod Limits

@@ -4,6 +4,7 @@ ghost use Rattle.std.specs.Prelude.{◌≡◌, ◌↔◌, IsTrue, true, false};
 ghost use Rattle.std.specs.Ordering.{nat_cmp, is_eq};
 ghost use Rattle.std.specs.Cmp.Lexicographic.{slice_cmp};
 ghost use Rattle.npos_base.specs.Account.{account_bytes, account_of, account_cmp, same_account};
+ghost use Rattle.npos_base.specs.Limits.{AreTheLimits};
 ghost use Rattle.npos_base.specs.Score.{is_better};
 
 use crate::{AccountId, Score};
@@ -72,3 +73,8 @@ pub fn scores_that_tie_are_equal(a: &Score, b: &Score)
     let _a = *a;
     let _b = *b;
 }
+
+/// The limits that the code names are these numbers.
+pub fn the_limits_are_these()
+    ensures { AreTheLimits }
+{}

@@ -27,4 +27,4 @@ pub use no_memory::{NoMemory, Reason};
 pub use outside::{Failed, PutFault, Sink, Source, put_all};
 pub use plain::{PlainSink, PlainSource};
 pub use room::Room;
-pub use standard::{ReadSource, StdinSource, StdoutSink, WriteSink};
+pub use standard::{ReadSource, StdinSource, StdoutSink, Unwatched, Watch, Watched, WriteSink};

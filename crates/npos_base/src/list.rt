@@ -1,6 +1,7 @@
 //! A list that grows at its end.
 ghost use Rattle.std.specs.Prelude.{◌≡◌, ◌↔◌, [], ◌∷◌, ◌++◌, length, IsTrue, OnOk, IfErr, OnErr};
 
+use crate::NoMemory;
 use std::alloc::Global;
 use std::marker::Model;
 
@@ -74,5 +75,16 @@ impl<T> List<T> {
     {
         let List { items } = self;
         items
+    }
+}
+
+impl<T: Drop> List<T> {
+    /// Appends the item, which is let go for want of memory.
+    pub fn put(&mut self, item: T) -> Result<(), NoMemory>
+        ensures ok { OnOk result (self.new ≡ self.old ++ item ∷ []) }
+        ensures err { OnErr result (self.new ≡ self.old) }
+    {
+        self.items.push(item)?;
+        Ok(())
     }
 }

@@ -1,13 +1,12 @@
 //! The kit's readers and writers as sources and sinks. They tell what the reader and the writer
 //! tell. Standard input and output tell nothing: which bytes those give or take is trusted.
-ghost use Rattle.std.specs.Prelude.{◌≡◌, ◌+◌, ◌<◌, ◌^◌, true, Some, None, IfSome, IsSome};
-ghost use Rattle.std.specs.Option.{option_map};
+ghost use Rattle.std.specs.Prelude.{◌≡◌, Bool, true, false, IsSome};
 ghost use Rattle.npos_base.specs.Adapted.{Given, Taken, told_by};
 
 use crate::outside::fault;
 use crate::{Failed, Sink, Source};
 use std::io::{Read, Stdin, Stdout, Write};
-use std::marker::Model;
+use std::marker::{Model, PhantomData};
 
 /// A reader as a source. Contracts see the bytes that the reader has left, where it tells them, and
 /// the count of faults.
@@ -50,88 +49,69 @@ impl<R: Read> Source for ReadSource<R> {
     }
 }
 
+/// Whether contracts are told what a sink took. The sink's code is the same either way, and cannot
+/// know it: so what is proved of it where it is told holds of it where it is not.
+pub trait Watch {
+    ghost is_told: { Bool };
+}
+
+/// What a sink took is told.
+pub struct Watched;
+
+impl Watch for Watched {
+    ghost is_told = { true };
+}
+
+/// What a sink took is not told.
+pub struct Unwatched;
+
+impl Watch for Unwatched {
+    ghost is_told = { false };
+}
+
 /// A writer as a sink. Contracts see what the writer holds and how much of it was flushed, where
 /// that is told, and the count of faults.
 #[derive(Drop)]
-pub struct WriteSink<W: Write> {
+pub struct WriteSink<W: Write, T: Watch> {
     output: W,
     faults: u64,
-    unflushed: Option<u64>,
+    /// How many bytes were written since the last flush.
+    unflushed: u64,
+    watch: PhantomData<T>,
 }
 
 /// Standard output as a sink. It tells no bytes.
-pub type StdoutSink = WriteSink<Stdout>;
+pub type StdoutSink = WriteSink<Stdout, Unwatched>;
 
-impl<W: Write> Model for WriteSink<W> {
+impl<W: Write, T: Watch> Model for WriteSink<W, T> {
     ghost use Rattle.npos_base.specs.Adapted.{Taken, told_by, Tells};
 
     ghost Value = { Taken };
 
     ghost view = { λ s. record {
-      told = told_by (W.contents s.output) s.unflushed;
+      told = told_by T.is_told (W.contents s.output) s.unflushed;
       faults = s.faults;
     } };
 
-    ghost invariant = { λ s. Tells (W.contents s.output) s.unflushed };
+    ghost invariant = { λ s. Tells T.is_told (W.contents s.output) };
 }
 
-impl<W: Write> WriteSink<W> {
-    /// A sink over a writer that tells nothing, whether or not the writer does.
-    pub fn new(output: W) -> WriteSink<W>
-        ensures { result ≡ record { told = None; faults = 0 } }
+impl<W: Write, T: Watch> WriteSink<W, T> {
+    /// A sink over a writer. What the writer holds already counts as flushed.
+    pub fn new(output: W) -> WriteSink<W, T>
+        requires { T.is_told ≡ true → IsSome (W.contents output) }
+        ensures { result ≡ record { told = told_by T.is_told (W.contents output) 0; faults = 0 } }
     {
         WriteSink {
             output,
             faults: 0,
-            unflushed: None,
-        }
-    }
-
-    /// A sink over a writer that tells what it holds. That counts as flushed.
-    pub fn telling(output: W) -> WriteSink<W>
-        requires { IsSome (W.contents output) }
-        ensures { result ≡ record { told = told_by (W.contents output) (Some 0); faults = 0 } }
-    {
-        WriteSink {
-            output,
-            faults: 0,
-            unflushed: Some(0),
+            unflushed: 0,
+            watch: PhantomData,
         }
     }
 }
 
-/// Whether so many more bytes can be counted.
-fn has_room(unflushed: Option<u64>, more: usize) -> bool
-    ensures { result ≡ true → IfSome unflushed (λ n. n + more < 2 ^ 64) }
-{
-    match unflushed {
-        Some(before) => before.checked_add(more as u64).is_some(),
-        None => true,
-    }
-}
-
-/// The count after so many more bytes.
-fn after_write(unflushed: Option<u64>, count: usize) -> Option<u64>
-    requires { IfSome unflushed (λ n. n + count < 2 ^ 64) }
-    ensures { result ≡ option_map (λ n. n + count) unflushed }
-{
-    match unflushed {
-        Some(before) => Some(before + count as u64),
-        None => None,
-    }
-}
-
-/// The count after a flush.
-fn after_flush(unflushed: Option<u64>) -> Option<u64>
-    ensures { result ≡ option_map (λ _. 0) unflushed }
-{
-    match unflushed {
-        Some(_) => Some(0),
-        None => None,
-    }
-}
-
-impl<W: Write> Sink for WriteSink<W> {
+impl<W: Write, T: Watch> Sink for WriteSink<W, T> {
     ghost told = { λ sink. sink.told };
 
     ghost faults = { λ sink. sink.faults };
@@ -139,12 +119,12 @@ impl<W: Write> Sink for WriteSink<W> {
     /// A write that takes nothing of a piece that has bytes counts as a fault, and so does one
     /// whose bytes cannot be counted any more.
     fn write(&mut self, piece: &[u8]) -> Result<usize, Failed> {
-        if !has_room(self.unflushed, piece.len()) {
+        if self.unflushed.checked_add(piece.len() as u64).is_none() {
             return Err(fault(&mut self.faults));
         }
         match self.output.write(piece) {
             Ok(count) if count > 0 || piece.is_empty() => {
-                self.unflushed = after_write(self.unflushed, count);
+                self.unflushed += count as u64;
                 Ok(count)
             }
             _ => Err(fault(&mut self.faults)),
@@ -154,7 +134,7 @@ impl<W: Write> Sink for WriteSink<W> {
     fn flush(&mut self) -> Result<(), Failed> {
         match self.output.flush() {
             Ok(()) => {
-                self.unflushed = after_flush(self.unflushed);
+                self.unflushed = 0;
                 Ok(())
             }
             Err(_) => Err(fault(&mut self.faults)),

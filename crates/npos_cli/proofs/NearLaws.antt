@@ -1,5 +1,6 @@
 -- No place of a replay comes near 2^64.
 use Rattle.std.proofs.Common.{inl, inr, ◌≡◌, ◌+◌, ◌^◌, ◌<◌, ◌≤◌, ℕ, List, [], ◌∷◌, length, Some, subst, sym, ap, arith}
+use Rattle.scale_wire.specs.FormLaws.{spelled_below, missing_below}
 use Rattle.scale_wire.specs.Reading.{Place, IsRead}
 use Rattle.block_wire.specs.declared.block.Block.{Block}
 use Rattle.block_wire.specs.declared.genesis.Genesis.{Genesis}
@@ -15,11 +16,10 @@ use Rattle.npos_cli.proofs.ChainLaws.{genesis_laws, turn_laws}
 -- a block leads near
 behind_near : (p : Spot Chain) (block : Block) (rest : List ℕ) → IsTurn npos_machine p block rest → IsNear p → IsNear (behind npos_machine p block rest)
 behind_near p block rest is near =
-    let longest : (turn npos_machine).longest < 2 ^ 28 = omega arith in
-    let size = turn_laws.bounded (Some block) is.in_range in
+    let size = spelled_below (turn npos_machine) turn_laws (2 ^ 28) (omega arith) (Some block) is.in_range in
     let number : block.number < 2 ^ 32 = is.in_range.0 in
     let due = due_step p.state block in
-    (omega (arith, number, is.numbered, due), omega (arith, longest, size, due, near.1))
+    (omega (arith, number, is.numbered, due), omega (arith, size, due, near.1))
 
 passes_near : (blocks : List Block) (p q : Spot Chain) (text : List ℕ) → Passes npos_machine blocks p q text → IsNear p → IsNear q
 passes_near [] p q text passes near = subst IsNear (sym passes.0) near
@@ -31,17 +31,14 @@ reaches_near p q text reaches near = passes_near reaches.blocks p q text reaches
 -- where the bytes are cut there are few, so that a piece has room
 pub cut_room : (p : Spot Chain) → IsCutHere npos_machine p → IsNear p → p.at + length p.rest + 65536 < 2 ^ 64
 cut_room p (inl cut) near =
-    let longest : (turn npos_machine).longest < 2 ^ 28 = omega arith in
-    omega (arith, longest, turn_laws.short p.rest cut.0 cut.1, near.0, near.1)
+    omega (arith, missing_below (turn npos_machine) turn_laws (2 ^ 28) (omega arith) p.rest cut.0 cut.1, near.0, near.1)
 cut_room p (inr none) near = omega (arith, ap length none, near.0, near.1)
 
 pub genesis_room : (place : Place) → place.at ≡ 0 → CutsGenesis place.rest → place.at + length place.rest + 65536 < 2 ^ 64
 genesis_room place at cuts =
-    let longest : genesis_form.longest < 2 ^ 23 = omega arith in
-    omega (arith, longest, genesis_laws.short place.rest cuts.0 cuts.1, at)
+    omega (arith, missing_below genesis_form genesis_laws (2 ^ 23) (omega arith) place.rest cuts.0 cuts.1, at)
 
 -- the first block is near
 pub begun_near : (taken : List ℕ) (place : Place) (genesis : Genesis) → IsRead genesis_form (first_place taken) genesis place → place.at ≤ 2 ^ 23 + 2 ^ 28
 begun_near taken place genesis read =
-    let longest : genesis_form.longest < 2 ^ 23 = omega arith in
-    omega (arith, longest, genesis_laws.bounded genesis read.in_range, read.at_is)
+    omega (arith, spelled_below genesis_form genesis_laws (2 ^ 23) (omega arith) genesis read.in_range, read.at_is)

@@ -15,13 +15,9 @@ use Rattle.npos_runtime.specs.Genesis.{genesis_fault, genesis_chain}
 use Rattle.chain_params.specs.Faults.{fault_numbers}
 use Rattle.npos_runtime.specs.Step.{step}
 use Rattle.npos_base.specs.declared.account.AccountId.{AccountId}
-use Rattle.told_lines.specs.Texts.{newline, account_text, amount_text}
+use Rattle.told_lines.specs.Texts.{newline, amount_line, ok_line}
 use Rattle.bundle_reports.specs.Verdicts.{member_line, verdict_line}
 use Rattle.npos_cli.specs.Replay.{Machine}
-
--- an account and an amount behind some words
-abbrev pub amount_line : List ℕ → AccountId → ℕ → List ℕ
-amount_line words who amount = words ++ (account_text who ++ amount_text amount)
 
 abbrev pub line_text : Line → List ℕ
 line_text (lines.Block number) = codes "block " ++ (decimal number ++ newline)
@@ -43,7 +39,7 @@ line_text (lines.SeatSigned round number) = codes "seat "
     ++ (decimal round ++ (codes " signed " ++ (decimal number ++ newline)))
 line_text (lines.SeatFill round) = codes "seat " ++ (decimal round ++ codes " fill\n")
 line_text (lines.Member who support) = member_line who support
-line_text (lines.CallOk index) = codes "call " ++ (decimal index ++ codes " ok\n")
+line_text (lines.CallOk index) = ok_line index
 line_text (lines.Paid who amount) = amount_line (codes "paid ") who amount
 line_text (lines.Slashed who amount) = amount_line (codes "slashed ") who amount
 line_text (lines.Deferred number due) = codes "deferred "

@@ -19,7 +19,8 @@ use Rattle.stake_pools.specs.declared.input.PoolKind.{PoolKind}
 use Rattle.stake_pools.specs.declared.input.PoolKind.TheVariants.{Join, Redeem}
 use Rattle.npos_base.specs.declared.account.AccountId.{AccountId}
 use Rattle.told_lines.specs.Texts.{newline}
-use Rattle.npos_cli.specs.Chain.{amount_line, end_line}
+use Rattle.told_lines.specs.Texts.{amount_line}
+use Rattle.npos_cli.specs.Chain.{end_line}
 use Rattle.npos_cli.specs.Replay.{Machine, Spot, Starts, Reaches}
 
 -- a pool, and how many items were gone through

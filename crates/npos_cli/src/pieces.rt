@@ -43,7 +43,7 @@ pub fn read_more<S: Source>(
     };
     match bytes.extend_from_slice(&piece[..count]) {
         Ok(()) => Ok(count == 0),
-        Err(_) => Err(Halt::NoMemory),
+        Err(refused) => Err(Halt::from(NoMemory::from(refused))),
     }
 }
 

@@ -7,10 +7,10 @@ ghost use Rattle.npos_cli.specs.Texts.{genesis_line};
 ghost use Rattle.npos_cli.specs.Chain.{end_line};
 ghost use Rattle.npos_cli.specs.Pools.{figures_line, pool_line, pool_line_text};
 
-use crate::telling::{tell_amount, tell_counted, tell_end, tell_fault_of_genesis, tell_two};
+use crate::telling::{tell_counted, tell_end, tell_fault_of_genesis, tell_two};
 use npos_base::NoMemory;
 use stake_pools::{Pool, PoolFault, PoolLine};
-use told_lines::{Piece, tell};
+use told_lines::{Piece, tell, tell_amount};
 
 /// Appends the line of a pool's genesis that has a fault. Want of memory is no fault of a genesis,
 /// and has no line.

@@ -1,20 +1,20 @@
 //! The lines of blocks, of their faults, and the end line.
 ghost use Rattle.std.specs.Prelude.{◌≡◌, ◌≢◌, ◌++◌, flat_map, decimal, OnOk};
-ghost use Rattle.told_lines.specs.Texts.{account_text, newline};
+ghost use Rattle.told_lines.specs.Texts.{newline};
 ghost use Rattle.bundle_reports.specs.Texts.{fault_line, word_of};
 ghost use Rattle.npos_cli.specs.Texts.{number_line, genesis_line};
 ghost use Rattle.block_receipts.specs.declared.line.Line.TheVariants as lines;
 ghost use Rattle.chain_params.specs.Faults.{fault_numbers};
 ghost use Rattle.chain_params.specs.declared.fault.GenesisFault.TheVariants as faults;
 ghost use Rattle.told_lines.specs.Pieces.{piece_text};
-ghost use Rattle.npos_cli.specs.Chain.{amount_line, end_line, line_text};
+ghost use Rattle.npos_cli.specs.Chain.{end_line, line_text};
 
 use bundle_reports::{tell_member, tell_verdict};
 use election_check::Verdict;
-use npos_base::{AccountId, NoMemory};
+use npos_base::NoMemory;
 use npos_runtime::{GenesisFault, Line};
 use stake_ledger::Totals;
-use told_lines::{Piece, tell};
+use told_lines::{Piece, tell, tell_amount, tell_ok};
 
 /// Appends the line of a block whose number is not the due one.
 pub fn tell_other_number(text: &mut Vec<u8>, at: u64, due: u64, found: u32) -> Result<(), NoMemory>
@@ -156,26 +156,6 @@ fn tell_forfeit(
     tell_verdict(text, verdict)
 }
 
-/// Appends the line of an account and an amount, behind some words.
-pub fn tell_amount(
-    text: &mut Vec<u8>,
-    words: &'static str,
-    who: AccountId,
-    amount: u64,
-) -> Result<(), NoMemory>
-    ensures { OnOk result
-        (text.new.items ≡ text.old.items ++ amount_line words.now who amount) }
-{
-    tell(
-        text,
-        &[
-            Piece::Words(words),
-            Piece::Account(who),
-            Piece::Amount(amount),
-        ],
-    )
-}
-
 /// Appends one line of a receipt. Each kind of line has a function, since a function clears the
 /// room of all its values where it begins.
 fn tell_line(text: &mut Vec<u8>, line: &Line) -> Result<(), NoMemory>
@@ -204,7 +184,7 @@ fn tell_line(text: &mut Vec<u8>, line: &Line) -> Result<(), NoMemory>
         }
         Line::SeatFill { round } => tell_counted(text, "seat ", u64::from(round), " fill\n"),
         Line::Member { who, support } => tell_member(text, who, u128::from(support)),
-        Line::CallOk { index } => tell_counted(text, "call ", u64::from(index), " ok\n"),
+        Line::CallOk { index } => tell_ok(text, index),
         Line::Paid { who, amount } => tell_amount(text, "paid ", who, amount),
         Line::Slashed { who, amount } => tell_amount(text, "slashed ", who, amount),
         Line::Deferred { number, due } => tell_two(text, "deferred ", number, " ", u64::from(due)),

@@ -21,6 +21,12 @@ pub mod Fates
 pub mod Deposits
 pub mod Seatings
 pub mod Offers
+pub mod Kept
+pub mod KeptState
+pub mod KeptChain
+pub mod Sound
+pub mod SoundLaws
+pub mod KeptLaws
 pub mod Laws
 pub mod EraLaws
 pub mod DeferredLaws

@@ -10,6 +10,8 @@ ghost use Rattle.npos_runtime.specs.Seatings.{SeatingsLaw};
 ghost use Rattle.npos_runtime.specs.Laws.{SoundStepLaw, SeatedSoundLaw, SeatsLaw, HeldLaw, SettledLaw, FateLaw, NoneCrowdedOutLaw};
 ghost use Rattle.npos_runtime.specs.EraLaws.{HistoryLaw, PaidWithinRewardLaw, PaidAsToldLaw, SlashLaw, TakenLaw, OnceLaw, DueWithinStakeLaw};
 ghost use Rattle.npos_runtime.specs.DeferredLaws.{QueuedLaw, AppliedLaw, TakenInAllLaw};
+ghost use Rattle.npos_runtime.specs.KeptLaws.{AlikeStepLaw, AlikeLaw, SameKeptLaw, ToldLaw, ResumeLaw, RestoreLaw, CheckpointLaw};
+ghost use Rattle.npos_runtime.specs.SoundLaws.{BooksStaySound, RolesStaySound, ErasStaySound, RoundStaysSound, SubmissionsStaySound, WaitingStaysSound, SlashesStaySound, StartsSound, KeepsSoundLaw, StaysSoundLaw, NoCauseLaw};
 
 use crate::Runtime;
 use election_check::laws::{a_packed_yes_is_a_plain_yes, a_plain_yes_is_passing};
@@ -129,4 +131,66 @@ pub fn slashes_that_wait_take_what_is_due()
     ensures each { QueuedLaw }
     ensures applied { AppliedLaw }
     ensures together { TakenInAllLaw }
+{}
+
+/// Chains that differ at most in whether a void round stands, and in how the edges of the committee
+/// that waits are put down, take a block and all blocks alike: they tell the same lines, seat the
+/// same committees, and are alike again.
+pub fn chains_that_are_alike_go_on_alike()
+    ensures step { AlikeStepLaw }
+    ensures blocks { AlikeLaw }
+{}
+
+/// Nothing of a later block depends on what a kept state leaves out: chains that keep the same state
+/// take a block alike, and keep the same state again. What the state leaves out of either follows
+/// from it after all blocks that the one can take.
+pub fn equal_states_go_on_alike()
+    ensures step { SameKeptLaw }
+    ensures blocks { ToldLaw }
+{}
+
+/// What is told of a genesis and its blocks is what is told of the first of them, and then what any
+/// chain tells of the others that keeps the state which the first blocks left.
+pub fn a_kept_state_goes_on()
+    ensures { ResumeLaw }
+{}
+
+/// The chain of a state in form keeps that very state, and all else of it follows from the state.
+pub fn a_state_is_led_back_to_its_chain()
+    ensures { RestoreLaw }
+{}
+
+/// After any blocks from a genesis without a fault the state is in form, and its chain goes on.
+pub fn every_checkpoint_goes_on()
+    ensures { CheckpointLaw }
+{}
+
+/// A block keeps each part of a sound chain sound: the books, the roles with the bags, the eras, the
+/// round, the submissions, the committee that waits, and the slashes.
+pub fn sound_parts_stay_sound()
+    ensures books { BooksStaySound }
+    ensures roles { RolesStaySound }
+    ensures eras { ErasStaySound }
+    ensures round { RoundStaysSound }
+    ensures submissions { SubmissionsStaySound }
+    ensures waiting { WaitingStaysSound }
+    ensures slashes { SlashesStaySound }
+{
+    a_packed_yes_is_a_plain_yes();
+    a_plain_yes_is_passing();
+    every_fill_passes();
+}
+
+/// So a chain that starts from a genesis is sound, and stays so after any blocks.
+pub fn sound_chains_stay_sound()
+    ensures start { StartsSound }
+    ensures step { KeepsSoundLaw }
+    ensures blocks { StaysSoundLaw }
+{
+    sound_parts_stay_sound();
+}
+
+/// No cause stands against the state that a sound chain keeps.
+pub fn no_cause_stands_against_a_sound_chain()
+    ensures { NoCauseLaw }
 {}

@@ -41,7 +41,8 @@ fn mint(book: &mut Book, guess: usize, who: AccountId, amount: u64) -> Result<()
 {
     match book.mint_from(guess, who, amount) {
         Ok(()) => Ok(()),
-        Err(_) => Err(NoMemory),
+        Err(LedgerRefusal::NoMemory) => Err(NoMemory),
+        Err(_) => unreachable!(),
     }
 }
 

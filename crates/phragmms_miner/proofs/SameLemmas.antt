@@ -8,7 +8,7 @@ use Rattle.npos_base.specs.declared.figures.Edge.{Edge}
 use Rattle.election_snapshot.specs.Snapshot.{Snapshot, has, stake_of, total_stake}
 use Rattle.weight_book.specs.Weights.{edges_from, edges_to, support, same_pair}
 use Rattle.weight_book.specs.Passing.{pay, paid, slack, prescore, nominators}
-use Rattle.weight_book.proofs.SumLemmas.{sum_at, sum_among, at_least, at_most, sum_same, has_range}
+use Rattle.weight_book.proofs.SumLemmas.{sum_at, sum_among, parts_all, sum_same, has_range}
 use Rattle.support_balance.specs.Turns.{given}
 use Rattle.support_balance.specs.Rounds.{GiveSame}
 use Rattle.support_balance.proofs.RowLemmas.{weight, to_weight}
@@ -16,25 +16,13 @@ use Rattle.support_balance.proofs.GivenLemmas.{given_weight, sum_passing}
 use Rattle.support_balance.proofs.SplitLemmas.{range_distinct}
 use Rattle.phragmms_miner.specs.Scores.{greatest, score, IsBest}
 
--- where all keys stand among the numbers, the items sum to the parts of the numbers
-all_among : (key f : Edge → ℕ) (numbers : List ℕ) (edges : List Edge) → All (λ (e : Edge). has numbers (key e) ≡ true) edges
-    → sum_among key f edges numbers ≡ sum_by f edges
-all_among key f numbers [] all = refl
-all_among key f numbers (edge ∷ edges) all = omega (
-  arith,
-  sum_by-cons (λ (e : Edge). cond (has numbers (key e)) (f e) 0) edge edges,
-  sum_by-cons f edge edges,
-  cond-true (has numbers (key edge)) (f edge) 0 (All-head (λ (e : Edge). has numbers (key e) ≡ true) edge edges all),
-  all_among key f numbers edges (All-tail (λ (e : Edge). has numbers (key e) ≡ true) edge edges all),
-)
-
 -- a sum over edges is the sum over their keys
 by_key : (key f : Edge → ℕ) (edges : List Edge) (bound : ℕ) → All (λ (e : Edge). key e < bound) edges
     → sum_by (sum_at key f edges) (range_with_len 0 bound) ≡ sum_by f edges
 by_key key f edges bound small =
     let numbers = range_with_len 0 bound in
-    let all = all_among key f numbers edges (λ k d h. has_range 0 bound (key (get_or edges k d)) (omega arith) (omega (arith, small k d h))) in
-    omega (arith, at_least key f edges numbers, at_most key f edges numbers (range_distinct 0 bound), all)
+    parts_all key f edges numbers (range_distinct 0 bound)
+    (λ k d h. has_range 0 bound (key (get_or edges k d)) (omega arith) (omega (arith, small k d h)))
 
 bound_of : (Edge → ℕ) → List Edge → List Edge → ℕ
 bound_of key old new = sum_by key old + sum_by key new + 1

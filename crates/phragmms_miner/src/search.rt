@@ -1,5 +1,5 @@
 //! The search for the target outside with the greatest score.
-ghost use Rattle.std.specs.Prelude.{◌≡◌, ◌<◌, ◌≤◌, ℕ, true, nat_lt, length, take, filter, slice_index_or, All, IfSome, IfNone};
+ghost use Rattle.std.specs.Prelude.{◌≡◌, ◌<◌, ◌≤◌, ◌+◌, ◌-◌, ◌/◌, ℕ, true, nat_lt, length, take, filter, slice_index_or, All, IfSome, IfNone};
 ghost use Rattle.election_snapshot.specs.Snapshot.{has};
 ghost use Rattle.phragmms_miner.specs.Passes.{AreSpare};
 ghost use Rattle.phragmms_miner.specs.Scores.{score};
@@ -58,12 +58,16 @@ pub(crate) fn best_outside(
     pick
 }
 
-/// A price above `low` and at most `top`: the hint or what is nearest to it, and now and then the
-/// middle, so that no election makes a search long.
+/// A price above `low` and at most `top`: the hint or what is nearest to it, and behind four of
+/// those the middle. Prices are below 2^64, so a search ends within 64 times five tests, whatever
+/// the hints are.
 fn next_test(low: u64, top: u64, hint: u64, pointed: &mut u8) -> u64
     requires { low < top }
     ensures above { low < result }
     ensures within { result ≤ top }
+    ensures pointed { pointed.old < 4 → pointed.new ≡ pointed.old + 1 }
+    ensures halves { 4 ≤ pointed.old
+        → (result ≡ low + (top - low - 1) / 2 + 1) × (pointed.new ≡ 0) }
 {
     if *pointed >= POINTED_TESTS {
         *pointed = 0;

@@ -1,8 +1,8 @@
 //! One walk through the crate's calls with ample memory, which no contract promises.
 use npos_base::{
     AccountId, Failed, List, MemorySink, MemorySource, NoMemory, PlainSink, PlainSource, PutFault,
-    ReadSource, Room, Score, Sink, Source, StdinSource, StdoutSink, WriteSink, laws, part_of,
-    put_all,
+    ReadSource, Room, Score, Sink, Source, StdinSource, StdoutSink, Watched, WriteSink, laws,
+    part_of, put_all,
 };
 use std::alloc::{AllocError, Global};
 use std::test::Fail;
@@ -125,7 +125,7 @@ fn readers_and_writers_are_sources_and_sinks(rt: HostRuntime) -> Result<(), Fail
     let mut buffer = [0; 8];
     let mut source = ReadSource::new(b"lotus".as_slice());
     assert_eq!(rt; source.read(&mut buffer), Ok(5));
-    let mut sink = WriteSink::telling(Vec::new(rt.alloc()));
+    let mut sink = WriteSink::<Vec<u8>, Watched>::new(Vec::new(rt.alloc()));
     assert_eq!(rt; put_all(&mut sink, &buffer[..5]), Ok(()));
     assert_eq!(rt; sink.flush(), Ok(()));
     assert_eq!(rt; StdinSource::new(rt.stdin()).read(&mut []), Ok(0));

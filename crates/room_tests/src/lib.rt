@@ -12,6 +12,8 @@ mod blocks;
 #[cfg(test)]
 mod books;
 #[cfg(test)]
+mod causes;
+#[cfg(test)]
 mod eras;
 #[cfg(test)]
 mod fills;
@@ -33,6 +35,8 @@ mod queues;
 mod snapshots;
 #[cfg(test)]
 mod solutions;
+#[cfg(test)]
+mod states;
 #[cfg(test)]
 mod verdicts;
 #[cfg(test)]

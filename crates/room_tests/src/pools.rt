@@ -235,12 +235,14 @@ fn a_member_has_32_leaves(rt: HostRuntime) -> Result<(), Fail> {
 fn a_pool_has_4096_members(rt: HostRuntime) -> Result<(), Fail> {
     let alloc = rt.alloc();
     let mut endowments: Vec<(u128, u64)> = Vec::new(alloc);
-    for number in 10..4107 {
-        endowments.push((number, 3)).map_err(|_| NoMemory)?;
+    for number in 10..4107_u32 {
+        endowments
+            .push((u128::from(number), 3))
+            .map_err(|_| NoMemory)?;
     }
     let mut pool = pool_of(alloc, &endowments, 1)?;
-    for number in 10..4106 {
-        let receipt = pool.apply(account(number), PoolKind::Join { value: 1 })?;
+    for number in 10..4106_u32 {
+        let receipt = pool.apply(account(u128::from(number)), PoolKind::Join { value: 1 })?;
         assert_eq!(rt; receipt.lines.as_slice(), [PoolLine::Accepted].as_slice());
     }
     let last = pool.apply(account(4106), PoolKind::Join { value: 1 })?;

@@ -1,5 +1,5 @@
 //! What becomes of deposits, and what is told of it.
-ghost use Rattle.std.specs.Prelude.{◌≡◌, ◌++◌, ◌≤◌, [], ◌∷◌, OnOk};
+ghost use Rattle.std.specs.Prelude.{◌≡◌, ◌++◌, ◌≤◌, [], ◌∷◌, OnOk, OnErr};
 ghost use Rattle.stake_ledger.specs.Ledger.{row_at};
 ghost use Rattle.stake_ledger.specs.Calls.{deposit_held};
 ghost use Rattle.submission_queue.specs.Ranking.{empty_queue};
@@ -7,16 +7,20 @@ ghost use Rattle.round_decision.specs.Deposits.{AreHeld, returned, all_returned,
 
 use block_receipts::Line;
 use npos_base::{AccountId, NoMemory};
-use stake_ledger::Book;
+use stake_ledger::{Book, LedgerRefusal};
 use submission_queue::{Queue, Submission};
 
-/// The deposit is held. The account has that much free, so this fails for want of memory alone.
+/// The deposit is held. The account has that much free, so this fails for want of memory alone, and
+/// then nothing has changed.
 pub fn hold(book: &mut Book, who: AccountId, deposit: u64) -> Result<(), NoMemory>
-    ensures { OnOk result (book.new ≡ deposit_held who deposit book.old) }
+    requires { deposit ≤ (row_at book.old who).free }
+    ensures ok { OnOk result (book.new ≡ deposit_held who deposit book.old) }
+    ensures err { OnErr result (book.new ≡ book.old) }
 {
     match book.hold_deposit(who, deposit) {
         Ok(()) => Ok(()),
-        Err(_) => Err(NoMemory),
+        Err(LedgerRefusal::NoMemory) => Err(NoMemory),
+        Err(_) => unreachable!(),
     }
 }
 

@@ -11,8 +11,8 @@ use Rattle.scale_wire.specs.declared.fault.ReadFault.{ReadFault}
 use Rattle.scale_wire.specs.declared.fault.ReadFault.TheVariants.{Wire, NoMemory}
 use Rattle.scale_wire.specs.Form.{Form}
 use Rattle.scale_wire.specs.Parts.{length_form, byte_string}
-use Rattle.scale_wire.specs.Composite.{items, BadItems, list, byte_list}
-use Rattle.scale_wire.specs.Reading.{Place, IsRead, IsFault, Reads, HasFront}
+use Rattle.scale_wire.specs.Composite.{items, BadItems, list, byte_list, optional, run, turns_bytes}
+use Rattle.scale_wire.specs.Reading.{Place, Passes, IsRead, IsFault, Reads, HasFront}
 use Rattle.scale_wire.proofs.ReadLemmas.{behind_fault, front_more, front_behind}
 
 -- an item was refused; `here` is a copy of the cursor as it was
@@ -55,6 +55,25 @@ module _ {A : Type 0} (item : Form A) where
       subst (λ (o : Place). IsFault (items item count) o fault o) same (items_fault count done here mid new xs fault below read refused)
   items_err count done old here mid new xs NoMemory same below read refused = refl
 
+-- behind whole items a tag or an item was refused; `here` is a copy of the cursor as it was
+pub run_err : {A : Type 0} (item : Form A) (old here mid new : Place) (xs : List A) (fault : ReadFault) → here ≡ old
+    → Passes (AllByRecursion item.in_range xs) (turns_bytes item xs) here mid → Reads (optional item) mid (Err fault) new → Reads (run item) old (Err fault) old
+run_err item old here mid new xs (Wire fault) same read refused = subst (λ (o : Place). IsFault (run item) o fault o) same record {
+  place = length (turns_bytes item xs) + refused.place;
+  bad = record {
+    before = xs;
+    in_range = read.in_range;
+    rest = mid.rest;
+    whole = read.whole;
+    place = refused.place;
+    at_is = refl;
+    refused = refused.bad;
+  };
+  at_is = omega (arith, refused.at_is, read.at_is);
+  unchanged = refl;
+}
+run_err item old here mid new xs NoMemory same read refused = refl
+
 -- the items so far were written, and a front of the next one
 pub items_front : {A : Type 0} (f : A → List ℕ) (xs : List A) (i : ℕ) (x : A) (old mid new : List ℕ) → i < length xs → x ≡ get_or xs i x → mid ≡ old ++ flat_map f (take i xs) → HasFront (f x) mid new → HasFront (flat_map f xs) old new
 items_front f xs i x old mid new below here written has =
@@ -65,3 +84,7 @@ items_front f xs i x old mid new below here written has =
     ∙ ap (λ ys. flat_map f (take i xs) ++ flat_map f ys) (drop-cons xs i x below ∙ ap (λ y. y ∷ drop (suc i) xs) (sym here))) in
     subst (λ (s : List ℕ). HasFront s old new) (sym split)
     (front_behind (flat_map f (take i xs)) (f x ++ rest) old mid new written (front_more (f x) rest mid new has))
+
+-- the same where each item stands behind a 1
+pub turns_front : {A : Type 0} (item : Form A) (xs : List A) (i : ℕ) (x : A) (old mid new : List ℕ) → i < length xs → x ≡ get_or xs i x → mid ≡ old ++ turns_bytes item (take i xs) → HasFront (1 ∷ item.spelling x) mid new → HasFront (turns_bytes item xs) old new
+turns_front item xs i x old mid new below here written has = items_front (λ y. 1 ∷ item.spelling y) xs i x old mid new below here written has

@@ -1,6 +1,6 @@
 -- What readers and writers answer, where one part stands behind another.
 use Rattle.std.proofs.Common.{◌≡◌, ◌≢◌, ℕ, ◌+◌, ◌<◌, List, [], ◌∷◌, ◌++◌, length, refl, sym, ◌∙◌, ap, subst, inr, arith, append_assoc, append-nil}
-use Rattle.std.specs.Prelude.{Result, Ok, Err}
+use Rattle.std.specs.Prelude.{Result, Ok, Err, nat_eq}
 use Rattle.scale_wire.specs.declared.fault.Why.{Why}
 use Rattle.scale_wire.specs.declared.fault.Why.TheVariants.{Trailing}
 use Rattle.scale_wire.specs.declared.fault.WireFault.{WireFault}
@@ -9,6 +9,8 @@ use Rattle.scale_wire.specs.declared.fault.ReadFault.TheVariants.{Wire, NoMemory
 use Rattle.scale_wire.specs.Form.{Form}
 use Rattle.scale_wire.specs.Composite.{BadThen, pair, triple, seen, optional, BadOptional, Fields, variant_at, Choice, choice, behind_tag}
 use Rattle.scale_wire.specs.Parts.{tag_form}
+use Rattle.scale_wire.specs.Values.{flag_form}
+use Rattle.scale_wire.specs.ValueLaws.{flag_is}
 use Rattle.scale_wire.specs.Reading.{Place, Refuses, IsRead, IsFault, Reads, HasRest, BadWhole, HasFront, Writes}
 
 -- what is refused behind the head is refused as the whole
@@ -99,6 +101,14 @@ third_written first second third old mid next result new first_is second_is writ
 
 pub nothing_written : (old : List ℕ) → old ≡ old ++ []
 nothing_written old = sym (append-nil old)
+
+-- the tag of a truth value was read
+pub flag_read : (old new : Place) (tag : ℕ) → IsRead (tag_form 2) old tag new → IsRead flag_form old (nat_eq tag 1) new
+flag_read old new tag read = record {
+  in_range = subst (λ n. n < 2) (sym (flag_is tag read.in_range)) read.in_range;
+  whole = read.whole ∙ ap (λ n. n ∷ new.rest) (sym (flag_is tag read.in_range));
+  at_is = read.at_is;
+}
 
 -- ## Enums
 

@@ -1,10 +1,10 @@
 -- Types that are made of parts: pairs, triples, structs, rows of items, and one part behind
 -- another. Their spellings stand one behind the other, and bytes are refused where the first part
 -- is refused that the parts before it leave due.
-use Rattle.std.specs.Prelude.{◌≡◌, ◌⊎◌, ℕ, zero, suc, ◌+◌, ◌*◌, ◌≤◌, max, List, [], ◌∷◌, ◌++◌, length, Option, Some, None, IfSome}
+use Rattle.std.specs.Prelude.{◌≡◌, ◌⊎◌, ℕ, zero, suc, ◌+◌, ◌≤◌, List, [], ◌∷◌, ◌++◌, length, Option, Some, None, IfSome}
 use Rattle.std.specs.List.{AllByRecursion, flat_map}
 use Rattle.scale_wire.specs.declared.fault.Why.{Why}
-use Rattle.scale_wire.specs.Form.{IsBytes, Form}
+use Rattle.scale_wire.specs.Form.{IsBytes, Form, both, times, either}
 use Rattle.scale_wire.specs.Compact.{compact_bytes}
 use Rattle.scale_wire.specs.Parts.{byte_string, length_form, tag_form}
 
@@ -32,7 +32,7 @@ pair a b = record {
   spelling = λ p. a.spelling p.0 ++ b.spelling p.1;
   in_range = λ p. a.in_range p.0 × b.in_range p.1;
   bad = BadThen a (λ _. b.bad);
-  longest = a.longest + b.longest;
+  longest = both a.longest b.longest;
 }
 
 abbrev pub triple : {A B C : Type 0} → Form A → Form B → Form C → Form (A × B × C)
@@ -40,7 +40,7 @@ triple a b c = record {
   spelling = λ t. a.spelling t.0 ++ (b.spelling t.1 ++ c.spelling t.2);
   in_range = λ t. a.in_range t.0 × b.in_range t.1 × c.in_range t.2;
   bad = BadThen a (λ _. BadThen b (λ _. c.bad));
-  longest = a.longest + (b.longest + c.longest);
+  longest = both a.longest (both b.longest c.longest);
 }
 
 -- ## Structs
@@ -60,7 +60,7 @@ nothing = record {
   spelling = λ _. [];
   in_range = λ _. Unit {0};
   bad = λ _ _ _. ⊥;
-  longest = 0;
+  longest = Some 0;
 }
 
 -- ## Items in a row
@@ -76,7 +76,7 @@ items item count = record {
   spelling = λ xs. flat_map item.spelling xs;
   in_range = λ xs. AllByRecursion item.in_range xs × (length xs ≡ count);
   bad = BadItems item count;
-  longest = count * item.longest;
+  longest = times count item.longest;
 }
 
 -- the items of one row have forms of their own, by their position from `first` on
@@ -94,9 +94,9 @@ BadRow item first zero bytes at why = ⊥
 BadRow item first (suc more) bytes at why =
     BadThen (item first) (λ _. BadRow item (suc first) more) bytes at why
 
-abbrev pub longest_row : {A : Type 0} → (ℕ → Form A) → ℕ → ℕ → ℕ
-longest_row item first zero = 0
-longest_row item first (suc more) = (item first).longest + longest_row item (suc first) more
+abbrev pub longest_row : {A : Type 0} → (ℕ → Form A) → ℕ → ℕ → Option ℕ
+longest_row item first zero = Some 0
+longest_row item first (suc more) = both (item first).longest (longest_row item (suc first) more)
 
 abbrev pub row : {A : Type 0} → (ℕ → Form A) → ℕ → ℕ → Form (List A)
 row item first count = record {
@@ -117,7 +117,7 @@ list item limit = record {
   spelling = list_bytes item;
   in_range = λ xs. (length xs ≤ limit) × AllByRecursion item.in_range xs;
   bad = BadThen (length_form limit) (BadItems item);
-  longest = 5 + limit * item.longest;
+  longest = both (Some 5) (times limit item.longest);
 }
 
 -- a byte list is its length and then its bytes as they are
@@ -126,10 +126,10 @@ byte_list limit = record {
   spelling = λ bytes. compact_bytes (length bytes) ++ bytes;
   in_range = λ bytes. (length bytes ≤ limit) × IsBytes bytes;
   bad = BadThen (length_form limit) (λ count. (byte_string count).bad);
-  longest = 5 + limit;
+  longest = Some (5 + limit);
 }
 
--- ## Options and enums
+-- ## Options
 
 abbrev pub optional_bytes : {A : Type 0} → Form A → Option A → List ℕ
 optional_bytes value None = 0 ∷ []
@@ -144,8 +144,39 @@ optional value = record {
   spelling = optional_bytes value;
   in_range = λ option. IfSome option value.in_range;
   bad = BadThen (tag_form 2) (BadOptional value);
-  longest = 1 + value.longest;
+  longest = both (Some 1) value.longest;
 }
+
+-- ## Runs
+
+-- items, each behind a 1
+abbrev pub turns_bytes : {A : Type 0} → Form A → List A → List ℕ
+turns_bytes item xs = flat_map (λ x. 1 ∷ item.spelling x) xs
+
+-- a run is its items, each behind a 1, and then a 0
+abbrev pub run_bytes : {A : Type 0} → Form A → List A → List ℕ
+run_bytes item xs = turns_bytes item xs ++ (0 ∷ [])
+
+-- Behind whole items, each behind a 1, stands what is no Option of an item.
+pub record BadRun {A : Type 0} (item : Form A) (bytes : List ℕ) (at : ℕ) (why : Why) : Type 0 where
+  pub before : List A
+  pub in_range : AllByRecursion item.in_range before
+  pub rest : List ℕ
+  pub whole : bytes ≡ turns_bytes item before ++ rest
+  pub place : ℕ
+  pub at_is : at ≡ length (turns_bytes item before) + place
+  pub refused : (optional item).bad rest place why
+
+-- a list without a limit
+abbrev pub run : {A : Type 0} → Form A → Form (List A)
+run item = record {
+  spelling = run_bytes item;
+  in_range = AllByRecursion item.in_range;
+  bad = BadRun item;
+  longest = None;
+}
+
+-- ## Enums
 
 -- the fields of one variant of an enum: the type of what they are together, and its form
 pub record Fields : Type 1 where
@@ -159,7 +190,7 @@ fields {V} form_of = record { Values = V; form = form_of }
 abbrev pub no_fields : Fields
 no_fields = record {
   Values = ⊥;
-  form = record { spelling = λ _. []; in_range = λ _. ⊥; bad = λ _ _ _. ⊥; longest = 0 };
+  form = record { spelling = λ _. []; in_range = λ _. ⊥; bad = λ _ _ _. ⊥; longest = Some 0 };
 }
 
 -- the variant that has the tag
@@ -168,9 +199,9 @@ variant_at [] tag = no_fields
 variant_at (variant ∷ variants) zero = variant
 variant_at (variant ∷ variants) (suc tag) = variant_at variants tag
 
-abbrev pub longest_variant : List Fields → ℕ
-longest_variant [] = 0
-longest_variant (variant ∷ variants) = max variant.form.longest (longest_variant variants)
+abbrev pub longest_variant : List Fields → Option ℕ
+longest_variant [] = Some 0
+longest_variant (variant ∷ variants) = either variant.form.longest (longest_variant variants)
 
 -- a value of an enum: its tag, the number of its variant from 0, and the fields of that variant
 pub record Choice (variants : List Fields) : Type 0 where
@@ -182,7 +213,7 @@ choice variants = record {
   spelling = λ chosen. chosen.tag ∷ (variant_at variants chosen.tag).form.spelling chosen.values;
   in_range = λ chosen. (variant_at variants chosen.tag).form.in_range chosen.values;
   bad = BadThen (tag_form (length variants)) (λ tag. (variant_at variants tag).form.bad);
-  longest = 1 + longest_variant variants;
+  longest = both (Some 1) (longest_variant variants);
 }
 
 -- what follows the tag of an enum, whose values `choose` sees as a tag and its fields

@@ -1,12 +1,12 @@
 -- Proofs: forms that are made of others keep the laws of a form.
-use Rattle.std.specs.Prelude.{◌≡◌, ◌≢◌, ◌⊎◌, ℕ, zero, suc, ◌+◌, ◌*◌, ◌%◌, ◌^◌, ◌<◌, ◌≤◌, List, [], ◌∷◌, ◌++◌, length, Option, Some, None, IfSome, refl}
+use Rattle.std.specs.Prelude.{◌≡◌, ◌≢◌, ◌⊎◌, ℕ, zero, suc, ◌+◌, ◌%◌, ◌^◌, ◌<◌, ◌≤◌, List, [], ◌∷◌, ◌++◌, length, Option, Some, None, IfSome, MatchOption, refl}
 use Rattle.std.proofs.Common.{sym, ◌∙◌, ap, ap₂, subst, inl, inr, arith, lit<, append_assoc, length-append}
 use Rattle.std.proofs.Math.Nat.{mul-le-mul_right, mod-lt}
 use Rattle.scale_wire.specs.declared.fault.Why.{Why}
 use Rattle.scale_wire.specs.declared.fault.Why.TheVariants.{Short, Trailing}
-use Rattle.scale_wire.specs.Form.{Form, Begins, IsRefused, IsWire, IsBytes}
+use Rattle.scale_wire.specs.Form.{Form, Begins, IsRefused, IsWire, IsBytes, IsAtMost, IsBelow, IsShorter, both, times, either}
 use Rattle.scale_wire.specs.Parts.{byte_string, length_form, tag_form}
-use Rattle.scale_wire.specs.Composite.{BadThen, pair, triple, seen, nothing, items, row, IsRow, list, byte_list, optional, optional_bytes, BadOptional, Fields, variant_at, longest_variant, Choice, choice, behind_tag}
+use Rattle.scale_wire.specs.Composite.{BadThen, pair, triple, seen, nothing, items, row, IsRow, longest_row, list, byte_list, optional, optional_bytes, BadOptional, Fields, variant_at, longest_variant, Choice, choice, behind_tag}
 
 pub IsBytes-rest : (front rest : List ℕ) → IsBytes (front ++ rest) → IsBytes rest
 IsBytes-rest [] rest bytes = bytes
@@ -20,6 +20,94 @@ pub IsBytes-append : (front rest : List ℕ) → IsBytes front → IsBytes rest 
 IsBytes-append [] rest here there = there
 IsBytes-append (byte ∷ front) rest here there = (here.0, IsBytes-append front rest here.1 there)
 
+-- ## Longest spellings
+
+-- what has room in one has room in the other
+abbrev pub IsWithin : Option ℕ → Option ℕ → Type 0
+IsWithin _ None = Unit {0}
+IsWithin None (Some most) = ⊥
+IsWithin (Some least) (Some most) = least ≤ most
+
+pub within_itself : (longest : Option ℕ) → IsWithin longest longest
+within_itself None = tt
+within_itself (Some most) = omega arith
+
+pub zero_within : (longest : Option ℕ) → IsWithin (Some 0) longest
+zero_within None = tt
+zero_within (Some most) = omega arith
+
+pub one_within : (one other : Option ℕ) → IsWithin one (either one other)
+one_within one None = no_bound one where
+  no_bound : (one : Option ℕ) → IsWithin one (either one None)
+  no_bound None = tt
+  no_bound (Some most) = tt
+one_within None (Some most) = tt
+one_within (Some least) (Some most) = omega arith
+
+pub other_within : (one other : Option ℕ) → IsWithin other (either one other)
+other_within None other = tt
+other_within (Some least) None = tt
+other_within (Some least) (Some most) = omega arith
+
+pub within_within : (a b c : Option ℕ) → IsWithin a b → IsWithin b c → IsWithin a c
+within_within a b None ab bc = tt
+within_within a None (Some most) ab bc = absurd bc
+within_within None (Some mid) (Some most) ab bc = absurd ab
+within_within (Some least) (Some mid) (Some most) ab bc = omega (arith, ab, bc)
+
+pub times_within : (count limit : ℕ) (longest : Option ℕ) → count ≤ limit → IsWithin (times count longest) (times limit longest)
+times_within count limit None below = tt
+times_within count limit (Some most) below = mul-le-mul_right most below
+
+pub more_within : (count : ℕ) (longest : Option ℕ) → IsWithin (both longest (times count longest)) (times (suc count) longest)
+more_within count None = tt
+more_within count (Some most) = omega arith
+
+pub no_times : (longest : Option ℕ) → IsWithin (Some 0) (times 0 longest)
+no_times None = tt
+no_times (Some most) = omega arith
+
+pub at_most_within : (size : ℕ) (a b : Option ℕ) → IsAtMost size a → IsWithin a b → IsAtMost size b
+at_most_within size a None here within = tt
+at_most_within size None (Some most) here within = absurd within
+at_most_within size (Some least) (Some most) here within = omega (arith, here, within)
+
+pub below_within : (size : ℕ) (a b : Option ℕ) → IsBelow size a → IsWithin a b → IsBelow size b
+below_within size a None here within = tt
+below_within size None (Some most) here within = absurd within
+below_within size (Some least) (Some most) here within = omega (arith, here, within)
+
+pub both_at_most : (size more : ℕ) (a b : Option ℕ) → IsAtMost size a → IsAtMost more b → IsAtMost (size + more) (both a b)
+both_at_most size more None b here there = tt
+both_at_most size more (Some least) None here there = tt
+both_at_most size more (Some least) (Some most) here there = omega (arith, here, there)
+
+pub both_below : (size more : ℕ) (a b : Option ℕ) → IsAtMost size a → IsBelow more b → IsBelow (size + more) (both a b)
+both_below size more None b here there = tt
+both_below size more (Some least) None here there = tt
+both_below size more (Some least) (Some most) here there = omega (arith, here, there)
+
+pub first_below : (size : ℕ) (a b : Option ℕ) → IsBelow size a → IsBelow size (both a b)
+first_below size None b here = tt
+first_below size (Some least) None here = tt
+first_below size (Some least) (Some most) here = omega (arith, here)
+
+-- a form whose longest spelling is below a number has no longer one, and lacks bytes only below it
+module _ {V : Type 0} (form : Form V) (laws : IsWire form) (limit : ℕ) (shorter : IsShorter form limit) where
+  under : (longest : Option ℕ) (size : ℕ) → MatchOption longest ⊥ (λ most. most < limit) → IsAtMost size longest → size < limit
+  under None size none here = absurd none
+  under (Some most) size some here = omega (arith, some, here)
+
+  lacking : (longest : Option ℕ) (size : ℕ) → MatchOption longest ⊥ (λ most. most < limit) → IsBelow size longest → size < limit
+  lacking None size none here = absurd none
+  lacking (Some most) size some here = omega (arith, some, here)
+
+  pub spelled_below : (x : V) → form.in_range x → length (form.spelling x) < limit
+  spelled_below x fits = under form.longest (length (form.spelling x)) shorter (laws.bounded x fits)
+
+  pub missing_below : (bytes : List ℕ) (at : ℕ) → form.bad bytes at Short → length bytes < limit
+  missing_below bytes at bad = lacking form.longest (length bytes) shorter (laws.short bytes at bad)
+
 -- ## A form whose values are made of another's
 
 -- Each value in range is made of one of the other form, which has its spelling and its refusals.
@@ -29,7 +117,7 @@ pub record IsMadeOf {V W : Type 0} (form : Form V) (of : Form W) (make : W → V
   pub comes : (v : V) → form.in_range v → (w : W) × of.in_range w × (make w ≡ v)
   pub bad_from : (bytes : List ℕ) (at : ℕ) (why : Why) → form.bad bytes at why → of.bad bytes at why
   pub bad_to : (bytes : List ℕ) (at : ℕ) (why : Why) → of.bad bytes at why → form.bad bytes at why
-  pub within : of.longest ≤ form.longest
+  pub within : IsWithin of.longest form.longest
 
 module _ {V W : Type 0} (form : Form V) (of : Form W) (make : W → V) (made : IsMadeOf form of make) (laws : IsWire of) where
   made_spelling : (v : V) (in_range : form.in_range v) → form.spelling v ≡ of.spelling (made.comes v in_range).0
@@ -74,14 +162,10 @@ module _ {V W : Type 0} (form : Form V) (of : Form W) (make : W → V) (made : I
     no_trailing = λ bytes at bad. laws.no_trailing bytes at (made.bad_from bytes at Trailing bad);
     bounded = λ x x_fits.
         let from = made.comes x x_fits in
-        let bound : length (of.spelling from.0) ≤ of.longest = laws.bounded from.0 from.1 in
-        let same : length (form.spelling x) ≡ length (of.spelling from.0) = ap length (made_spelling x x_fits) in
-        let within : of.longest ≤ form.longest = made.within in
-        omega arith;
+        at_most_within (length (form.spelling x)) of.longest form.longest
+        (subst (λ (s : List ℕ). IsAtMost (length s) of.longest) (sym (made_spelling x x_fits)) (laws.bounded from.0 from.1)) made.within;
     short = λ bytes at bad.
-        let bound : length bytes < of.longest = laws.short bytes at (made.bad_from bytes at Short bad) in
-        let within : of.longest ≤ form.longest = made.within in
-        omega arith;
+        below_within (length bytes) of.longest form.longest (laws.short bytes at (made.bad_from bytes at Short bad)) made.within;
   }
 
 pub nothing_laws : IsWire nothing
@@ -99,15 +183,15 @@ nothing_laws = record {
 -- ## A part behind another
 
 -- The form of values that are spelled as a head and then as what the head leaves due.
-abbrev pub followed : {A W : Type 0} → Form A → (W → A) → (A → Form W) → ℕ → Form W
+abbrev pub followed : {A W : Type 0} → Form A → (W → A) → (A → Form W) → Option ℕ → Form W
 followed head first_of tail most = record {
   spelling = λ w. head.spelling (first_of w) ++ (tail (first_of w)).spelling w;
   in_range = λ w. head.in_range (first_of w) × (tail (first_of w)).in_range w;
   bad = BadThen head (λ first. (tail first).bad);
-  longest = head.longest + most;
+  longest = both head.longest most;
 }
 
-module _ {A W : Type 0} (head : Form A) (first_of : W → A) (tail : A → Form W) (most : ℕ) (head_laws : IsWire head) (tail_laws : (a : A) → head.in_range a → IsWire (tail a)) (agrees : (a : A) (w : W) → (tail a).in_range w → first_of w ≡ a) (within : (a : A) → head.in_range a → (tail a).longest ≤ most) where
+module _ {A W : Type 0} (head : Form A) (first_of : W → A) (tail : A → Form W) (most : Option ℕ) (head_laws : IsWire head) (tail_laws : (a : A) → head.in_range a → IsWire (tail a)) (agrees : (a : A) (w : W) → (tail a).in_range w → first_of w ≡ a) (within : (a : A) → head.in_range a → IsWithin (tail a).longest most) where
   tail_reading : (a a' : A) → a ≡ a' → head.in_range a → (x y : W) (rest more : List ℕ) → (tail a).in_range x → (tail a').in_range y → (tail a).spelling x ++ rest ≡ (tail a').spelling y ++ more → (x ≡ y) × (rest ≡ more)
   tail_reading a a' path a_fits x y rest more x_fits y_fits same =
       let y_at_a : (tail a).in_range y = subst (λ (b : A). (tail b).in_range y) (sym path) y_fits in
@@ -209,24 +293,21 @@ module _ {A W : Type 0} (head : Form A) (first_of : W → A) (tail : A → Form 
         | inr there ↦ (tail_laws there.first there.in_range).no_trailing there.rest there.place there.refused
       ]
 
-  followed_bounded : (x : W) → (followed head first_of tail most).in_range x → length ((followed head first_of tail most).spelling x) ≤ head.longest + most
+  followed_bounded : (x : W) → (followed head first_of tail most).in_range x → IsAtMost (length ((followed head first_of tail most).spelling x)) (both head.longest most)
   followed_bounded x x_fits =
-      let here : length (head.spelling (first_of x)) ≤ head.longest = head_laws.bounded (first_of x) x_fits.0 in
-      let there : length ((tail (first_of x)).spelling x) ≤ (tail (first_of x)).longest = (tail_laws (first_of x) x_fits.0).bounded x x_fits.1 in
-      let bound : (tail (first_of x)).longest ≤ most = within (first_of x) x_fits.0 in
-      let both : length (head.spelling (first_of x) ++ (tail (first_of x)).spelling x) ≡ length (head.spelling (first_of x)) + length ((tail (first_of x)).spelling x) = length-append (head.spelling (first_of x)) ((tail (first_of x)).spelling x) in
-      omega arith
+      let there = at_most_within (length ((tail (first_of x)).spelling x)) (tail (first_of x)).longest most ((tail_laws (first_of x) x_fits.0).bounded x x_fits.1) (within (first_of x) x_fits.0) in
+      subst (λ n. IsAtMost n (both head.longest most)) (sym (length-append (head.spelling (first_of x)) ((tail (first_of x)).spelling x)))
+      (both_at_most (length (head.spelling (first_of x))) (length ((tail (first_of x)).spelling x)) head.longest most (head_laws.bounded (first_of x) x_fits.0) there)
 
-  followed_short : (bytes : List ℕ) (at : ℕ) → (followed head first_of tail most).bad bytes at Short → length bytes < head.longest + most
+  followed_short : (bytes : List ℕ) (at : ℕ) → (followed head first_of tail most).bad bytes at Short → IsBelow (length bytes) (both head.longest most)
   followed_short bytes at bad =
       elim bad [
-        | inl here ↦ let bound : length bytes < head.longest = head_laws.short bytes at here in omega arith
+        | inl here ↦ first_below (length bytes) head.longest most (head_laws.short bytes at here)
         | inr there ↦
-            let here : length (head.spelling there.first) ≤ head.longest = head_laws.bounded there.first there.in_range in
-            let behind : length there.rest < (tail there.first).longest = (tail_laws there.first there.in_range).short there.rest there.place there.refused in
-            let bound : (tail there.first).longest ≤ most = within there.first there.in_range in
-            let both : length bytes ≡ length (head.spelling there.first) + length there.rest = ap length there.whole ∙ length-append (head.spelling there.first) there.rest in
-            omega arith
+            let behind = below_within (length there.rest) (tail there.first).longest most ((tail_laws there.first there.in_range).short there.rest there.place there.refused) (within there.first there.in_range) in
+            let size : length bytes ≡ length (head.spelling there.first) + length there.rest = ap length there.whole ∙ length-append (head.spelling there.first) there.rest in
+            subst (λ n. IsBelow n (both head.longest most)) (sym size)
+            (both_below (length (head.spelling there.first)) (length there.rest) head.longest most (head_laws.bounded there.first there.in_range) behind)
       ]
 
   pub followed_laws : IsWire (followed head first_of tail most)
@@ -260,7 +341,7 @@ module _ {A B : Type 0} (a : Form A) (b : Form B) (a_laws : IsWire a) (b_laws : 
     comes = λ p p_fits. (p.1, p_fits.0, ap (λ (x : A). (x, p.1)) (sym p_fits.1));
     bad_from = λ bytes at why bad. bad;
     bad_to = λ bytes at why bad. bad;
-    within = omega arith;
+    within = within_itself b.longest;
   } b_laws
 
   abbrev first_of_pair : A × B → A
@@ -273,8 +354,8 @@ module _ {A B : Type 0} (a : Form A) (b : Form B) (a_laws : IsWire a) (b_laws : 
     comes = λ p p_fits. (p, (p_fits.0, (p_fits.1, refl)), refl);
     bad_from = λ bytes at why bad. bad;
     bad_to = λ bytes at why bad. bad;
-    within = omega arith;
-  } (followed_laws a first_of_pair second_of b.longest a_laws (λ first fits. second_laws first) (λ first p p_fits. p_fits.1) (λ first fits. omega arith))
+    within = within_itself (both a.longest b.longest);
+  } (followed_laws a first_of_pair second_of b.longest a_laws (λ first fits. second_laws first) (λ first p p_fits. p_fits.1) (λ first fits. within_itself b.longest))
 
 pub triple_laws : {A B C : Type 0} (a : Form A) (b : Form B) (c : Form C) → IsWire a → IsWire b → IsWire c → IsWire (triple a b c)
 triple_laws a b c a_laws b_laws c_laws = made_laws (triple a b c) (pair a (pair b c)) (λ p. (p.0, p.1.0, p.1.1)) record {
@@ -283,7 +364,7 @@ triple_laws a b c a_laws b_laws c_laws = made_laws (triple a b c) (pair a (pair 
   comes = λ t t_fits. ((t.0, (t.1, t.2)), (t_fits.0, (t_fits.1, t_fits.2)), refl);
   bad_from = λ bytes at why bad. bad;
   bad_to = λ bytes at why bad. bad;
-  within = omega arith;
+  within = within_itself (both a.longest (both b.longest c.longest));
 } (pair_laws a (pair b c) a_laws (pair_laws b c b_laws c_laws))
 
 pub seen_laws : {V W : Type 0} (form : Form V) (fields : W → V) (make : V → W) → ((w : W) → make (fields w) ≡ w) → ((v : V) → fields (make v) ≡ v) → IsWire form → IsWire (seen form fields)
@@ -293,7 +374,7 @@ seen_laws form fields make back forth laws = made_laws (seen form fields) form m
   comes = λ w w_fits. (fields w, w_fits, back w);
   bad_from = λ bytes at why bad. bad;
   bad_to = λ bytes at why bad. bad;
-  within = omega arith;
+  within = within_itself form.longest;
 } laws
 
 -- ## Items in a row
@@ -314,7 +395,7 @@ module _ {A : Type 0} (item : Form A) (item_laws : IsWire item) where
     comes = no_items_come;
     bad_from = λ bytes at why bad. bad;
     bad_to = λ bytes at why bad. bad;
-    within = omega arith;
+    within = no_times item.longest;
   } nothing_laws
   items_laws (suc count) = made_laws (items item (suc count)) (pair item (items item count)) (λ p. p.0 ∷ p.1) record {
     fits = λ p p_fits. ((p_fits.0, p_fits.1.0), omega (arith, p_fits.1.1));
@@ -322,7 +403,7 @@ module _ {A : Type 0} (item : Form A) (item_laws : IsWire item) where
     comes = more_items_come count;
     bad_from = λ bytes at why bad. bad;
     bad_to = λ bytes at why bad. bad;
-    within = omega arith;
+    within = more_within count item.longest;
   } (pair_laws item (items item count) item_laws (items_laws count))
 
 module _ {A : Type 0} (item : ℕ → Form A) (item_laws : (position : ℕ) → IsWire (item position)) where
@@ -349,7 +430,7 @@ module _ {A : Type 0} (item : ℕ → Form A) (item_laws : (position : ℕ) → 
     comes = more_row_comes first count;
     bad_from = λ bytes at why bad. bad;
     bad_to = λ bytes at why bad. bad;
-    within = omega arith;
+    within = within_itself (both (item first).longest (longest_row item (suc first) count));
   } (pair_laws (item first) (row item (suc first) count) (item_laws first) (row_laws (suc first) count))
 
 -- ## Lists
@@ -358,25 +439,25 @@ pub limit_fits : (limit : ℕ) → limit % 2 ^ 32 < 2 ^ 32
 limit_fits limit = mod-lt limit (lit< tt)
 
 pub list_laws : {A : Type 0} (item : Form A) (limit : ℕ) → IsWire (length_form limit) → IsWire item → IsWire (list item limit)
-list_laws item limit length_laws item_laws = made_laws (list item limit) (followed (length_form limit) length (items item) (limit * item.longest)) (λ xs. xs) record {
+list_laws item limit length_laws item_laws = made_laws (list item limit) (followed (length_form limit) length (items item) (times limit item.longest)) (λ xs. xs) record {
   fits = λ xs fits. (fits.0, fits.1.0);
   spelled = λ xs fits. refl;
   comes = λ xs fits. (xs, (fits.0, (fits.1, refl)), refl);
   bad_from = λ bytes at why bad. bad;
   bad_to = λ bytes at why bad. bad;
-  within = omega arith;
-} (followed_laws (length_form limit) length (items item) (limit * item.longest) length_laws
-    (λ count fits. items_laws item item_laws count) (λ count xs fits. fits.1) (λ count fits. mul-le-mul_right item.longest fits))
+  within = within_itself (both (Some 5) (times limit item.longest));
+} (followed_laws (length_form limit) length (items item) (times limit item.longest) length_laws
+    (λ count fits. items_laws item item_laws count) (λ count xs fits. fits.1) (λ count fits. times_within count limit item.longest fits))
 
 pub byte_list_laws : (limit : ℕ) → IsWire (length_form limit) → ((count : ℕ) → IsWire (byte_string count)) → IsWire (byte_list limit)
-byte_list_laws limit length_laws string_laws = made_laws (byte_list limit) (followed (length_form limit) length byte_string limit) (λ bytes. bytes) record {
+byte_list_laws limit length_laws string_laws = made_laws (byte_list limit) (followed (length_form limit) length byte_string (Some limit)) (λ bytes. bytes) record {
   fits = λ bytes fits. (fits.0, fits.1.1);
   spelled = λ bytes fits. refl;
   comes = λ bytes fits. (bytes, (fits.0, (refl, fits.1)), refl);
   bad_from = λ bytes at why bad. bad;
   bad_to = λ bytes at why bad. bad;
   within = omega arith;
-} (followed_laws (length_form limit) length byte_string limit length_laws
+} (followed_laws (length_form limit) length byte_string (Some limit) length_laws
     (λ count fits. string_laws count) (λ count bytes fits. fits.0) (λ count fits. fits))
 
 -- ## Options
@@ -414,7 +495,7 @@ module _ {A : Type 0} (value : Form A) (value_laws : IsWire value) where
     comes = none_comes;
     bad_from = λ bytes at why bad. omega (arith, bad.0);
     bad_to = λ bytes at why bad. absurd bad;
-    within = omega arith;
+    within = zero_within value.longest;
   } nothing_laws
   option_tail_laws (suc zero) below = made_laws (option_tail 1) value (λ x. Some x) record {
     fits = λ x fits. (fits, refl);
@@ -422,7 +503,7 @@ module _ {A : Type 0} (value : Form A) (value_laws : IsWire value) where
     comes = some_comes;
     bad_from = λ bytes at why bad. bad.1;
     bad_to = λ bytes at why bad. (refl, bad);
-    within = omega arith;
+    within = within_itself value.longest;
   } value_laws
   option_tail_laws (suc (suc tag)) below = absurd (omega (arith, below))
 
@@ -441,8 +522,8 @@ module _ {A : Type 0} (value : Form A) (value_laws : IsWire value) where
     comes = λ option fits. (option, option_fits option fits, refl);
     bad_from = λ bytes at why bad. bad;
     bad_to = λ bytes at why bad. bad;
-    within = omega arith;
-  } (followed_laws (tag_form 2) option_tag option_tail value.longest tag_laws option_tail_laws (λ tag option fits. fits.1) (λ tag fits. omega arith))
+    within = within_itself (both (Some 1) value.longest);
+  } (followed_laws (tag_form 2) option_tag option_tail value.longest tag_laws option_tail_laws (λ tag option fits. fits.1) (λ tag fits. within_itself value.longest))
 
 -- ## Enums
 
@@ -457,11 +538,12 @@ variant_at_laws [] lawful tag below = absurd (omega (arith, below))
 variant_at_laws (variant ∷ variants) lawful zero below = lawful.0
 variant_at_laws (variant ∷ variants) lawful (suc tag) below = variant_at_laws variants lawful.1 tag (omega (arith, below))
 
-variant_at_within : (variants : List Fields) (tag : ℕ) → (variant_at variants tag).form.longest ≤ longest_variant variants
+variant_at_within : (variants : List Fields) (tag : ℕ) → IsWithin (variant_at variants tag).form.longest (longest_variant variants)
 variant_at_within [] tag = omega arith
-variant_at_within (variant ∷ variants) zero = omega arith
+variant_at_within (variant ∷ variants) zero = one_within variant.form.longest (longest_variant variants)
 variant_at_within (variant ∷ variants) (suc tag) =
-    let within : (variant_at variants tag).form.longest ≤ longest_variant variants = variant_at_within variants tag in omega arith
+    within_within (variant_at variants tag).form.longest (longest_variant variants) (either variant.form.longest (longest_variant variants))
+    (variant_at_within variants tag) (other_within variant.form.longest (longest_variant variants))
 
 -- only a tag of a variant has values
 tag_below : (variants : List Fields) (tag : ℕ) (values : (variant_at variants tag).Values)
@@ -490,7 +572,7 @@ module _ (variants : List Fields) (tag_laws : IsWire (tag_form (length variants)
     comes = tail_comes tag;
     bad_from = λ bytes at why bad. bad;
     bad_to = λ bytes at why bad. bad;
-    within = omega arith;
+    within = within_itself (variant_at variants tag).form.longest;
   } (variant_at_laws variants lawful tag below)
 
   pub choice_laws : IsWire (choice variants)
@@ -500,7 +582,7 @@ module _ (variants : List Fields) (tag_laws : IsWire (tag_form (length variants)
     comes = λ chosen fits. (chosen, (tag_below variants chosen.tag chosen.values fits, (refl, fits)), refl);
     bad_from = λ bytes at why bad. bad;
     bad_to = λ bytes at why bad. bad;
-    within = omega arith;
+    within = within_itself (both (Some 1) (longest_variant variants));
   } (followed_laws (tag_form (length variants)) (λ chosen. chosen.tag) choice_tail (longest_variant variants) tag_laws
       choice_tail_laws (λ tag chosen fits. fits.0) (λ tag below. variant_at_within variants tag))
 

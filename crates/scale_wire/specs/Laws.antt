@@ -1,8 +1,8 @@
 -- What follows for every type that is spelled in SCALE.
-use Rattle.std.specs.Prelude.{◌≡◌, ◌≢◌, ◌⊎◌, ℕ, ◌<◌, ◌≤◌, List, ◌++◌, length}
+use Rattle.std.specs.Prelude.{◌≡◌, ◌≢◌, ◌⊎◌, ℕ, List, ◌++◌, length}
 use Rattle.scale_wire.specs.declared.fault.Why.{Why}
 use Rattle.scale_wire.specs.declared.fault.Why.TheVariants.{Short, Trailing}
-use Rattle.scale_wire.specs.Form.{IsBytes, Form, Begins, IsRefused}
+use Rattle.scale_wire.specs.Form.{IsBytes, Form, Begins, IsRefused, IsAtMost, IsBelow}
 use Rattle.scale_wire.specs.Reading.{BadWhole}
 
 -- a value is read back from its spelling, whatever follows
@@ -50,7 +50,9 @@ FaultsPersist form = (bytes more : List ℕ) (at : ℕ) (why : Why)
 abbrev pub NeverTrails : {V : Type 0} → Form V → Type 0
 NeverTrails form = (bytes : List ℕ) (at : ℕ) → form.bad bytes at Trailing → ⊥
 
--- a spelling has at most `longest` bytes, and where bytes are missing there are fewer
+-- where there is a longest spelling, each has at most as many bytes, and where bytes are missing there
+-- are fewer
 pub record IsBounded {V : Type 0} (form : Form V) : Type 0 where
-  pub spelling : (x : V) → form.in_range x → length (form.spelling x) ≤ form.longest
-  pub missing : (bytes : List ℕ) (at : ℕ) → form.bad bytes at Short → length bytes < form.longest
+  pub spelling : (x : V) → form.in_range x → IsAtMost (length (form.spelling x)) form.longest
+  pub missing : (bytes : List ℕ) (at : ℕ) → form.bad bytes at Short
+      → IsBelow (length bytes) form.longest

@@ -19,6 +19,7 @@ pub mod WholeReading
 pub mod TableLaws
 pub mod FormLaws
 pub mod PartLaws
+pub mod RunLaws
 pub mod MarkedLaws
 pub mod AccountLaws
 pub mod LittleEndianLaws

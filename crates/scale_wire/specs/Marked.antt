@@ -1,8 +1,8 @@
 -- Types that are spelled in one of two forms, the plain and the wide one: a byte, the mark, stands
 -- before a wide spelling, and no plain spelling begins with it.
-use Rattle.std.specs.Prelude.{◌≡◌, ◌⊎◌, ℕ, ◌+◌, Bool, true, false, nat_eq, max, List, [], ◌∷◌, drop}
+use Rattle.std.specs.Prelude.{◌≡◌, ◌⊎◌, ℕ, ◌+◌, Bool, true, false, nat_eq, List, [], ◌∷◌, drop, Some}
 use Rattle.scale_wire.specs.declared.fault.Why.{Why}
-use Rattle.scale_wire.specs.Form.{Form}
+use Rattle.scale_wire.specs.Form.{Form, both, either}
 
 abbrev pub begins_with : ℕ → List ℕ → Bool
 begins_with mark [] = false
@@ -30,5 +30,5 @@ marked mark is_wide plain wide = record {
   spelling = λ value. marked_bytes mark plain wide (is_wide value) value;
   in_range = λ value. plain.in_range value ⊎ wide.in_range value;
   bad = λ bytes. BadMarked plain wide (begins_with mark bytes) bytes;
-  longest = max plain.longest (1 + wide.longest);
+  longest = either plain.longest (both (Some 1) wide.longest);
 }

@@ -1,10 +1,11 @@
 -- Proofs: two forms with a mark before the wide one keep the laws of a form.
-use Rattle.std.specs.Prelude.{◌≡◌, ◌≢◌, ◌⊎◌, ℕ, ◌+◌, ◌<◌, ◌≤◌, Bool, true, false, max, List, [], ◌∷◌, ◌++◌, length, drop, refl}
+use Rattle.std.specs.Prelude.{◌≡◌, ◌≢◌, ◌⊎◌, ℕ, ◌+◌, Bool, true, false, List, [], ◌∷◌, ◌++◌, length, drop, Option, Some, refl}
 use Rattle.std.proofs.Common.{sym, ◌∙◌, ap, subst, inl, inr, arith, true≢false}
 use Rattle.std.proofs.lemmas.Bool.Decides.{eqb_tells}
 use Rattle.scale_wire.specs.declared.fault.Why.{Why}
 use Rattle.scale_wire.specs.declared.fault.Why.TheVariants.{Short, NotShortest, TooWide, BadTag, TooMany, Trailing}
-use Rattle.scale_wire.specs.Form.{Form, Begins, IsRefused, IsWire, IsBytes}
+use Rattle.scale_wire.specs.Form.{Form, Begins, IsRefused, IsWire, IsBytes, IsAtMost, IsBelow, both}
+use Rattle.scale_wire.specs.FormLaws.{one_within, other_within, at_most_within, below_within, both_at_most, both_below}
 use Rattle.scale_wire.specs.Marked.{begins_with, marked_bytes, BadBehindMark, BadMarked, marked}
 
 -- `is_wide` tells the forms apart. The plain form has a value, and refuses all bytes that begin with
@@ -164,22 +165,36 @@ module _ {V : Type 0} (mark : ℕ) (is_wide : V → Bool) (plain wide : Form V) 
     by true bad = wide_laws.no_trailing (drop 1 bytes) bad.place bad.refused
     by false bad = plain_laws.no_trailing bytes at bad
 
-  marked_bounded : (x : V) → form.in_range x → length (form.spelling x) ≤ form.longest
-  marked_bounded x (inl fits) =
-      let bound : length (plain.spelling x) ≤ plain.longest = plain_laws.bounded x fits in
-      let same : length (form.spelling x) ≡ length (plain.spelling x) = ap length (plain_spelled x fits) in
-      omega arith
-  marked_bounded x (inr fits) =
-      let bound : length (wide.spelling x) ≤ wide.longest = wide_laws.bounded x fits in
-      let same : length (form.spelling x) ≡ length (mark ∷ wide.spelling x) = ap length (wide_spelled x fits) in
-      omega arith
+  abbrev marked_longest : Option ℕ
+  marked_longest = both (Some 1) wide.longest
 
-  marked_short : (bytes : List ℕ) (at : ℕ) → form.bad bytes at Short → length bytes < form.longest
-  marked_short [] at bad = let bound : 0 < plain.longest = plain_laws.short [] at bad in omega arith
-  marked_short (first ∷ rest) at bad = by (begins_with mark (first ∷ rest)) bad where
-    by : (b : Bool) → BadMarked plain wide b (first ∷ rest) at Short → length (first ∷ rest) < max plain.longest (1 + wide.longest)
-    by true bad = let bound : length rest < wide.longest = wide_laws.short rest bad.place bad.refused in omega arith
-    by false bad = let bound : length (first ∷ rest) < plain.longest = plain_laws.short (first ∷ rest) at bad in omega arith
+  marked_bounded : (x : V) → form.in_range x → IsAtMost (length (form.spelling x)) form.longest
+  marked_bounded x (inl fits) =
+      subst (λ (s : List ℕ). IsAtMost (length s) form.longest) (sym (plain_spelled x fits))
+      (at_most_within (length (plain.spelling x)) plain.longest form.longest (plain_laws.bounded x fits) (one_within plain.longest marked_longest))
+  marked_bounded x (inr fits) =
+      subst (λ n. IsAtMost n form.longest) (sym (let same = ap length (wide_spelled x fits) in omega (arith, same)))
+      (at_most_within (1 + length (wide.spelling x)) marked_longest form.longest
+      (both_at_most 1 (length (wide.spelling x)) (Some 1) wide.longest (omega arith) (wide_laws.bounded x fits)) (other_within plain.longest marked_longest))
+
+  marked_short : (bytes : List ℕ) (at : ℕ) → form.bad bytes at Short → IsBelow (length bytes) form.longest
+  marked_short bytes at bad = by (begins_with mark bytes) refl bad where
+    plain_short : plain.bad bytes at Short → IsBelow (length bytes) form.longest
+    plain_short here = below_within (length bytes) plain.longest form.longest (plain_laws.short bytes at here) (one_within plain.longest marked_longest)
+
+    wide_short : (place : ℕ) → wide.bad (drop 1 bytes) place Short → length bytes ≡ 1 + length (drop 1 bytes) → IsBelow (length bytes) form.longest
+    wide_short place here size =
+        below_within (length bytes) marked_longest form.longest
+        (subst (λ n. IsBelow n marked_longest) (sym size) (both_below 1 (length (drop 1 bytes)) (Some 1) wide.longest (omega arith) (wide_laws.short (drop 1 bytes) place here)))
+        (other_within plain.longest marked_longest)
+
+    some_marked : (bs : List ℕ) → begins_with mark bs ≡ true → length bs ≡ 1 + length (drop 1 bs)
+    some_marked [] is = cc
+    some_marked (first ∷ rest) is = omega arith
+
+    by : (b : Bool) → begins_with mark bytes ≡ b → BadMarked plain wide b bytes at Short → IsBelow (length bytes) form.longest
+    by true is bad = wide_short bad.place bad.refused (some_marked bytes is)
+    by false is bad = plain_short bad
 
   pub marked_laws : IsWire (marked mark is_wide plain wide)
   marked_laws = record {

@@ -3,6 +3,7 @@
 ghost use Rattle.scale_wire.specs.Form.{IsWire};
 ghost use Rattle.scale_wire.specs.Compact.{IsLeast, least_bytes};
 ghost use Rattle.scale_wire.specs.Parts.{fixed_u8, fixed_u32, fixed_u128, byte_string, tag_form, length_form};
+ghost use Rattle.scale_wire.specs.Composite.{run};
 ghost use Rattle.scale_wire.specs.Laws.{IsReadBack, IsDecided, IsDecidedWhole, FaultsPersist, NeverTrails, IsBounded};
 
 use crate::Wire;
@@ -35,7 +36,7 @@ pub fn only_whole_inputs_trail<T: Wire>()
 {}
 
 /// No spelling is longer than the form's `longest`, and bytes that are refused as `Short` are fewer
-/// than that.
+/// than that. Of a form without a longest spelling, such as that of a run, nothing is said.
 pub fn spellings_are_bounded<T: Wire>()
     ensures { IsBounded T.form }
 {}
@@ -60,6 +61,11 @@ pub fn tags_keep_the_laws(below: u8)
 /// Lengths up to a limit keep what every form keeps.
 pub fn lengths_keep_the_laws(limit: u32)
     ensures { IsWire (length_form limit) }
+{}
+
+/// Runs of items keep what every form keeps. They have no longest spelling.
+pub fn runs_keep_the_laws<T: Wire>()
+    ensures { IsWire (run T.form) }
 {}
 
 /// The value bytes of a compact integer in its longest mode are the fewest, from four on, that hold

@@ -5,12 +5,14 @@ mod compact;
 mod cursor;
 pub mod fault;
 pub mod laws;
+mod layout;
 mod pen;
 mod up_to;
 mod values;
 mod wire;
 
 pub use cursor::Cursor;
+pub use layout::{Layout, ListOf, OptionOf, Own, RunOf, write_both_by, write_three_by};
 pub use pen::Pen;
 pub use up_to::{BytesUpTo, UpTo};
 pub use wire::{

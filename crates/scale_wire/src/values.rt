@@ -1,8 +1,8 @@
-//! The values that `Wire` is given for here: numbers, accounts, scores and edges.
+//! The values that `Wire` is given for here: truth values, numbers, accounts, scores and edges.
 ghost use Rattle.std.specs.Prelude.{◌≡◌};
 
 use crate::fault::ReadFault;
-use crate::{Cursor, Pen, Wire};
+use crate::{Cursor, Pen, Wire, write_tag};
 use npos_base::{AccountId, Edge, NoMemory, Score};
 use std::alloc::Global;
 
@@ -22,6 +22,25 @@ impl Wire for () {
 
     fn read(_alloc: Global, _cursor: &mut Cursor<'_>) -> Result<(), ReadFault> {
         Ok(())
+    }
+}
+
+impl Wire for bool {
+    ghost use Rattle.scale_wire.specs.Values.{flag_form};
+    ghost use Rattle.scale_wire.specs.ValueLaws.{flag_laws};
+
+    ghost form = { flag_form };
+
+    ghost laws = { flag_laws };
+
+    fn write(&self, pen: &mut Pen) -> Result<(), NoMemory> {
+        write_tag(if *self { 1 } else { 0 }, pen)
+    }
+
+    #[tactic(auto, using(crate::proofs::ReadLemmas::flag_read))]
+    fn read(_alloc: Global, cursor: &mut Cursor<'_>) -> Result<bool, ReadFault> {
+        let tag = cursor.take_tag(2)?;
+        Ok(tag == 1)
     }
 }
 

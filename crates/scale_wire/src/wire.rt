@@ -2,13 +2,17 @@
 ghost use Rattle.std.specs.Prelude.{◌≡◌, ◌+◌, [], ◌∷◌, ◌++◌, ◌<◌, ◌≤◌, ◌^◌, length, flat_map};
 ghost use Rattle.std.specs.List.{AllByRecursion};
 ghost use Rattle.scale_wire.specs.Form.{IsBytes, Form, IsWire};
-ghost use Rattle.scale_wire.specs.Composite.{pair, items as items_of, list, list_bytes, byte_list};
+ghost use Rattle.scale_wire.specs.Composite.{pair, list, list_bytes, byte_list};
 ghost use Rattle.scale_wire.specs.Compact.{compact_bytes};
 ghost use Rattle.scale_wire.specs.Writing.{Appends};
 ghost use Rattle.scale_wire.specs.Reading.{Reads, Writes, ReadsWhole};
 ghost use Rattle.scale_wire.specs.WholeReading.{AnswersAs};
 
 use crate::fault::{ReadFault, Why, WireFault};
+use crate::layout::{
+    Layout, Own, read_list_by, read_option_by, write_both_by, write_list_by, write_option_by,
+    write_three_by,
+};
 use crate::{Cursor, Pen};
 use npos_base::{List, NoMemory};
 use std::alloc::Global;
@@ -16,7 +20,8 @@ use std::alloc::Global;
 /// A type whose values are spelled in SCALE, the byte format of Substrate.
 ///
 /// `form` says how a value is spelled, which values have a spelling, where and why other bytes are
-/// refused, and how long a spelling is at most; `laws` are what every such form keeps (`IsWire`).
+/// refused, and how long a spelling is at most, if there is a bound; `laws` are what every such form
+/// keeps (`IsWire`).
 pub trait Wire: Drop {
     ghost form: { Form Self };
 
@@ -45,13 +50,8 @@ impl<A: Wire, B: Wire> Wire for (A, B) {
         write_both(&self.0, &self.1, pen)
     }
 
-    #[tactic(auto, using(crate::proofs::ReadLemmas::pair_err))]
     fn read(alloc: Global, cursor: &mut Cursor<'_>) -> Result<(A, B), ReadFault> {
-        let mut here = cursor.fork();
-        let first = A::read(alloc, &mut here)?;
-        let second = B::read(alloc, &mut here)?;
-        *cursor = here;
-        Ok((first, second))
+        <(Own, Own) as Layout<(A, B)>>::read(alloc, cursor)
     }
 }
 
@@ -63,19 +63,12 @@ impl<A: Wire, B: Wire, C: Wire> Wire for (A, B, C) {
 
     ghost laws = { triple_laws A.form B.form C.form A.laws B.laws C.laws };
 
-    #[tactic(auto, using(crate::proofs::ReadLemmas::front_more))]
     fn write(&self, pen: &mut Pen) -> Result<(), NoMemory> {
-        self.0.write(pen)?;
-        write_both(&self.1, &self.2, pen)
+        write_three_by::<A, B, C, Own, Own, Own>(&self.0, &self.1, &self.2, pen)
     }
 
-    #[tactic(auto, using(crate::proofs::ReadLemmas::triple_err))]
     fn read(alloc: Global, cursor: &mut Cursor<'_>) -> Result<(A, B, C), ReadFault> {
-        let mut here = cursor.fork();
-        let first = A::read(alloc, &mut here)?;
-        let (second, third) = <(B, C)>::read(alloc, &mut here)?;
-        *cursor = here;
-        Ok((first, second, third))
+        <(Own, Own, Own) as Layout<(A, B, C)>>::read(alloc, cursor)
     }
 }
 
@@ -89,25 +82,11 @@ impl<A: Wire> Wire for Option<A> {
     ghost laws = { optional_laws A.form A.laws (tag_laws 2) };
 
     fn write(&self, pen: &mut Pen) -> Result<(), NoMemory> {
-        match self {
-            None => write_tag(0, pen),
-            Some(value) => {
-                write_tag(1, pen)?;
-                value.write(pen)
-            }
-        }
+        write_option_by::<A, Own>(self, pen)
     }
 
     fn read(alloc: Global, cursor: &mut Cursor<'_>) -> Result<Option<A>, ReadFault> {
-        let mut here = cursor.fork();
-        let tag = here.take_tag(2)?;
-        let value = if tag == 0 {
-            None
-        } else {
-            Some(A::read(alloc, &mut here)?)
-        };
-        *cursor = here;
-        Ok(value)
+        read_option_by::<A, Own>(alloc, cursor)
     }
 }
 
@@ -134,8 +113,7 @@ pub fn write_both<A: Wire, B: Wire>(first: &A, second: &B, pen: &mut Pen) -> Res
     ensures { Writes
         ((pair A.form B.form).spelling (first.now, second.now)) pen.old result pen.new }
 {
-    first.write(pen)?;
-    second.write(pen)
+    write_both_by::<A, B, Own, Own>(first, second, pen)
 }
 
 /// Reads a value that must be the whole input. The first byte behind it is refused as `Trailing`.
@@ -173,52 +151,15 @@ pub fn read_list<T: Wire>(
 ) -> Result<List<T>, ReadFault>
     ensures { Reads (list T.form limit) cursor.old result cursor.new }
 {
-    let mut here = cursor.fork();
-    let count = here.take_length(limit)?;
-    let items = read_items(alloc, &mut here, count)?;
-    *cursor = here;
-    Ok(items)
-}
-
-// Reads this many items. Room for them is made at once where as many bytes are left.
-fn read_items<T: Wire>(
-    alloc: Global,
-    cursor: &mut Cursor<'_>,
-    count: u32,
-) -> Result<List<T>, ReadFault>
-    ensures { Reads (items_of T.form count) cursor.old result cursor.new }
-{
-    let mut here = cursor.fork();
-    let room = here.rest().len().min(count as usize);
-    let mut items = Vec::with_capacity(alloc, room)?;
-    for _ in 0..count {
-        let item = T::read(alloc, &mut here)?;
-        items.push(item)?;
-    }
-    *cursor = here;
-    Ok(List::from_vec(items))
+    read_list_by::<T, Own>(alloc, cursor, limit)
 }
 
 /// Appends a list: its length and then its items.
-#[tactic(auto, using(crate::proofs::ReadLemmas::writes_behind))]
 pub fn write_list<T: Wire>(items: &List<T>, pen: &mut Pen) -> Result<(), NoMemory>
     requires { AllByRecursion T.form.in_range items.now }
     ensures { Writes (list_bytes T.form items.now) pen.old result pen.new }
 {
-    pen.put_compact(items.len() as u64)?;
-    write_items(items.as_slice(), pen)
-}
-
-// The items, one behind the other.
-#[tactic(auto, using(crate::proofs::ListLemmas::items_front))]
-fn write_items<T: Wire>(items: &[T], pen: &mut Pen) -> Result<(), NoMemory>
-    requires { AllByRecursion T.form.in_range items.now }
-    ensures { Writes (flat_map T.form.spelling items.now) pen.old result pen.new }
-{
-    for item in items {
-        item.write(pen)?;
-    }
-    Ok(())
+    write_list_by::<T, Own>(items, pen)
 }
 
 /// Reads a list of at most `limit` bytes.

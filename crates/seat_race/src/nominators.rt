@@ -76,17 +76,7 @@ fn note_voter(votes: &[u16], voter: u32, lists: &mut [List<u32>]) -> Result<(), 
         else slice_index_or lists.old target []) }
 {
     for vote in votes {
-        note(&mut lists[usize::from(*vote)], voter)?;
+        lists[usize::from(*vote)].put(voter)?;
     }
     Ok(())
-}
-
-/// Appends the voter.
-fn note(list: &mut List<u32>, voter: u32) -> Result<(), NoMemory>
-    ensures { OnOk result (list.new ≡ list.old ++ voter ∷ []) }
-{
-    match list.push(voter) {
-        Ok(()) => Ok(()),
-        Err(_) => Err(NoMemory),
-    }
 }

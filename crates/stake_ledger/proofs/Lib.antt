@@ -1,5 +1,7 @@
 pub mod ChunkLemmas
 pub mod PlaceLemmas
+pub mod BookRowLemmas
+pub mod AnewLemmas
 pub mod LedgerLemmas
 pub mod ScheduleLemmas
 pub mod CallLemmas

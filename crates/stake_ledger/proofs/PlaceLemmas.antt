@@ -1,5 +1,5 @@
 -- Accounts keep their places, and rows that stand at the places are rows by account.
-use Rattle.std.proofs.Common.{◌≡◌, ◌≢◌, ◌∙◌, ℕ, ◌+◌, ◌<◌, Bool, true, false, cond, List, [], ◌∷◌, ◌++◌, length, get_or, slice_set, Option, Some, None, option_map, unwrap_or, is_some, OnSome, refl, ap, ap₂, sym, subst, arith, true≢false}
+use Rattle.std.proofs.Common.{◌≡◌, ◌≢◌, ◌∙◌, ℕ, suc, ◌+◌, ◌<◌, Bool, true, false, cond, List, [], ◌∷◌, ◌++◌, length, get_or, slice_set, Option, Some, None, option_map, unwrap_or, is_some, OnSome, refl, ap, ap₂, sym, subst, arith, true≢false}
 use Rattle.std.specs.BTreeMap.{insert_entry, is_at}
 use Rattle.std.specs.Map.{keys_of, lookup}
 use Rattle.std.specs.List.Sorted.{IsStrictlySortedBy}
@@ -20,23 +20,13 @@ use Rattle.stake_ledger.specs.declared.row.Row.{Row}
 use Rattle.stake_ledger.specs.Rows.{empty_row}
 use Rattle.stake_ledger.specs.Ledger.{row_in, row_of_entries, with_row}
 use Rattle.account_places.specs.Places.{place_in}
-use Rattle.account_places.proofs.StandLemmas.{tied, one_longer, put_cases, not_again}
+use Rattle.account_places.proofs.StandLemmas.{one_longer, put_cases, not_again}
+use Rattle.account_places.proofs.OrderLemmas.{place_behind, place_first}
 use Rattle.stake_ledger.specs.Places.{rows_placed, ArePlaced}
 use Rattle.npos_base.proofs.EntryLemmas.{sorted_put}
 
 not_none : {A : Type 0} (x : A) → Some x ≢ None
 not_none x e = true≢false (ap is_some e)
-
--- who has a place behind the first has it among all
-place_behind : (first : AccountId × ℕ) (later : List (AccountId × ℕ)) (who : AccountId) (place : ℕ) → IsStrictlySortedBy account_cmp (keys_of (first ∷ later))
-    → place_in later who ≡ Some place → place_in (first ∷ later) who ≡ Some place
-place_behind first later who place ordered there = at (is_eq (account_cmp who first.0)) refl where
-  at : (b : Bool) → is_eq (account_cmp who first.0) ≡ b → cond b (Some first.1) (place_in later who) ≡ Some place
-  at true e = absurd (not_none place (sym there ∙ ap (place_in later) (tied who first.0 e) ∙ not_again first later ordered))
-  at false e = there
-
-place_first : (first : AccountId × ℕ) (later : List (AccountId × ℕ)) → place_in (first ∷ later) first.0 ≡ Some first.1
-place_first first later = rw (tied_itself account_total first.0) refl
 
 -- rows by account depend on the rows at the accounts' places alone
 same_rows : (old new : List Row) (places : List (AccountId × ℕ)) → IsStrictlySortedBy account_cmp (keys_of places)
@@ -214,3 +204,18 @@ placed_none = record {
   within = λ who place there. absurd (not_none place (sym there));
   apart = λ who other place there here. absurd (not_none place (sym there));
 }
+
+-- there is a row for each place, with its account
+pub keys_placed : (rows : List Row) (places : List (AccountId × ℕ)) → keys_of (rows_placed rows places) ≡ keys_of places
+keys_placed rows [] = refl
+keys_placed rows (first ∷ later) = ap (λ keys. first.0 ∷ keys) (keys_placed rows later)
+
+pub as_many_placed : (rows : List Row) (places : List (AccountId × ℕ)) → length (rows_placed rows places) ≡ length places
+as_many_placed rows [] = refl
+as_many_placed rows (first ∷ later) = ap suc (as_many_placed rows later)
+
+-- the rows of one more place
+pub placed_more : (rows : List Row) (places : List (AccountId × ℕ)) (entry : AccountId × ℕ)
+    → rows_placed rows (places ++ entry ∷ []) ≡ rows_placed rows places ++ (entry.0, get_or rows entry.1 empty_row) ∷ []
+placed_more rows [] entry = refl
+placed_more rows (first ∷ later) entry = ap (λ entries. (first.0, get_or rows first.1 empty_row) ∷ entries) (placed_more rows later entry)

@@ -9,3 +9,6 @@ pub mod Reasons
 pub mod Kept
 pub mod Calls
 pub mod RowCalls
+pub mod BookRows
+pub mod Releases
+pub mod Laws

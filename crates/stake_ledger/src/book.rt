@@ -1,5 +1,5 @@
 //! The books.
-ghost use Rattle.std.specs.Prelude.{◌≡◌, ◌≢◌, ◌-◌, ◌+◌, ◌≤◌, None, Some, OnErr, OnOk, IfErr, IfOk, is_some, All, true};
+ghost use Rattle.std.specs.Prelude.{◌≡◌, ◌≢◌, ◌-◌, ◌+◌, ◌≤◌, None, Some, OnErr, OnOk, IfErr, IfOk, is_some, All, true, ◌<◌, length, slice_get};
 ghost use Rattle.npos_base.specs.Refusal.{MeetsAlways};
 ghost use Rattle.stake_ledger.specs.Owed.{Meets};
 ghost use Rattle.stake_ledger.specs.Chunks.{IsSchedule};
@@ -7,18 +7,22 @@ ghost use Rattle.stake_ledger.specs.Rows.{is_bonded, activated, unbonded, rebond
 ghost use Rattle.stake_ledger.specs.Ledger.{empty_ledger, row_of, row_at, changed, totals_of, issuance_cap, IsBalanced, OthersStay};
 ghost use Rattle.stake_ledger.specs.Calls.{endow_refusal, endowed, transfer_refusal, transferred, bond_refusal, bond_extra_refusal, unbond_refusal, unbond_amount, rebond_refusal, rebond_amount, withdraw_refusal, withdraw_amount, hold_refusal, deposit_held, deposit_returned, deposit_burned, room_of, mint_refusal, minted_free, slash_amount, slashed};
 ghost use Rattle.stake_ledger.specs.RowCalls.{IsTimely, MayAnswer, row_refusal, row_amount, called};
+ghost use Rattle.stake_ledger.specs.BookRows.{rows_fault, IsDueFault, ledger_of, book_rows};
+ghost use Rattle.std.specs.Map.{keys_of};
 
+use crate::book_row::{BookRow, first_bad_row, is_bad_sum};
 use crate::call::RowCall;
 use crate::chunks::Chunk;
 use crate::refusal::LedgerRefusal;
 use crate::rows::{NOBODY, Rows};
+use crate::rows_fault::RowsFault;
 use crate::totals::Totals;
-use npos_base::AccountId;
+use npos_base::{AccountId, List, NoMemory};
 use std::alloc::Global;
 use std::marker::Model;
 
 /// The most that may ever be issued, in units of stake.
-const CAP: u64 = 9_223_372_036_854_775_807;
+pub(crate) const CAP: u64 = 9_223_372_036_854_775_807;
 
 /// What a slash burned, and whether the account has anything bonded then.
 #[derive(Clone, Copy, Debug, PartialEq, Eq)]
@@ -77,6 +81,60 @@ impl Book {
                 issuance: 0,
             },
         }
+    }
+
+    /// The book with these rows, with what the genesis gave, what was minted and what was burned
+    /// since. A row is bad where its account is not above the one before, a chunk is 0, there are
+    /// more than 32 chunks, or their releases do not rise strictly. It refuses with `BadRow` and the
+    /// place of the first bad row, or else with `BadSum` where what the rows hold and what was burned
+    /// is not what was issued, or that is above 2^63 - 1.
+    pub fn from_rows(
+        alloc: Global,
+        rows: List<BookRow>,
+        genesis: u64,
+        minted: u64,
+        burned: u64,
+    ) -> Result<Book, RowsFault>
+        ensures accepted { OnOk result (rows_fault rows genesis minted burned ≡ None) }
+        ensures ok { IfOk result (λ book. book ≡ ledger_of rows genesis minted burned) }
+        ensures refused { IfErr result (IsDueFault (rows_fault rows genesis minted burned)) }
+    {
+        if let Some(place) = first_bad_row(rows.as_slice()) {
+            return Err(RowsFault::BadRow(place as u64));
+        }
+        if is_bad_sum(rows.as_slice(), genesis, minted, burned) {
+            return Err(RowsFault::BadSum);
+        }
+        let totals = Totals::of(rows.as_slice(), genesis, minted, burned);
+        let rows = Rows::from_values(alloc, rows)?;
+        Ok(Book {
+            rows,
+            genesis,
+            totals,
+        })
+    }
+
+    /// The rows as values, by rising account. It takes about as long as sorting them does.
+    pub fn to_rows(&self, alloc: Global) -> Result<List<BookRow>, NoMemory>
+        ensures { IfOk result (λ rows. rows ≡ book_rows self.now) }
+    {
+        self.rows.values(alloc)
+    }
+
+    /// How many accounts are known.
+    pub fn account_count(&self) -> usize
+        ensures { result ≡ length self.now.rows }
+    {
+        self.rows.count()
+    }
+
+    /// The account at this place among all by rising account. It takes no memory and may look at
+    /// all pairs of accounts: who wants all of them asks `to_rows`.
+    pub fn account_at(&self, i: usize) -> AccountId
+        requires { i < length self.now.rows }
+        ensures { slice_get (keys_of self.now.rows) i ≡ Some result }
+    {
+        self.rows.account_at(i)
     }
 
     /// Opens the row of an account that is not known yet, with the value free. It counts as

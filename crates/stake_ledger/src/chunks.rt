@@ -6,6 +6,7 @@ ghost use Rattle.stake_ledger.specs.Chunks.{chunk_sum, chunk_refusal, is_empty, 
 ghost use Rattle.stake_ledger.specs.Joining.{joins_last};
 
 use crate::refusal::LedgerRefusal;
+use npos_base::List;
 use std::alloc::Global;
 use std::marker::Model;
 
@@ -41,6 +42,15 @@ impl Chunks {
     {
         Chunks {
             items: Vec::new(alloc),
+        }
+    }
+
+    /// The chunks of a list. It takes no memory.
+    pub fn from_list(chunks: List<Chunk>) -> Chunks
+        ensures { result ≡ chunks }
+    {
+        Chunks {
+            items: chunks.into_vec(),
         }
     }
 

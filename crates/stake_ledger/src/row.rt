@@ -5,12 +5,15 @@ ghost use Rattle.stake_ledger.specs.declared.call.RowCall.TheVariants as calls;
 ghost use Rattle.stake_ledger.specs.Calls.{hold_refusal};
 ghost use Rattle.stake_ledger.specs.Parts.{parts_of, cut_of};
 ghost use Rattle.stake_ledger.specs.Rows.{empty_row, worth, is_bonded, paid, slashed_row};
+ghost use Rattle.stake_ledger.specs.BookRows.{entry_of, book_row};
 ghost use Rattle.stake_ledger.specs.RowCalls.{Answers, MayAnswer, row_refusal, row_after, done_of};
 
+use crate::book_row::BookRow;
 use crate::call::RowCall;
 use crate::chunks::Chunks;
 use crate::parts::{Cut, Done, Parts};
 use crate::refusal::LedgerRefusal;
+use npos_base::{AccountId, List, NoMemory};
 use std::alloc::Global;
 
 /// What one account has, in units of stake: free, bonded and active, bonded and on its way out, and
@@ -34,6 +37,32 @@ impl Row {
             chunks: Chunks::new(alloc),
             held: 0,
         }
+    }
+
+    /// The row that the value stands for.
+    pub fn from_value(value: BookRow) -> Row
+        ensures { result ≡ (entry_of value).1 }
+    {
+        Row {
+            free: value.free,
+            active: value.active,
+            chunks: Chunks::from_list(value.chunks),
+            held: value.held,
+        }
+    }
+
+    /// The row as the value of this account.
+    pub fn value(&self, alloc: Global, who: AccountId) -> Result<BookRow, NoMemory>
+        ensures { IfOk result (λ value. value ≡ book_row (who, self.now)) }
+    {
+        let chunks = Vec::from_slice(alloc, self.chunks.as_slice())?;
+        Ok(BookRow {
+            who,
+            free: self.free,
+            active: self.active,
+            chunks: List::from_vec(chunks),
+            held: self.held,
+        })
     }
 
     /// Whether anything is active or on its way out.

@@ -1,9 +1,10 @@
 //! The rows of all accounts, and the change of one of them.
-ghost use Rattle.std.specs.Prelude.{◌≡◌, ◌≢◌, ◌+◌, ◌^◌, ◌<◌, ◌≤◌, [], None, Some, OnErr, OnOk, OnSome, IfErr, IfOk, IfSome, IfNone, length, true, false};
+ghost use Rattle.std.specs.Prelude.{◌≡◌, ◌≢◌, ◌+◌, ◌^◌, ◌<◌, ◌≤◌, [], None, Some, OnErr, OnOk, OnSome, IfErr, IfOk, IfSome, IfNone, length, map, slice_get, true, false};
 ghost use Rattle.stake_ledger.specs.declared.chunks.TheConstants.{MOST_CHUNKS};
 ghost use Rattle.std.specs.Option.{option_copied};
 ghost use Rattle.std.specs.List.Sorted.{IsStrictlySortedBy};
 ghost use Rattle.std.specs.Map.{keys_of};
+ghost use Rattle.std.specs.BTreeMap.{insert_entry};
 ghost use Rattle.npos_base.specs.Account.{account_cmp};
 ghost use Rattle.stake_ledger.specs.Owed.{IsDue};
 ghost use Rattle.stake_ledger.specs.Calls.{hold_refusal};
@@ -11,13 +12,15 @@ ghost use Rattle.stake_ledger.specs.Rows.{worth, is_bonded, gained, paid, slashe
 ghost use Rattle.stake_ledger.specs.Parts.{cut_of};
 ghost use Rattle.stake_ledger.specs.Ledger.{row_in, row_of_entries, with_row};
 ghost use Rattle.stake_ledger.specs.RowCalls.{MayAnswer, row_refusal, row_after, done_of};
+ghost use Rattle.stake_ledger.specs.BookRows.{first_bad_row, entry_of, book_row};
 
+use crate::book_row::BookRow;
 use crate::call::RowCall;
 use crate::parts::{Cut, Done};
 use crate::refusal::LedgerRefusal;
 use crate::row::Row;
 use account_places::Places;
-use npos_base::{AccountId, NoMemory};
+use npos_base::{AccountId, List, NoMemory, Room};
 use std::alloc::Global;
 use std::marker::Model;
 
@@ -79,8 +82,64 @@ impl Rows {
         Some(&self.rows[place])
     }
 
+    /// The rows with these values, whose accounts rise.
+    pub fn from_values(alloc: Global, values: List<BookRow>) -> Result<Rows, NoMemory>
+        requires { first_bad_row None values ≡ None }
+        ensures { IfOk result (λ rows. rows ≡ map entry_of values) }
+    {
+        let mut rows = Rows::new(alloc);
+        for value in values.into_vec() {
+            let who = value.who;
+            rows.append(who, Row::from_value(value))?;
+        }
+        Ok(rows)
+    }
+
+    /// The rows as values, by rising account.
+    pub fn values(&self, alloc: Global) -> Result<List<BookRow>, NoMemory>
+        ensures { IfOk result (λ rows. rows ≡ map book_row self.now) }
+    {
+        let places = self.places.by_account(alloc)?;
+        let mut values = Room::with_room(alloc, places.len())?;
+        for (who, place) in places {
+            let value = self.rows[place].value(alloc, who)?;
+            values.push_within(value);
+        }
+        Ok(values.into_list())
+    }
+
+    /// How many rows there are.
+    pub fn count(&self) -> usize
+        ensures { result ≡ length self.now }
+    {
+        self.rows.len()
+    }
+
+    /// The account at this place among all by rising account.
+    pub fn account_at(&self, i: usize) -> AccountId
+        requires { i < length self.now }
+        ensures { slice_get (keys_of self.now) i ≡ Some result }
+    {
+        self.places.in_order(i)
+    }
+
+    /// Puts the row of an account that has none.
+    #[tactic(auto, using(crate::proofs::PlaceLemmas::unplaced, crate::proofs::PlaceLemmas::row_opened, crate::proofs::PlaceLemmas::placed_opened))]
+    fn append(&mut self, who: AccountId, row: Row) -> Result<(), NoMemory>
+        requires { row_of_entries who self.old ≡ None }
+        ensures ok { OnOk result (self.new ≡ insert_entry account_cmp self.old who row) }
+        ensures err { OnErr result (self.new ≡ self.old) }
+    {
+        self.rows.reserve(1)?;
+        self.places.put(who)?;
+        match self.rows.push(row) {
+            Ok(()) => Ok(()),
+            Err(_) => unreachable!(),
+        }
+    }
+
     /// Opens the row of an account that has none, with the value free.
-    #[tactic(auto, using(crate::proofs::PlaceLemmas::unplaced, crate::proofs::PlaceLemmas::row_in_unplaced, crate::proofs::PlaceLemmas::row_opened, crate::proofs::PlaceLemmas::placed_opened))]
+    #[tactic(auto, using(crate::proofs::BookRowLemmas::row_in_absent))]
     fn open(&mut self, who: AccountId, value: u64) -> Result<(), NoMemory>
         requires { row_of_entries who self.old ≡ None }
         ensures ok { OnOk result (self.new ≡ with_row who (gained value) self.old) }
@@ -88,12 +147,7 @@ impl Rows {
     {
         let mut row = Row::new(self.alloc);
         row.free = value;
-        self.rows.reserve(1)?;
-        self.places.put(who)?;
-        match self.rows.push(row) {
-            Ok(()) => Ok(()),
-            Err(_) => unreachable!(),
-        }
+        self.append(who, row)
     }
 
     /// Where the row of an account stands, which is a guess for later. Of an account without a row

@@ -1,5 +1,6 @@
 -- Many offers, and what the rank keeps.
-use Rattle.std.proofs.Common.{◌≡◌, ℕ, zero, suc, ◌+◌, Bool, true, false, cond, not, ◌&&◌, List, [], ◌∷◌, ◌++◌, length, take, get_or, fold, find, filter, All, AllPairs, Contains, Option, Some, None, MatchOption, IsPermutation, IsSortedBy, refl, sym, ◌∙◌, ap, subst, true≢false, append_assoc, arith}
+use Rattle.std.proofs.Common.{◌≡◌, ℕ, zero, suc, ◌+◌, Bool, true, false, cond, not, ◌&&◌, List, [], ◌∷◌, ◌++◌, length, take, get_or, fold, find, filter, All, AllPairs, Contains, Option, Some, None, MatchOption, IsPermutation, IsSortedBy, refl, sym, ◌∙◌, ap, ap₂, subst, true≢false, append_assoc, arith, nat_lt, length-append}
+use Rattle.std.proofs.lemmas.Grind.{common_steps}
 use Rattle.std.proofs.lemmas.Bool.Decides.{nat_tests}
 use Rattle.std.proofs.lemmas.List.{append-nil, take_all}
 use Rattle.std.proofs.lemmas.List.Elements.{All-nil, All-cons, filter-append}
@@ -12,8 +13,8 @@ use Rattle.npos_base.specs.declared.figures.Score.{Score}
 use Rattle.npos_base.specs.Score.{is_better}
 use Rattle.submission_queue.specs.declared.submission.Submission.{Submission}
 use Rattle.submission_queue.specs.Rank.{outranks, placed, ranked, IsRanked}
-use Rattle.submission_queue.specs.Ranking.{Ranking, offered, after_offers}
-use Rattle.submission_queue.specs.Laws.{BestOfAllLaw, BestOfBothLaw, CrowdingLaw}
+use Rattle.submission_queue.specs.Ranking.{Ranking, empty_queue, offered, after_offers}
+use Rattle.submission_queue.specs.Laws.{BestOfAllLaw, BestOfBothLaw, CrowdingLaw, OffersAppendLaw, OffersRestoreLaw}
 use Rattle.submission_queue.proofs.RankLemmas.{no_better_than_itself, ranked_placed, ranked_ranked, ranked_same, ranked_take, take_placed, inserted_is_placed}
 use Rattle.submission_queue.proofs.QueueLemmas.{offered_placed}
 
@@ -155,3 +156,23 @@ pub crowding : CrowdingLaw
 crowding valid n offers item held ok =
     subst (λ kept. ValidFirst valid n kept item (find valid kept)) (sym (best_of_all n offers))
     (first_valid valid n (ranked offers) item (ranked_ranked offers) (Contains-permutation offers (ranked offers) item (rank_permutation offers) held) ok)
+
+-- ---- a queue is made anew
+
+places_stay : (queue : Ranking) (offers : List Submission) → (after_offers queue offers).places ≡ queue.places
+places_stay queue [] = refl
+places_stay queue (item ∷ offers) = places_stay (offered queue item) offers
+
+pub offers_append : OffersAppendLaw
+offers_append queue item free ranks =
+    let room : nat_lt (length queue.items) queue.places ≡ true = grind (arith, common_steps, free) in
+    let whole : take queue.places (ranked (queue.items ++ item ∷ [])) ≡ queue.items ++ item ∷ [] =
+    ap (take queue.places) (ranked_same (queue.items ++ item ∷ []) ranks)
+    ∙ take_all queue.places (queue.items ++ item ∷ []) (omega (arith, free, length-append queue.items (item ∷ []))) in
+    (rw room refl, ap (λ (items : List Submission). record queue { items = items }) whole)
+
+pub offers_restore : OffersRestoreLaw
+offers_restore places items fits ranks =
+    let same : (after_offers (empty_queue places) items).items ≡ items =
+    best_of_all places items ∙ (ap (take places) (ranked_same items ranks) ∙ take_all places items fits) in
+    ap₂ (λ (waiting : List Submission) (n : ℕ). record { items = waiting; places = n }) same (places_stay (empty_queue places) items)

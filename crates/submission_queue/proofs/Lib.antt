@@ -1,3 +1,4 @@
 pub mod RankLemmas
 pub mod QueueLemmas
 pub mod LawLemmas
+pub mod NumberLemmas

@@ -1,3 +1,4 @@
 pub mod Rank
 pub mod Ranking
 pub mod Laws
+pub mod Numbers

@@ -2,7 +2,8 @@
 ghost use Rattle.std.specs.Prelude.{IsPermutation, IsSortedBy};
 ghost use Rattle.std.specs.List.Sorted.{IsStableBy};
 ghost use Rattle.submission_queue.specs.Rank.{outranks, ranked};
-ghost use Rattle.submission_queue.specs.Laws.{BestOfAllLaw, BestOfBothLaw, CrowdingLaw};
+ghost use Rattle.submission_queue.specs.Laws.{BestOfAllLaw, BestOfBothLaw, CrowdingLaw, OffersAppendLaw, OffersRestoreLaw};
+ghost use Rattle.submission_queue.specs.Numbers.{NumbersLaw};
 
 use crate::Submission;
 
@@ -29,4 +30,17 @@ pub fn a_queue_keeps_the_best_of_all_offers()
 /// place.
 pub fn nothing_valid_is_crowded_out_for_free()
     ensures { CrowdingLaw }
+{}
+
+/// A queue is made anew from its submissions: each is offered in the order of the rank, none is
+/// refused or ejects another, and they wait as they did.
+pub fn a_queue_is_made_anew_by_its_rank()
+    ensures appends { OffersAppendLaw }
+    ensures restores { OffersRestoreLaw }
+{}
+
+/// Submissions that each take the next number stay numbered while they wait, whatever is offered or
+/// taken out.
+pub fn submissions_stay_numbered()
+    ensures { NumbersLaw }
 {}

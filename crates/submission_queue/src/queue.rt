@@ -1,5 +1,5 @@
 //! The submissions that wait to be judged.
-ghost use Rattle.std.specs.Prelude.{◌≡◌, ◌≤◌, ◌<◌, length, drop, slice_get, vec_len, vec_capacity, IfOk, OnErr};
+ghost use Rattle.std.specs.Prelude.{◌≡◌, ◌≤◌, ◌<◌, length, drop, slice_get, vec_len, vec_capacity, IfOk, OnErr, Some};
 ghost use Rattle.std.specs.List.{position_or_len};
 ghost use Rattle.npos_base.specs.Score.{is_better};
 ghost use Rattle.npos_base.specs.declared.limits.TheConstants.{MOST_QUEUED};
@@ -112,6 +112,14 @@ impl Queue {
         ensures ordered { IsOrdered self.now }
     {
         self.items.as_slice()
+    }
+
+    /// The submission at this place by rank.
+    pub fn item(&self, i: usize) -> &Submission
+        requires { i < length self.now.items }
+        ensures { slice_get self.now.items i ≡ Some result.now }
+    {
+        &self.items[i]
     }
 
     /// How many submissions wait.

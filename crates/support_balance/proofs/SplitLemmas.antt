@@ -7,7 +7,7 @@ use Rattle.std.proofs.lemmas.Bool.{cases_Bool, cond-true, eqb-true, ne_eqb}
 use Rattle.npos_base.specs.declared.figures.Edge.{Edge}
 use Rattle.election_snapshot.specs.Snapshot.{has}
 use Rattle.weight_book.specs.Weights.{edges_from, edges_to, amount_sum, support, spent}
-use Rattle.weight_book.proofs.SumLemmas.{sum_among, sum_same, at_least, at_most, has_range}
+use Rattle.weight_book.proofs.SumLemmas.{parts_all, sum_same, has_range}
 use Rattle.support_balance.specs.Turns.{given, edges_but}
 use Rattle.support_balance.proofs.RowLemmas.{weight, to_weight}
 use Rattle.support_balance.proofs.GivenLemmas.{pair_weight, given_weight, sum_passing}
@@ -66,18 +66,6 @@ range_distinct low (suc count) = (apart (range_with_len (low + 1) count) (range_
   apart [] all = tt
   apart (x ∷ xs) all = (ne_eqb low x (λ same. omega (arith, all.0, same)), apart xs all.1)
 
--- where all keys stand among the numbers, the items sum to the parts of the numbers
-among_all : (key : Edge → ℕ) (numbers : List ℕ) (edges : List Edge) → All (λ (e : Edge). has numbers (key e) ≡ true) edges
-    → sum_among key (λ (e : Edge). e.amount) edges numbers ≡ amount_sum edges
-among_all key numbers [] all = refl
-among_all key numbers (edge ∷ edges) all = omega (
-  arith,
-  sum_by-cons (λ (e : Edge). cond (has numbers (key e)) e.amount 0) edge edges,
-  sum_by-cons (λ (e : Edge). e.amount) edge edges,
-  cond-true (has numbers (key edge)) edge.amount 0 (All-head (λ (e : Edge). has numbers (key e) ≡ true) edge edges all),
-  among_all key numbers edges (All-tail (λ (e : Edge). has numbers (key e) ≡ true) edge edges all),
-)
-
 -- what a voter spends is what it gives to all targets
 pub spent_given : (edges : List Edge) (voter bound : ℕ) → All (λ (e : Edge). e.target < bound) edges
     → sum_by (given edges voter) (range_with_len 0 bound) ≡ spent edges voter
@@ -86,9 +74,9 @@ spent_given edges voter bound small =
     let numbers = range_with_len 0 bound in
     let key = λ (e : Edge). e.target in
     let f = λ (e : Edge). e.amount in
-    let all = among_all key numbers own (λ k d h. has_range 0 bound (get_or own k d).target (omega arith)
-    (omega (arith, All-filter (λ (e : Edge). nat_eq e.voter voter) (λ (e : Edge). e.target < bound) edges small k d h))) in
-    omega (arith, at_least key f own numbers, at_most key f own numbers (range_distinct 0 bound), all)
+    parts_all key f own numbers (range_distinct 0 bound)
+    (λ k d h. has_range 0 bound (get_or own k d).target (omega arith)
+    (omega (arith, All-filter (λ (e : Edge). nat_eq e.voter voter) (λ (e : Edge). e.target < bound) edges small k d h)))
 
 passing : {X : Type 0} (p : X → Bool) (x : X) (xs : List X) → p x ≡ true → filter p (x ∷ xs) ≡ x ∷ filter p xs
 passing p x xs t = rw t refl
@@ -120,8 +108,9 @@ support_given edges target bound small =
     let numbers = range_with_len 0 bound in
     let key = λ (e : Edge). e.voter in
     let f = λ (e : Edge). e.amount in
-    let all = among_all key numbers own (λ k d h. has_range 0 bound (get_or own k d).voter (omega arith)
+    let all = parts_all key f own numbers (range_distinct 0 bound)
+    (λ k d h. has_range 0 bound (get_or own k d).voter (omega arith)
     (omega (arith, All-filter (λ (e : Edge). nat_eq e.target target) (λ (e : Edge). e.voter < bound) edges small k d h))) in
     let swapped = sum_same (λ voter. given edges voter target) (λ voter. amount_sum (edges_from own voter))
     (λ voter. ap amount_sum (filter_swap (λ (e : Edge). nat_eq e.target target) (λ (e : Edge). nat_eq e.voter voter) edges)) numbers in
-    omega (arith, swapped, at_least key f own numbers, at_most key f own numbers (range_distinct 0 bound), all)
+    omega (arith, swapped, all)

@@ -126,9 +126,9 @@ impl<'a> Backing<'a> {
                 push_within(&mut self.members, target);
                 Ok(())
             }
-            Err(NoMemory) => {
+            Err(want) => {
                 self.is_member[usize::from(target)] = false;
-                Err(NoMemory)
+                Err(want)
             }
         }
     }

@@ -19,6 +19,14 @@ number_text number = codes " " ++ decimal number
 abbrev pub amount_text : ℕ → List ℕ
 amount_text amount = codes " " ++ (decimal amount ++ newline)
 
+-- the line of an account and an amount, behind some words
+abbrev pub amount_line : List ℕ → AccountId → ℕ → List ℕ
+amount_line words who amount = words ++ (account_text who ++ amount_text amount)
+
+-- the line of a call that was accepted
+abbrev pub ok_line : ℕ → List ℕ
+ok_line index = codes "call " ++ (decimal index ++ codes " ok\n")
+
 -- words, and then numbers behind a blank each
 abbrev pub numbers_line : List ℕ → List ℕ → List ℕ
 numbers_line words numbers = words ++ (flat_map number_text numbers ++ newline)

@@ -2,5 +2,7 @@
 #![tactic(auto)]
 
 mod pieces;
+mod whole;
 
 pub use pieces::{Piece, tell};
+pub use whole::{tell_amount, tell_ok};

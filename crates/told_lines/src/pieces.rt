@@ -1,10 +1,10 @@
 //! The pieces of lines.
 ghost use Rattle.std.specs.Prelude.{◌≡◌, ◌++◌, flat_map, OnOk};
-ghost use Rattle.told_lines.specs.Texts.{account_text, amount_text, number_text};
+ghost use Rattle.told_lines.specs.Texts.{account_text, number_text};
 ghost use Rattle.told_lines.specs.Pieces.{piece_text};
 
 use hex::encode_to_slice;
-use itoa::{Buffer, write_digits};
+use itoa::Buffer;
 use npos_base::{AccountId, NoMemory};
 
 /// A piece of a line.
@@ -16,8 +16,6 @@ pub enum Piece<'a> {
     Number(u64),
     /// A number in decimal, behind a blank.
     Detail(u128),
-    /// The amount that ends a line: a number in decimal, behind a blank, and the newline.
-    Amount(u64),
     /// An account: its 32 bytes, each as two digits in hexadecimal, in lower case.
     Account(AccountId),
 }
@@ -41,18 +39,6 @@ fn tell_detail(text: &mut Vec<u8>, number: u128) -> Result<(), NoMemory>
     Ok(())
 }
 
-/// Appends the amount that ends a line. It is made whole first, since digits that were only just
-/// written are slow to read.
-fn tell_amount(text: &mut Vec<u8>, amount: u64) -> Result<(), NoMemory>
-    ensures { OnOk result (text.new.items ≡ text.old.items ++ amount_text amount) }
-{
-    let mut ending = [b'\n'; 22];
-    let start = write_digits(amount, &mut ending, 21) - 1;
-    ending[start] = b' ';
-    text.extend_from_slice(&ending[start..])?;
-    Ok(())
-}
-
 /// Appends one piece.
 fn tell_piece(text: &mut Vec<u8>, piece: &Piece<'_>) -> Result<(), NoMemory>
     ensures { OnOk result (text.new.items ≡ text.old.items ++ piece_text piece.now) }
@@ -61,7 +47,6 @@ fn tell_piece(text: &mut Vec<u8>, piece: &Piece<'_>) -> Result<(), NoMemory>
         Piece::Words(words) => text.extend_from_slice(words.as_bytes())?,
         Piece::Number(number) => text.extend_from_slice(Buffer::new().format(*number).as_bytes())?,
         Piece::Detail(number) => tell_detail(text, *number)?,
-        Piece::Amount(amount) => tell_amount(text, *amount)?,
         Piece::Account(who) => tell_account(text, *who)?,
     }
     Ok(())

@@ -13,4 +13,6 @@ pub mod DistinctLemmas
 pub mod PlaceLemmas
 pub mod StandingLemmas
 pub mod OneWalkLemmas
+pub mod TakenLemmas
+pub mod RoleLemmas
 pub mod RepeatLemmas

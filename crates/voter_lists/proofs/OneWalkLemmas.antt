@@ -11,7 +11,7 @@ use Rattle.npos_base.proofs.NumberTests.{number_test, number_tie}
 use Rattle.voter_lists.proofs.HomeLemmas.{left_in_bag, before_other, before_in_bag, only_left}
 
 -- lists whose bags are alike are walked alike
-same_walk : (number count : ℕ) (a b : Order) → ((k : ℕ) → number ≤ k → k < number + count → in_bag k a ≡ in_bag k b) → from_bag number count a ≡ from_bag number count b
+pub same_walk : (number count : ℕ) (a b : Order) → ((k : ℕ) → number ≤ k → k < number + count → in_bag k a ≡ in_bag k b) → from_bag number count a ≡ from_bag number count b
 same_walk number zero a b alike = refl
 same_walk number (suc more) a b alike =
     ap₂ (λ xs ys. xs ++ ys) (same_walk (number + 1) more a b (λ k low high. alike k (omega (arith, low)) (omega (arith, high)))) (alike number (omega arith) (omega arith))

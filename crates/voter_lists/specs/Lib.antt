@@ -10,3 +10,4 @@ pub mod Links
 pub mod Rings
 pub mod Nodes
 pub mod OneWalk
+pub mod Taken

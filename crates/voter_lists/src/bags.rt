@@ -6,7 +6,7 @@ ghost use Rattle.npos_base.specs.Account.{same_account};
 ghost use Rattle.npos_base.specs.declared.limits.TheConstants.{MOST_THRESHOLDS};
 ghost use Rattle.voter_lists.specs.Owed.{Meets};
 ghost use Rattle.voter_lists.specs.declared.refusal.ListRefusal.TheVariants as refusals;
-ghost use Rattle.voter_lists.specs.Bags.{Listing, IsRisingFrom, bag_of, is_listed, walk, account_after, inserted, removed, moved, updated, is_at_home, rebag_refusal, put_in_front, put_in_front_refusal};
+ghost use Rattle.voter_lists.specs.Bags.{Listing, IsRisingFrom, bag_of, number_of, is_listed, walk, account_after, inserted, removed, moved, updated, is_at_home, rebag_refusal, put_in_front, put_in_front_refusal};
 
 use crate::ListRefusal;
 use crate::nodes::Nodes;
@@ -73,6 +73,17 @@ impl Bags {
         ensures { result ≡ is_listed self.now.order who }
     {
         self.nodes.find(who).is_some()
+    }
+
+    /// The number of the bag in which the account stands: that of the lowest is 0.
+    pub fn bag(&self, who: AccountId) -> u32
+        requires { is_listed self.now.order who ≡ true }
+        ensures { number_of self.now.order who ≡ Some result }
+    {
+        let Some((_, home)) = self.nodes.find(who) else {
+            unreachable!()
+        };
+        home as u32
     }
 
     /// Moves the account to the tail of the bag of this score, where that is another one, and tells

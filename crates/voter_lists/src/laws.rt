@@ -1,10 +1,12 @@
 //! What holds of the lists. Each law is the contract of a function that does nothing.
-ghost use Rattle.std.specs.Prelude.{◌≡◌, ◌↔◌, ℕ, false, List};
+ghost use Rattle.std.specs.Prelude.{◌≡◌, ◌↔◌, ◌≤◌, ℕ, false, List, [], length, All, None};
 ghost use Rattle.std.specs.List.{IsDistinct};
 ghost use Rattle.npos_base.specs.declared.account.AccountId.{AccountId};
-ghost use Rattle.voter_lists.specs.Bags.{Order, inserted, removed, moved, put_in_front};
+ghost use Rattle.voter_lists.specs.Bags.{Order, Listing, bag_of, in_walk_order, joined, inserted, removed, moved, put_in_front};
 ghost use Rattle.npos_base.specs.Account.{same_account};
-ghost use Rattle.voter_lists.specs.Roles.{has_repeat};
+ghost use Rattle.voter_lists.specs.Roles.{RoleList, has_repeat, nominate_refusal, without_role};
+ghost use Rattle.voter_lists.specs.declared.standing.Role.{Role};
+ghost use Rattle.voter_lists.specs.Taken.{NeverRises, AreSound, CanTake, IsNomination, with_role};
 ghost use Rattle.voter_lists.specs.OneWalk.{IsOneWalk, StandsIn, listing_of, appended, taken_out, appended_anew, put_before};
 
 /// The bags keep their list in the order of its walk. A list that an account joins at its end,
@@ -36,4 +38,34 @@ pub fn calls_end_with_one_walk()
 pub fn accounts_repeat_or_are_distinct()
     ensures { (accounts : List AccountId)
         → (has_repeat accounts ≡ false) ↔ IsDistinct same_account accounts }
+{}
+
+/// A list of accounts with their bags is the list of its walk exactly where no account stands in a
+/// higher bag than one before it. So who joins a bag that is no higher than that of the last is
+/// walked last, and a walk is made anew by joining its accounts one by one.
+pub fn a_walk_is_made_anew_in_its_order()
+    ensures arranged { (listing : Listing) → NeverRises listing.order
+        → All (λ entry. entry.1 ≤ length listing.thresholds) listing.order
+        → in_walk_order listing.thresholds listing.order ≡ listing.order }
+    ensures falling { (thresholds : List ℕ) (order : Order)
+        → NeverRises (in_walk_order thresholds order) }
+    ensures appends { (listing : Listing) (who : AccountId) (score : ℕ)
+        → NeverRises (joined listing.order who (bag_of listing.thresholds score))
+        → All (λ entry. entry.1 ≤ length listing.thresholds) listing.order
+        → inserted listing who score
+        ≡ record listing { order = joined listing.order who (bag_of listing.thresholds score) } }
+{}
+
+/// Roles stay sound, whoever takes one or leaves one: who nominates names somebody, at most 24,
+/// nobody twice and not itself; no commission is above the whole; and there are at most 2,048
+/// validators.
+pub fn roles_stay_sound()
+    ensures none { AreSound [] }
+    ensures puts { (roles : RoleList) (who : AccountId) (role : Role) (targets : List AccountId)
+        → AreSound roles → CanTake roles who role targets
+        → AreSound (with_role roles who role targets) }
+    ensures nominates { (roles : RoleList) (who : AccountId) (targets : List AccountId)
+        → nominate_refusal roles who targets ≡ None → IsNomination who targets }
+    ensures leaves { (roles : RoleList) (who : AccountId) → AreSound roles
+        → AreSound (without_role roles who) }
 {}

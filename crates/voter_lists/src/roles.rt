@@ -1,5 +1,5 @@
 //! The roles of accounts, after Substrate's staking pallet.
-ghost use Rattle.std.specs.Prelude.{◌≡◌, ◌≢◌, ◌<◌, ◌≤◌, [], ◌∷◌, length, Some, slice_get, position, is_some};
+ghost use Rattle.std.specs.Prelude.{◌≡◌, ◌≢◌, ◌<◌, ◌≤◌, [], ◌∷◌, length, None, Some, OnOk, OnErr, slice_get, position, is_some};
 ghost use Rattle.std.specs.Option.{option_copied};
 ghost use Rattle.std.specs.List.{list_any};
 ghost use Rattle.std.specs.List.Sorted.{IsStrictlySortedBy};
@@ -8,12 +8,13 @@ ghost use Rattle.npos_base.specs.declared.limits.TheConstants.{MOST_VALIDATORS};
 ghost use Rattle.npos_base.specs.Refusal.{MeetsAlways, answer_of};
 ghost use Rattle.voter_lists.specs.Owed.{Meets};
 ghost use Rattle.voter_lists.specs.Roles.{role_of, nominated_by, validators_of, is_validator, KeepsOthers, standing_of, has_repeat, is_no_target, nominate_refusal, nominated, validate_refusal, validating, chill_refusal, without_role};
+ghost use Rattle.voter_lists.specs.Taken.{CanTake, with_role};
 
 use crate::ListRefusal;
 use crate::ranks::{enter, leave, leave_where};
 use crate::standing::{Role, Standing};
 use crate::standings::Standings;
-use npos_base::{AccountId, List, MOST_NOMINATIONS, MOST_VALIDATORS, WHOLE_FRACTION};
+use npos_base::{AccountId, List, MOST_NOMINATIONS, MOST_VALIDATORS, NoMemory, WHOLE_FRACTION};
 use std::alloc::Global;
 use std::marker::Model;
 
@@ -55,9 +56,7 @@ impl Roles {
         ensures others { KeepsOthers self.old self.new who }
     {
         self.check_targets(who, targets.as_slice())?;
-        let validates = self.is_validator(who);
-        self.standings.put(who, Standing::Nominator(targets))?;
-        leave_where(&mut self.validators, who, validates);
+        self.put_nominator(who, targets)?;
         Ok(())
     }
 
@@ -74,6 +73,50 @@ impl Roles {
         if !self.is_validator(who) && self.validators.len() >= MOST_VALIDATORS {
             return Err(ListRefusal::TooManyValidators);
         }
+        self.put_validator(who, commission)?;
+        Ok(())
+    }
+
+    /// The account takes the role, in place of any that it had: that of a nominator with these
+    /// targets, at most 24, none of them twice or the account itself, whatever the targets do; or
+    /// that of a validator, to whom targets mean nothing. It fails for want of memory alone.
+    pub fn put_role(
+        &mut self,
+        who: AccountId,
+        role: Role,
+        targets: List<AccountId>,
+    ) -> Result<(), NoMemory>
+        requires { CanTake self.old who role targets }
+        ensures ok { OnOk result (self.new ≡ with_role self.old who role targets) }
+        ensures err { OnErr result (self.new ≡ self.old) }
+        ensures others { KeepsOthers self.old self.new who }
+    {
+        match role {
+            Role::Nobody => unreachable!(),
+            Role::Nominator => self.put_nominator(who, targets),
+            Role::Validator { commission } => self.put_validator(who, commission),
+        }
+    }
+
+    /// The account becomes a nominator of these targets.
+    fn put_nominator(&mut self, who: AccountId, targets: List<AccountId>) -> Result<(), NoMemory>
+        ensures ok { OnOk result (self.new ≡ nominated self.old who targets) }
+        ensures err { OnErr result (self.new ≡ self.old) }
+        ensures others { KeepsOthers self.old self.new who }
+    {
+        let validates = self.is_validator(who);
+        self.standings.put(who, Standing::Nominator(targets))?;
+        leave_where(&mut self.validators, who, validates);
+        Ok(())
+    }
+
+    /// The account becomes a validator with this commission.
+    fn put_validator(&mut self, who: AccountId, commission: u32) -> Result<(), NoMemory>
+        requires { validate_refusal self.old who commission ≡ None }
+        ensures ok { OnOk result (self.new ≡ validating self.old who commission) }
+        ensures err { OnErr result (self.new ≡ self.old) }
+        ensures others { KeepsOthers self.old self.new who }
+    {
         self.validators.reserve(1)?;
         self.standings.put(who, Standing::Validator { commission })?;
         enter(&mut self.validators, who);

@@ -1,4 +1,6 @@
 pub mod AveragingLemmas
+pub mod GivenEdgeLemmas
+pub mod OneOrderLemmas
 pub mod ScoreLemmas
 pub mod SumLemmas
 pub mod StakeLemmas

@@ -134,6 +134,23 @@ module _ {X : Type 0} (key : X → ℕ) (f : X → ℕ) where
   among_le items numbers = sum_le (λ item. cond (has numbers (key item)) (f item) 0) f items
       (λ k d _. cond_both (has numbers (key (get_or items k d))) (f (get_or items k d)) 0 (λ n. n ≤ f (get_or items k d)) (λ _. omega arith) (λ _. omega arith))
 
+  -- they are the whole list, where each item's key is one of the numbers
+  pub among_all : (items : List X) (numbers : List ℕ) → All (λ item. has numbers (key item) ≡ true) items
+      → sum_among items numbers ≡ sum_by f items
+  among_all [] numbers all = refl
+  among_all (item ∷ items) numbers all = omega (
+    arith,
+    sum_by-cons (λ item. cond (has numbers (key item)) (f item) 0) item items,
+    sum_by-cons f item items,
+    cond-true (has numbers (key item)) (f item) 0 (All-head (λ item. has numbers (key item) ≡ true) item items all),
+    among_all items numbers (All-tail (λ item. has numbers (key item) ≡ true) item items all),
+  )
+
+  pub parts_all : (items : List X) (numbers : List ℕ) → IsDistinct nat_eq numbers
+      → All (λ item. has numbers (key item) ≡ true) items → sum_by (sum_at items) numbers ≡ sum_by f items
+  parts_all items numbers distinct all =
+      omega (arith, at_least items numbers, at_most items numbers distinct, among_all items numbers all)
+
   -- the parts of distinct numbers are within the whole
   pub parts_le : (items : List X) (numbers : List ℕ) → IsDistinct nat_eq numbers → sum_by (sum_at items) numbers ≤ sum_by f items
   parts_le items numbers h = omega (arith, at_most items numbers h, among_le items numbers)

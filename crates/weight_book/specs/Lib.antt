@@ -1,3 +1,5 @@
+pub mod Exchange
+pub mod GivenEdges
 pub mod Kept
 pub mod Passing
 pub mod Proportional

@@ -1,4 +1,6 @@
 //! What holds of weights. Each law is the contract of a function that does nothing.
+ghost use Rattle.weight_book.specs.Exchange.{ExchangeLaw};
+ghost use Rattle.weight_book.specs.GivenEdges.{OneOrderLaw};
 ghost use Rattle.weight_book.specs.Proportional.{AveragingLaw};
 
 /// Weights that pass the check are proportional, whoever made them: each group of voters that holds
@@ -7,4 +9,15 @@ ghost use Rattle.weight_book.specs.Proportional.{AveragingLaw};
 /// Stewart do.
 pub fn weights_that_pass_are_proportional()
     ensures { AveragingLaw }
+{}
+
+/// Edges sum to the same by voter and by target: what the voters give is what the targets get.
+pub fn voters_give_what_targets_get()
+    ensures { ExchangeLaw }
+{}
+
+/// Edges without those that give nothing stand in one order alone, by voter and then by target, and
+/// support each target as all the edges do. Whoever sorts them comes to the same edges.
+pub fn edges_that_give_stand_in_one_order()
+    ensures { OneOrderLaw }
 {}

@@ -1,4 +1,4 @@
-use Rattle.std.proofs.Common.{rules, ◌≡◌, ◌≢◌, ◌+◌, Ok, Err, sym, subst}
+use Rattle.std.proofs.Common.{rules, ◌≢◌, Ok, Err, sym, subst}
 use Rattle.scale_wire.specs.Parts.{compact_u32}
 use Rattle.scale_wire.specs.Composite.{pair}
 use Rattle.scale_wire.specs.Reading.{Place, Reads}

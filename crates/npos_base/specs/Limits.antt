@@ -1,0 +1,17 @@
+-- The limits of a chain, in numbers: what the specifications of all rooms cite by name.
+use Rattle.std.specs.Prelude.{◌≡◌}
+use Rattle.npos_base.specs.declared.limits.TheConstants.{MOST_NOMINATIONS, MOST_VALIDATORS, MOST_TARGETS, MOST_VOTERS, MOST_EDGES, MOST_SEATS, MOST_THRESHOLDS, MOST_ENDOWMENTS, MOST_SOLUTION_BYTES, MOST_QUEUED, MOST_PAST_ERAS, WHOLE_FRACTION}
+
+pub record AreTheLimits : Type 0 where
+  pub nominations : MOST_NOMINATIONS ≡ 24
+  pub validators : MOST_VALIDATORS ≡ 2048
+  pub targets : MOST_TARGETS ≡ 2048
+  pub voters : MOST_VOTERS ≡ 16384
+  pub edges : MOST_EDGES ≡ 262144
+  pub seats : MOST_SEATS ≡ 512
+  pub thresholds : MOST_THRESHOLDS ≡ 200
+  pub endowments : MOST_ENDOWMENTS ≡ 65536
+  pub solution_bytes : MOST_SOLUTION_BYTES ≡ 2097152
+  pub queued : MOST_QUEUED ≡ 16
+  pub past_eras : MOST_PAST_ERAS ≡ 84
+  pub fraction : WHOLE_FRACTION ≡ 1000000000

@@ -1,0 +1,5 @@
+use Rattle.npos_runtime.proofs.KeptSoundLemmas.{resume}
+use Rattle.npos_runtime.proofs.laws.a_kept_state_goes_on.Goals as goal
+
+pub returns : goal.returns
+returns c = resume

@@ -1,0 +1,5 @@
+use Rattle.npos_runtime.proofs.KeptChainLemmas.{restore}
+use Rattle.npos_runtime.proofs.laws.a_state_is_led_back_to_its_chain.Goals as goal
+
+pub returns : goal.returns
+returns c = restore

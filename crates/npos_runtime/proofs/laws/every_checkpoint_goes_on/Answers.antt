@@ -1,0 +1,5 @@
+use Rattle.npos_runtime.proofs.KeptFormLemmas.{checkpoint}
+use Rattle.npos_runtime.proofs.laws.every_checkpoint_goes_on.Goals as goal
+
+pub returns : goal.returns
+returns c = checkpoint

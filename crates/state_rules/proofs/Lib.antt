@@ -1,0 +1,8 @@
+pub mod ListLemmas
+pub mod NotedLemmas
+pub mod KnownLemmas
+pub mod RoundLemmas
+pub mod CauseLemmas
+pub mod RowLemmas
+pub mod SoundLemmas
+pub mod StateLemmas

@@ -1,0 +1,13 @@
+pub mod Lists
+pub mod Terms
+pub mod Accounts
+pub mod Known
+pub mod Rows
+pub mod Roles
+pub mod Eras
+pub mod Rounds
+pub mod Queue
+pub mod Waiting
+pub mod Slashes
+pub mod Causes
+pub mod Sound
