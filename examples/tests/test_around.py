@@ -159,6 +159,27 @@ class Examples(Folder):
             self.assertEqual((done.returncode, done.stdout, done.stderr.decode()), (2, b'', said))
 
 
+class Origins(Folder):
+    """Where want of memory comes from, as `bench/origins` finds it in some code."""
+
+    def place(self, body: str) -> subprocess.CompletedProcess[bytes]:
+        self.put('bench/origins', (TOP / 'bench/origins').read_text())
+        self.put('crates/room/src/lib.rt', f'fn push(list: &mut Vec<u8>) -> Result<(), NoMemory>\n{{\n    {body}\n}}\n')
+        return run(self.top / 'bench/origins')
+
+    def test_the_code_has_one_origin(self) -> None:
+        self.assertEqual(run(TOP / 'bench/origins').returncode, 0)
+
+    def test_what_is_handed_on_is_none(self) -> None:
+        for body in ['list.push(0)?;\n    Ok(())', 'match list.push(0) {\n        Ok(()) => Ok(()),\n        Err(Fault::NoMemory) => Err(NoMemory),\n    }']:
+            self.assertEqual(self.place(body).returncode, 0)
+
+    def test_what_is_made_is_one_more(self) -> None:
+        done = self.place('match list.push(0) {\n        Ok(()) => Ok(()),\n        Err(_) => Err(NoMemory),\n    }')
+        self.assertEqual(done.returncode, 1)
+        self.assertTrue(done.stdout.startswith(b'room/src/lib.rt:5: Err(_) => Err(NoMemory),\n'))
+
+
 class Bench(Folder):
     def test_it_compares(self) -> None:
         done = run(TOP / 'bench/run', '--rounds', '1', 'bonds', '10', 'true', 'true')
