@@ -1,6 +1,10 @@
-use Rattle.std.proofs.Common.{arith, refl, sym, subst}
+use Rattle.std.proofs.Common.{◌≡◌, ◌∙◌, ℕ, List, arith, refl, sym, ap, ap₂, subst}
+use Rattle.npos_base.specs.declared.figures.Score.{Score}
+use Rattle.compact_solution.specs.Solution.{solution_form}
+use Rattle.election_check.specs.Packed.{expanded, verdict_packed}
 use Rattle.election_snapshot.specs.Snapshot.{Snapshot}
 use Rattle.weight_book.specs.Weights.{IsFeasible}
+use Rattle.weight_book.specs.Scoring.{score_of}
 use Rattle.weight_book.proofs.StakeLemmas.{amounts_within}
 use Rattle.bundle_reports.proofs.MineLaws.{whole_as, whole_feasible}
 use Rattle.bundle_reports.proofs.mining.judge.Goals as goal
@@ -21,3 +25,13 @@ pub returns-clause-feasible : goal.returns-clause-feasible
 returns-clause-feasible c =
     whole_feasible c.args.checker.now c.args.solution c.expand-yes.new.weights.plain c.requires
     (whole_as c.args.checker.now c.args.checker.now c.args.solution c.expand-yes.new.weights.plain refl c.requires c.expand-yes.ensures.weights)
+
+pub returns-clause-verdict : goal.returns-clause-verdict
+returns-clause-verdict c =
+    let whole = whole_as c.args.checker.now c.args.checker.now c.args.solution c.expand-yes.new.weights.plain refl c.requires c.expand-yes.ensures.weights in
+    let claim : c.score-score.result ≡ score_of (expanded c.args.checker.now c.args.solution) =
+    c.score-score.ensures ∙ ap score_of whole in
+    let bytes : c.as_slice.result.now ≡ solution_form.spelling c.args.solution = c.as_slice.ensures ∙ c.in_ok-bytes.ensures in
+    c.in_ok-verdict.ensures.verdict
+    ∙ ap (λ (s : Snapshot). verdict_packed s c.score-score.result c.as_slice.result.now) c.expand-yes.ensures.snapshot
+    ∙ ap₂ (λ (claim : Score) (spelled : List ℕ). verdict_packed c.args.checker.now claim spelled) claim bytes
