@@ -1,15 +1,9 @@
 //! The worked payout and the worked slashes, each refusal, the eras that go, and the slashes that
 //! wait. Expected answers are the rules', by hand.
-ghost use Rattle.std.specs.Prelude.{◌≡◌, ◌+◌, ◌<◌, ◌≤◌, All, IfOk};
-ghost use Rattle.std.specs.List.Sorted.{IsStrictlySortedBy};
-ghost use Rattle.std.specs.Map.{keys_of};
-ghost use Rattle.npos_base.specs.Account.{account_cmp};
-ghost use Rattle.era_book.specs.Exposures.{AreSound, IsSound};
-ghost use Rattle.era_book.specs.Records.{members_from};
+ghost use Rattle.std.specs.Prelude.{◌≡◌, ◌+◌, ◌<◌, ◌≤◌, IfOk};
+ghost use Rattle.era_book.specs.Exposures.{AreSound};
 
-use era_book::{
-    Backer, DeferredSlash, EraBook, EraRefusal, Exposure, MOST_SLASHES, MemberRecord, laws,
-};
+use era_book::{Backer, EraBook, EraRefusal, Exposure, MOST_SLASHES, laws};
 use npos_base::{AccountId, Edge, List, NoMemory, Reason};
 use std::alloc::Global;
 use std::fmt::Write;
@@ -327,112 +321,6 @@ fn the_others_stand_in_the_order_of_the_voters(rt: HostRuntime) -> Result<(), Fa
     Ok(())
 }
 
-/// Two members of an era, by account, with what became of them.
-fn two_members(alloc: Global) -> Result<List<MemberRecord>, NoMemory>
-    ensures { IfOk result (λ members. (IsStrictlySortedBy account_cmp
-        (keys_of (members_from members))) × All (λ member. IsSound member.exposure) members) }
-{
-    let first = MemberRecord {
-        exposure: exposure(alloc, 1, 100_000_000, 90, &[backer(1, 50), backer(2, 40)])?,
-        points: 6,
-        claimed: true,
-        fraction: 0,
-    };
-    let second = MemberRecord {
-        exposure: exposure(alloc, 3, 0, 55, &[backer(4, 55)])?,
-        points: 2,
-        claimed: false,
-        fraction: 100_000_000,
-    };
-    Ok(List::from_vec(vec![in alloc; first, second]?))
-}
-
-/// Puts the two members in an era that is known.
-fn put_two(alloc: Global, book: &mut EraBook, era: u32) -> Result<(), Fail> {
-    let current = book.current();
-    if era <= current && current - era <= 84 {
-        book.put_era(era, two_members(alloc)?)?;
-    }
-    Ok(())
-}
-
-/// The members of an era, each with its support, what became of it, and its backers.
-fn told_of_era(alloc: Global, book: &EraBook, era: u32) -> Result<String, Fail> {
-    let mut text = String::new(alloc);
-    for member in book.era_members(alloc, era)?.as_slice() {
-        let MemberRecord {
-            exposure,
-            points,
-            claimed,
-            fraction,
-        } = member;
-        write!(
-            text,
-            "{} {} {} {points} {claimed} {fraction}",
-            exposure.validator.lo, exposure.commission, exposure.support
-        )?;
-        for line in exposure.backers.as_slice() {
-            write!(text, " {}:{}", line.who.lo, line.amount)?;
-        }
-        write!(text, ", ")?;
-    }
-    Ok(text)
-}
-
-/// What is told of the two members.
-const TWO: &str = "1 100000000 90 6 true 0 1:50 2:40, 3 0 55 2 false 100000000 4:55, ";
-
-#[test]
-fn eras_are_made_anew(rt: HostRuntime) -> Result<(), Fail> {
-    let alloc = rt.alloc();
-    let mut book = EraBook::at_era(alloc, 100, 7)?;
-    assert_eq!(rt; book.current(), 100);
-    assert_eq!(rt; book.next_slash(), 7);
-    for era in [16, 99, 100] {
-        put_two(alloc, &mut book, era)?;
-    }
-    for (era, told) in [
-        (15, ""),
-        (16, TWO),
-        (50, ""),
-        (99, TWO),
-        (100, TWO),
-        (101, ""),
-    ] {
-        assert_eq!(rt; told_of_era(alloc, &book, era)?.as_str(), told);
-    }
-    assert_eq!(rt; claimed(alloc, &mut book, 99, 1)?.as_str(), "refused 24");
-    assert_eq!(rt; claimed(alloc, &mut book, 99, 3)?.as_str(), "4 250, 250");
-    assert_eq!(rt;
-        reported(alloc, &mut book, 16, 3, 200_000_000)?.as_str(),
-        "4 6, "
-    );
-    assert_eq!(rt;
-        reported(alloc, &mut book, 16, 3, 200_000_000)?.as_str(),
-        "refused 25"
-    );
-    Ok(())
-}
-
-#[test]
-fn a_slash_is_put_as_it_waited(rt: HostRuntime) -> Result<(), Fail> {
-    let alloc = rt.alloc();
-    let mut book = EraBook::at_era(alloc, 3, 7)?;
-    book.put_slash(DeferredSlash {
-        number: 5,
-        due: 4,
-        lines: List::new(alloc),
-    })?;
-    assert_eq!(rt; book.queued().len(), 1);
-    assert_eq!(rt; queue_for(alloc, &mut book, 4)?.as_str(), "7");
-    assert_eq!(rt; book.cancel_slash(6), Err(EraRefusal::NoSlash));
-    assert!(rt; book.take_due().is_none());
-    start_empty(alloc, &mut book)?;
-    assert!(rt; matches!(book.take_due(), Some(DeferredSlash { number: 5, .. })));
-    assert!(rt; matches!(book.take_due(), Some(DeferredSlash { number: 7, .. })));
-    Ok(())
-}
-
 #[test]
 fn each_law_is_called(_rt: HostRuntime) {
     laws::a_payout_is_within_its_value();
@@ -444,6 +332,4 @@ fn each_law_is_called(_rt: HostRuntime) {
     laws::later_dues_are_within_the_exposures();
     laws::what_is_taken_was_queued();
     laws::exposures_are_the_edges();
-    laws::eras_are_made_anew_from_their_members();
-    laws::members_stay_whole();
 }

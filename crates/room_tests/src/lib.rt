@@ -12,8 +12,6 @@ mod blocks;
 #[cfg(test)]
 mod books;
 #[cfg(test)]
-mod causes;
-#[cfg(test)]
 mod eras;
 #[cfg(test)]
 mod fills;
@@ -35,8 +33,6 @@ mod queues;
 mod snapshots;
 #[cfg(test)]
 mod solutions;
-#[cfg(test)]
-mod states;
 #[cfg(test)]
 mod verdicts;
 #[cfg(test)]

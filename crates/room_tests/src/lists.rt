@@ -32,9 +32,6 @@ fn five_in_bags(alloc: Global) -> Result<Bags, NoMemory> {
     Ok(bags)
 }
 
-/// The bags in which they stand then.
-const BAGS: [(u8, u32); 5] = [(1, 0), (2, 0), (3, 1), (4, 2), (5, 0)];
-
 /// Whether these accounts are the walk, from one to the next and in one go.
 fn walks(bags: &Bags, accounts: &[AccountId]) -> bool {
     let mut next = bags.first();
@@ -116,31 +113,6 @@ fn roles_come_and_go(rt: HostRuntime) -> Result<(), Fail> {
         roles.validate(at(2), 1_000_000_001),
         Err(ListRefusal::BadFraction)
     );
-    Ok(())
-}
-
-#[test]
-fn roles_are_put(rt: HostRuntime) -> Result<(), Fail> {
-    let alloc = rt.alloc();
-    let mut roles = Roles::new(alloc);
-    roles.put_role(at(3), Role::Nominator, list_of(alloc, &[at(2), at(9)])?)?;
-    roles.put_role(at(2), Role::Validator { commission: 7 }, List::new(alloc))?;
-    assert_eq!(rt; roles.role(at(3)), Role::Nominator);
-    assert_eq!(rt; roles.targets_of(at(3)), [at(2), at(9)].as_slice());
-    assert_eq!(rt; roles.role(at(2)), Role::Validator { commission: 7 });
-    roles.put_role(at(3), Role::Validator { commission: 0 }, List::new(alloc))?;
-    assert_eq!(rt; roles.validator_count(), 2);
-    assert_eq!(rt; roles.targets_of(at(3)), [].as_slice());
-    Ok(())
-}
-
-#[test]
-fn accounts_tell_their_bags(rt: HostRuntime) -> Result<(), Fail> {
-    let bags = five_in_bags(rt.alloc())?;
-    for (n, number) in BAGS {
-        assert!(rt; bags.contains(at(n)));
-        assert_eq!(rt; bags.bag(at(n)), number);
-    }
     Ok(())
 }
 
@@ -284,6 +256,4 @@ fn the_middle_of_four_hundred_thousand_leaves_one_bag(rt: HostRuntime) -> Result
 fn each_law_is_called(_rt: HostRuntime) {
     laws::calls_end_with_one_walk();
     laws::accounts_repeat_or_are_distinct();
-    laws::a_walk_is_made_anew_in_its_order();
-    laws::roles_stay_sound();
 }
