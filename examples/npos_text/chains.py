@@ -1,4 +1,5 @@
-"""A chain as its stream and what `npos replay` wrote of it tell it together: calls, submissions, stakes, roles and bags."""
+"""A chain as its stream, or a state and the blocks behind it, and what npos wrote of them tell it together: calls, submissions,
+stakes, roles and bags."""
 from __future__ import annotations
 
 from bisect import bisect_left
@@ -23,8 +24,10 @@ class Told(NamedTuple):
 
 
 def stream_of(data: bytes) -> Reading:
-    """The stream that the bytes spell, or its front where they are damaged further on."""
-    reading = Reading(data, 'stream')
+    """The stream that the bytes spell, or the state with blocks, or its front where they are damaged further on."""
+    reading, state = Reading(data, 'stream'), Reading(data, 'state')
+    if reading.fault and (state.fault is None or state.fault.at > reading.fault.at):
+        reading = state
     for other in ('bundle', 'pool') if reading.fault else ():
         if not Reading(data, other).fault:
             raise Fault(f'these bytes are a {other}, and a stream was expected')
@@ -62,7 +65,7 @@ def told(reading: Reading, lines: List[str]) -> Iterator[Told]:
 
 
 class Submission(NamedTuple):
-    """Who handed in which work (its words in a bundle), for which round, where."""
+    """Who handed in which work (its words in a bundle), for which round, where; block 0 where it stands in a state."""
 
     who: str
     round: int
@@ -72,12 +75,20 @@ class Submission(NamedTuple):
 
 
 def submissions_of(reading: Reading, lines: List[str]) -> Dict[int, Submission]:
-    """The accepted submissions by their numbers."""
+    """The accepted submissions by their numbers, those that wait in a state first."""
     found: Dict[int, Submission] = {}
+    number = 1
+    for state_line in reading.lines:
+        if state_line.words[0] == 'next_submission':
+            number = int(state_line.words[1])
+        if state_line.words[0] == 'submission':
+            queued, who, *work = state_line.words[1:]
+            found[int(queued)] = Submission(who, Chain(reading).era + 1, ['packed', *work], 0, 0)
     for line in told(reading, lines):
         if line.call and line.call.words[2] == 'submit' and line.words[2] == 'ok':
             who, _, turn, *work = line.call.words[1:]
-            found[len(found) + 1] = Submission(who, int(turn), ['packed', *work], line.block, int(line.words[1]))
+            found[number] = Submission(who, int(turn), ['packed', *work], line.block, int(line.words[1]))
+            number += 1
     return found
 
 
@@ -98,11 +109,27 @@ class Chain:
         words = {line.words[0]: line.words[1:] for line in reading.lines if line.words[0] not in ('endow', 'call', 'block')}
         self.has_rounds = 'era_reward' in words
         self.thresholds = [int(one) for one in words.get('thresholds', [])]
-        self.seats, self.era_blocks, self.bonding = (
-            int(words[name][0]) if self.has_rounds else 0 for name in ('seats', 'era_blocks', 'bonding_eras'))
+        self.seats, self.era_blocks, self.offset, self.bonding = (
+            int(words[name][0]) if self.has_rounds else 0 for name in ('seats', 'era_blocks', 'offset', 'bonding_eras'))
         self.rows: Dict[str, Row] = {}
         self.bags: Dict[int, List[str]] = {}
-        self.era = 0
+        # of a state, that of its last block
+        due = int(words.get('due', ['1'])[0])
+        self.era = (due - 2) // self.era_blocks if self.has_rounds and due > 1 else 0
+        for line in reading.lines:
+            if line.words[0] in ('row', 'role'):
+                self.take(*line.words)
+
+    def take(self, word: str, name: str, *rest: str) -> None:
+        """What a row or a role of a state says."""
+        who = account_of(name).hex()
+        row = self.row(who)
+        if word == 'row':
+            row.active, row.chunks = int(rest[1]), [[int(part) for part in chunk.split('/')] for chunk in rest[2:-1]]
+            return
+        row.bag = int(rest[0])
+        self.bags.setdefault(row.bag, []).append(who)
+        row.votes = [who] if rest[1] == 'validator' else [account_of(vote).hex() for vote in rest[2:]]
 
     def row(self, who: str) -> Row:
         """What is kept of an account."""
@@ -244,10 +271,26 @@ class Round(NamedTuple):
     seated: List[List[str]]
 
 
+def open_round(reading: Reading, chain: Chain) -> List[Round]:
+    """The round that is open in a state, if one is."""
+    names = [line.words[0] for line in reading.lines]
+    if 'round' not in names:
+        return []
+    election = Election(chain.seats)
+    for line in reading.lines[names.index('round') + 1:]:
+        if line.words[0] == 'target':
+            election.targets.append(line.words[1])
+        elif line.words[0] == 'voter':
+            election.voters.append(Voter(line.words[1], int(line.words[2]), [int(vote) for vote in line.words[3:]]))
+        else:
+            break
+    return [Round(chain.era + 1, chain.era * chain.era_blocks + chain.offset + 1, election, [])]
+
+
 def rounds_of(reading: Reading, lines: List[str]) -> List[Round]:
     """The rounds that have a snapshot. What was written and what the stream makes of it have to agree."""
     chain = Chain(reading)
-    rounds: List[Round] = []
+    rounds = open_round(reading, chain)
     for line in told(reading, lines):
         word = line.words[0]
         if word == 'snapshot':

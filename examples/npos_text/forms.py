@@ -1,4 +1,4 @@
-"""The forms of streams and bundles: of which parts each line stands, in words and in bytes.
+"""The forms of streams, bundles, pools and states: of which parts each line stands, in words and in bytes.
 
 A part takes its words from the front of those that are left, and its bytes from a reader.
 """
@@ -159,6 +159,43 @@ class Many(Part):
         return [word for _ in range(count) for part in self.parts for word in part.read(reader)]
 
 
+class Joined(Part):
+    """A list of items of which each is one word, its parts joined by `/`: all such words at the front."""
+
+    def __init__(self, limit: int, *parts: Part) -> None:
+        self.limit, self.parts = limit, parts
+        self.one = '/'.join(part.label for part in parts)
+        self.label = self.one + ' ..'
+
+    def write(self, words: List[str]) -> bytes:
+        items = []
+        while words and '/' in words[0]:
+            items.append(write_parts('each of them', self.parts, words.pop(0).split('/')))
+        if len(items) > self.limit:
+            raise Fault(f'there stand {len(items)} words {self.one}, and at most {self.limit} were expected')
+        return compact(len(items)) + b''.join(items)
+
+    def read(self, reader: Reader) -> List[str]:
+        return ['/'.join(read_parts(self.parts, reader)) for _ in range(reader.length(self.limit))]
+
+
+class Choice(Part):
+    """One of some words, whose tag is its place among them, with the parts that it has behind it."""
+
+    def __init__(self, label: str, choices: Dict[str, Tuple[Part, ...]]) -> None:
+        self.label, self.choices = label, choices
+
+    def write(self, words: List[str]) -> bytes:
+        word = words.pop(0)
+        if word not in self.choices:
+            raise Fault(f'there stands {shown(word)}, and one of these words was expected: {", ".join(self.choices)}')
+        return bytes([list(self.choices).index(word)]) + b''.join(part.write(words) for part in self.choices[word])
+
+    def read(self, reader: Reader) -> List[str]:
+        word = list(self.choices)[reader.tag(len(self.choices))]
+        return [word, *read_parts(self.choices[word], reader)]
+
+
 U16, U32, U64 = Number(16), Number(32), Number(64)
 
 ENDOWMENTS, CALLS, TARGETS, VOTERS, EDGES = 65_536, 64, 2_048, 16_384, 262_144
@@ -191,6 +228,23 @@ VOTER = (Account(), Number(64, 'stake'), Many(64, Number(16, 'vote')))
 PACKED = (Claim(), Solution())
 COMMITTEE = (Many(2_048, Number(16, 'member')),)
 EDGE = (Number(32, 'voter'), Number(16, 'target'), Number(64, 'amount'))
+
+MEMBERS, QUEUED, STATE_EDGES, SLASHES = 512, 16, 393_216, 256
+COMMISSION, PARTS = Number(32, 'commission'), (Account(), Number(64, 'amount'))
+
+# the lines of a state behind its params
+STATE: Dict[str, Tuple[Part, ...]] = {
+    'due': (U64,), 'sums': (Number(64, 'genesis'), Number(64, 'minted'), Number(64, 'burned')),
+    'row': (Account(), Number(64, 'free'), Number(64, 'active'), Joined(32, Number(64, 'value'), Number(32, 'release')),
+            Number(64, 'held')),
+    'role': (Account(), Number(32, 'bag'), Choice('kind ..', {'nominator': (Many(64, Account()),), 'validator': (COMMISSION,)})),
+    'era': (U32,),
+    'member': (Account(), COMMISSION, Joined(16_384, *PARTS), Number(32, 'points'),
+               Choice('unclaimed or claimed', {'unclaimed': (), 'claimed': ()}), Number(32, 'fraction')),
+    'target': (Account(), COMMISSION), 'voter': VOTER, 'committee': (Many(512, Number(16, 'member')),), 'edge': EDGE,
+    'next_submission': (U64,), 'submission': (U64, Account(), Claim(), Solution()),
+    'next_slash': (U64,), 'slash': (U64, Number(32, 'due-era'), Joined(16_384, *PARTS)),
+}
 
 
 def write_parts(name: str, parts: Sequence[Part], words: Sequence[str]) -> bytes:

@@ -4,7 +4,7 @@ from __future__ import annotations
 from typing import Callable, List, NamedTuple, Optional
 
 from . import forms
-from .forms import GENESES, ITEMS, KINDS, read_parts
+from .forms import GENESES, ITEMS, KINDS, STATE, read_parts
 from .scale import Reader, Refusal
 
 
@@ -16,16 +16,17 @@ class Line(NamedTuple):
 
 
 class Reading:
-    """The lines that bytes stand for, a stream, a bundle or a pool's input, up to the first part that spells nothing."""
+    """The lines that bytes stand for, a stream, a bundle, a pool's input or a state, up to the first part that spells nothing."""
 
     def __init__(self, data: bytes, form: str) -> None:
+        self.form = form
         self.lines: List[Line] = []
         self.fault: Optional[Refusal] = None
         # where the next line begins, and its first word, once it is begun
         self.rest, self.next = 0, ''
         self.reader = Reader(data)
         try:
-            {'stream': self.take_stream, 'bundle': self.take_bundle, 'pool': self.take_pool}[form]()
+            {'stream': self.take_stream, 'bundle': self.take_bundle, 'pool': self.take_pool, 'state': self.take_state}[form]()
             self.rest, self.next = self.reader.at, 'nothing'
             self.reader.end()
         except Refusal as refusal:
@@ -50,8 +51,12 @@ class Reading:
             self.add_parts('endow', *forms.ENDOW)
         for name, part in params.items():
             self.add_parts(name, part)
+        self.take_blocks()
+
+    def take_blocks(self) -> None:
+        """Reads blocks until the end."""
         while self.has_block():
-            for _ in range(reader.length(forms.CALLS)):
+            for _ in range(self.reader.length(forms.CALLS)):
                 self.add('call', self.call)
 
     def has_block(self) -> bool:
@@ -86,6 +91,57 @@ class Reading:
         kind = list(ITEMS)[self.reader.tag(len(ITEMS))]
         return ['item', *who, kind, *read_parts(ITEMS[kind], self.reader)]
 
+    def take_state(self) -> None:
+        """Reads a state, and, where more stands behind it, blocks until the end."""
+        reader = self.reader
+        self.add('state', lambda: ['state', ['plain', 'full'][reader.tag(1) or reader.tag(2)]])
+        for name, part in GENESES['deferred'].items() if self.lines[0].words[1] == 'full' else ():
+            self.add_parts(name, part)
+        for name in ('due', 'sums'):
+            self.add_parts(name, *STATE[name])
+        for name in ('row', 'role', 'era'):
+            self.take_run(name)
+        self.take_round('round')
+        self.take_list('next_submission', 'submission', forms.QUEUED)
+        if self.take_round('waiting'):
+            self.add_parts('committee', *STATE['committee'])
+            self.take_lines('edge', forms.STATE_EDGES)
+        self.take_list('next_slash', 'slash', forms.SLASHES)
+        if reader.at < len(reader.data):
+            self.take_blocks()
+
+    def has_next(self, name: str) -> bool:
+        """Reads the tag before a line, or that there is none; what cannot be read begins there."""
+        self.rest, self.next = self.reader.at, name
+        return self.reader.tag(2) == 1
+
+    def take_run(self, name: str) -> None:
+        """Reads lines with a tag before each, until there is none."""
+        while self.has_next(name):
+            self.lines.append(Line(self.rest, [name, *read_parts(STATE[name], self.reader)]))
+            if name == 'era':
+                self.take_lines('member', forms.MEMBERS)
+
+    def take_lines(self, name: str, limit: int) -> None:
+        """Reads a list of lines."""
+        self.rest, self.next = self.reader.at, name
+        for _ in range(self.reader.length(limit)):
+            self.add_parts(name, *STATE[name])
+
+    def take_list(self, first: str, name: str, limit: int) -> None:
+        """Reads the next number, and a list of lines."""
+        self.add_parts(first, *STATE[first])
+        self.take_lines(name, limit)
+
+    def take_round(self, name: str) -> bool:
+        """Reads a snapshot, if there is one."""
+        if not self.has_next(name):
+            return False
+        self.lines.append(Line(self.rest, [name]))
+        self.take_lines('target', forms.TARGETS)
+        self.take_lines('voter', forms.VOTERS)
+        return True
+
     def take_bundle(self) -> None:
         """Reads an election and the work on it."""
         reader = self.reader
@@ -116,5 +172,5 @@ class Reading:
 
 
 def decode(data: bytes, form: str) -> str:
-    """The text of a stream, a bundle or a pool's input, each line with its place. What has no text ends in a line of bytes."""
+    """The text of bytes of a form, each line with its place. What has no text ends in a line of bytes."""
     return Reading(data, form).text()

@@ -26,6 +26,17 @@ GENESIS: Dict[int, str] = dict(enumerate([
     'least_bond is 0', 'this threshold is 0 or not above the one before it', 'queue is not 1 to 16',
     'solution_max is not 1 to 2,097,152', 'defer_eras is not below bonding_eras', 'the account of this endowment is the pool'], 1))
 
+CHECKPOINT: Dict[int, str] = dict(enumerate([
+    'the next block has the number 0 or one above 2^32', 'the params have a fault of a genesis: {why}',
+    'row {0} does not stand by rising account, or a chunk of it is 0, out of order, or released later than any may be',
+    'the rows do not sum to genesis plus minted less burned, or more was made than may ever be issued',
+    'the role at place {0} is none that its account can have there', 'the era at place {0} is none that can be kept',
+    'the snapshot of the round is none that can stand now',
+    'the next number of a submission is none that can be, or the submission at place {0} is none that can wait',
+    'row {0} does not hold the deposits of its submissions', 'the committee that waits is none that can stand now',
+    'the committee that waits has another verdict than yes: {verdict}',
+    'the next number of a slash is none that can be, or the slash at place {0} is none that can wait'], 1))
+
 SNAPSHOT: Dict[int, str] = dict(enumerate([
     'fewer targets than seats', 'the total is below seats times seats', 'the account of this target stands already',
     'the account of this voter stands already', 'this voter votes for a position that is no target',
@@ -52,7 +63,8 @@ LINES: List[str] = [
     'reward N N', 'seat N (signed N|fill)', '(member|paid|slashed) H N', 'call N (ok|refused ([1-9]|[123][0-9]|4[0-3]))', 'deferred N N', 'apply N',
     'end free N active N unlocking N deposits N minted N burned N issuance N', 'pool points N active N pot N credits N',
     'fault N (short|notshortest|toowide|badtag|toomany|trailing|nosolution|json|shape|long)', 'fault N number due N found N',
-    'fault 0 genesis ([1-9]|1[01]) N', 'fault 0 snapshot ([1-9]|1[0-3]) N( N)?', 'score N N N', 'solution [0-9a-f]*', 'lost N', 'verdict W',
+    'fault 0 genesis ([1-9]|1[01]) N', 'fault 0 checkpoint ([1-9]|10|12) N', 'fault 0 checkpoint 11 W',
+    'fault 0 snapshot ([1-9]|1[0-3]) N( N)?', 'score N N N', 'solution [0-9a-f]*', 'lost N', 'verdict W',
     'demo targets N voters N total N', '(fill|seq) score N N N verdict W', 'seq lost N',
 ]
 LINE = re.compile('|'.join(LINES).replace('W', '(0|1 N [1-6]|[23458] N|(6|10) N N|(7|11) N|9 N N N)')
@@ -79,3 +91,10 @@ def verdict(words: List[str]) -> str:
         'voter {0} gives more than its stake']
     why = list(BYTES.values())[int(words[2]) - 1] if words[0] == '1' else ''
     return said[int(words[0])].format(*words[1:], why=why)
+
+
+def checkpoint(words: List[str]) -> str:
+    """A fault of a state in a sentence."""
+    number, detail = int(words[0]), words[1]
+    why = GENESIS[int(detail)] if number == 2 and int(detail) in GENESIS else ''
+    return CHECKPOINT[number].format(detail, why=why, verdict=verdict(words[1:]) if number == 11 else '')

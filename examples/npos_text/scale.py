@@ -60,6 +60,11 @@ def listed(items: Iterable[bytes]) -> bytes:
     return compact(len(spelled)) + b''.join(spelled)
 
 
+def run(items: Iterable[bytes], is_ended: bool = True) -> bytes:
+    """Items with a 1 before each, and a 0 behind the last."""
+    return b''.join(b'\x01' + item for item in items) + b'\x00' * is_ended
+
+
 def solution(entries: Iterable[Entry], is_wide: bool = False) -> bytes:
     """A solution of entries, each in the list of its number of targets. It is wide where that is asked for, or where an entry
     has more than 16 targets."""

@@ -60,11 +60,11 @@ def program() -> List[str]:
     return shlex.split(os.environ.get('NPOS_PROGRAM', '')) or [str(TOP / 'npos')]
 
 
-def replayed(stream: bytes) -> List[str]:
-    """The lines that `npos replay` writes of a stream."""
-    done = subprocess.run(program() + ['replay'], input=stream, stdout=subprocess.PIPE)
+def replayed(stream: bytes, verb: str = 'replay') -> List[str]:
+    """The lines that `npos replay` writes of a stream, or `npos resume` of a state with blocks."""
+    done = subprocess.run(program() + [verb], input=stream, stdout=subprocess.PIPE)
     if done.returncode not in (0, 3):
-        raise Fault(f'npos replay ended with status {done.returncode}, and 0 or 3 was expected')
+        raise Fault(f'npos {verb} ended with status {done.returncode}, and 0 or 3 was expected')
     return report(done.stdout.decode())
 
 

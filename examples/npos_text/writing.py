@@ -4,13 +4,13 @@ from __future__ import annotations
 from typing import Callable, Dict, Iterator, List, Optional, Tuple
 
 from . import forms
-from .forms import GENESES, ITEMS, KINDS, hex_of, number_of, shown, write_parts
-from .scale import Fault, listed
+from .forms import GENESES, ITEMS, KINDS, STATE, hex_of, number_of, shown, write_parts
+from .scale import Fault, listed, run
 
 Numbered = Tuple[int, List[str]]
 
 # what a text begins with
-FIRST = 'genesis plain, genesis full, genesis deferred, bundle or pool'
+FIRST = 'genesis plain, genesis full, genesis deferred, bundle, pool, state plain or state full'
 
 
 def lines_of(text: str) -> Iterator[Numbered]:
@@ -22,7 +22,7 @@ def lines_of(text: str) -> Iterator[Numbered]:
 
 
 class Form:
-    """What the lines of a stream or a bundle have said so far. A line has a method of its name with `on_` before it."""
+    """What the lines of a text have said so far. A line has a method of its name with `on_` before it."""
 
     def __init__(self) -> None:
         self.seen: Dict[str, int] = {}
@@ -34,9 +34,12 @@ class Form:
         self.number = number
         method: Optional[Callable[[List[str]], None]] = getattr(self, 'on_' + word, None)
         if method is None:
-            known = ', '.join(name[3:] for name in dir(self) if name.startswith('on_'))
-            raise Fault(f'there stands {shown(word)}, and one of these words was expected: {known}')
+            raise Fault(f'there stands {shown(word)}, and one of these words was expected: {", ".join(self.known())}')
         method(rest)
+
+    def known(self) -> List[str]:
+        """The first words of lines."""
+        return [name[3:] for name in dir(self) if name.startswith('on_')]
 
     def once(self, name: str, what: str) -> None:
         """Notes what may stand once alone."""
@@ -57,20 +60,60 @@ def must_be_few(count: int, limit: int, what: str) -> None:
         raise Fault(f'there stand {count} {what}, and at most {limit} were expected')
 
 
-class Stream(Form):
-    """A genesis and its blocks."""
+class Blocks(Form):
+    """What goes on with blocks: a genesis or a state."""
 
     def __init__(self) -> None:
         super().__init__()
         self.kind = 'plain'
-        self.endowments: List[bytes] = []
         self.params: Dict[str, bytes] = {}
         self.blocks: List[Tuple[bytes, List[bytes]]] = []
 
+    def must_go_on(self, word: str) -> None:
+        """There was no line `end`."""
+        if 'end' in self.seen:
+            raise Fault(f'there stands {shown(word)} behind the end, and nothing was expected but bytes or cut')
+
+    def must_be_whole(self) -> None:
+        """All stands that has to stand before blocks."""
+        raise NotImplementedError
+
+    def on_block(self, words: List[str]) -> None:
+        self.must_be_whole()
+        self.blocks.append((write_parts('block', [forms.U32], words), []))
+
+    def on_call(self, words: List[str]) -> None:
+        if not self.blocks:
+            raise Fault('there stands call, and a line block was expected before it')
+        if len(words) < 2:
+            raise Fault(f'call needs: account kind ..; there stands: {shown(" ".join(words))}')
+        who, kind, *rest = words
+        if kind not in KINDS:
+            raise Fault(f'there stands {shown(kind)}, and a kind of call was expected: {", ".join(KINDS)}')
+        calls = self.blocks[-1][1]
+        calls.append(forms.account_of(who) + bytes([list(KINDS).index(kind)]) + write_parts(kind, KINDS[kind], rest))
+        must_be_few(len(calls), forms.CALLS, 'calls in a block')
+
+    def on_end(self, words: List[str]) -> None:
+        write_parts('end', (), words)
+        self.must_be_whole()
+        self.once('end', 'end')
+
+    def spelled_blocks(self) -> bytes:
+        """The bytes of the blocks, and of the end where it stands."""
+        return run((number + listed(calls) for number, calls in self.blocks), 'end' in self.seen)
+
+
+class Stream(Blocks):
+    """A genesis and its blocks."""
+
+    def __init__(self) -> None:
+        super().__init__()
+        self.endowments: List[bytes] = []
+
     def take(self, number: int, words: List[str]) -> None:
         """Takes the next line, which may be one of the params."""
-        if 'end' in self.seen:
-            raise Fault(f'there stands {shown(words[0])} behind the end, and nothing was expected but bytes or cut')
+        self.must_go_on(words[0])
         if words[0] in GENESES['deferred']:
             self.number = number
             return self.take_param(*words)
@@ -97,27 +140,6 @@ class Stream(Form):
         self.endowments.append(write_parts('endow', forms.ENDOW, words))
         must_be_few(len(self.endowments), forms.ENDOWMENTS, 'endowments')
 
-    def on_block(self, words: List[str]) -> None:
-        self.must_be_whole()
-        self.blocks.append((write_parts('block', [forms.U32], words), []))
-
-    def on_call(self, words: List[str]) -> None:
-        if not self.blocks:
-            raise Fault('there stands call, and a line block was expected before it')
-        if len(words) < 2:
-            raise Fault(f'call needs: account kind ..; there stands: {shown(" ".join(words))}')
-        who, kind, *rest = words
-        if kind not in KINDS:
-            raise Fault(f'there stands {shown(kind)}, and a kind of call was expected: {", ".join(KINDS)}')
-        calls = self.blocks[-1][1]
-        calls.append(forms.account_of(who) + bytes([list(KINDS).index(kind)]) + write_parts(kind, KINDS[kind], rest))
-        must_be_few(len(calls), forms.CALLS, 'calls in a block')
-
-    def on_end(self, words: List[str]) -> None:
-        write_parts('end', (), words)
-        self.must_be_whole()
-        self.once('end', 'end')
-
     def must_be_whole(self) -> None:
         """The genesis has all its params."""
         self.must_have(*GENESES[self.kind])
@@ -128,8 +150,134 @@ class Stream(Form):
         if is_whole:
             self.must_have('end')
         out = [bytes([list(GENESES).index(self.kind)]), listed(self.endowments), *(self.params[name] for name in GENESES[self.kind])]
-        out += [b'\x01' + number + listed(calls) for number, calls in self.blocks]
-        return b''.join(out) + (b'\x00' if 'end' in self.seen else b'')
+        return b''.join(out) + self.spelled_blocks()
+
+
+# the parts of a state in the order of their bytes, each by its first line
+PARTS = ['state', 'due', 'sums', 'row', 'role', 'era', 'round', 'next_submission', 'submission', 'waiting', 'next_slash', 'slash',
+         'block']
+RUNS = ['row', 'role', 'era']
+# lines that stand within a part, and the parts in which they may
+WITHIN = {'member': ['era'], 'target': ['round', 'waiting'], 'voter': ['round', 'waiting'], 'committee': ['waiting'],
+          'edge': ['waiting']}
+ONCE = ['due', 'sums', 'next_submission', 'committee', 'next_slash']
+FEW = {'submission': (forms.QUEUED, 'submissions'), 'slash': (forms.SLASHES, 'slashes'), 'edge': (forms.STATE_EDGES, 'edges'),
+       'member': (forms.MEMBERS, 'members of an era'), 'target': (forms.TARGETS, 'targets'), 'voter': (forms.VOTERS, 'voters')}
+
+
+class State(Blocks):
+    """A state, and the blocks that go on from it, if there are any."""
+
+    def __init__(self) -> None:
+        super().__init__()
+        self.part = 'state'
+        self.lines: Dict[str, List[bytes]] = {name: [] for name in STATE}
+        # what stands within parts: the members of each era, and the targets and voters of a round and of a committee that waits
+        self.members: List[List[bytes]] = []
+        self.snapshots: Dict[str, Dict[str, List[bytes]]] = {}
+
+    def take(self, number: int, words: List[str]) -> None:
+        """Takes the next line, which stands where its part does."""
+        word, *rest = words
+        self.must_go_on(word)
+        self.number = number
+        if word in WITHIN and self.part not in WITHIN[word]:
+            raise Fault(f'there stands {word}, and it was expected behind {" or ".join(WITHIN[word])}')
+        part = 'block' if word == 'end' else word
+        if part in PARTS:
+            if PARTS.index(part) < PARTS.index(self.part):
+                raise Fault(f'there stands {word}, which was expected before {self.part}')
+            self.part = part
+        if word in GENESES['deferred']:
+            self.take_param(word, rest)
+        elif word in STATE:
+            self.take_line(word, rest)
+        else:
+            super().take(number, words)
+
+    def known(self) -> List[str]:
+        """The first words of lines."""
+        return [*super().known(), *STATE]
+
+    def take_param(self, name: str, words: List[str]) -> None:
+        """A line of the params."""
+        if self.part != 'state' or self.kind != 'full':
+            raise Fault(f'there stands {name}, and params were expected only in a state that has them, behind its first line')
+        self.once(name, name)
+        self.params[name] = write_parts(name, [GENESES['deferred'][name]], words)
+
+    def take_line(self, name: str, words: List[str]) -> None:
+        """A line of parts."""
+        if name in ONCE:
+            self.once(name, name)
+        if name == 'era':
+            self.members.append([])
+        lines = self.lines_of(name)
+        lines.append(write_parts(name, STATE[name], words))
+        if name in FEW:
+            must_be_few(len(lines), *FEW[name])
+
+    def lines_of(self, name: str) -> List[bytes]:
+        """The list that the next line of this name belongs to."""
+        if name == 'member':
+            return self.members[-1]
+        return self.snapshots[self.part][name] if name in ('target', 'voter') else self.lines[name]
+
+    def on_state(self, words: List[str]) -> None:
+        self.once('state', 'state')
+        if len(words) != 1 or words[0] not in ('plain', 'full'):
+            raise Fault(f'state needs: plain or full; there stands: {shown(" ".join(words))}')
+        self.kind = words[0]
+
+    def on_round(self, words: List[str]) -> None:
+        self.once(self.part, self.part)
+        write_parts(self.part, (), words)
+        self.snapshots[self.part] = {'target': [], 'voter': []}
+
+    on_waiting = on_round
+
+    def must_be_whole(self) -> None:
+        """The state has all its parts."""
+        self.must_have(*self.needed('block'))
+
+    def needed(self, part: str) -> List[str]:
+        """The lines that have to stand up to this part."""
+        single = [name for name in PARTS[:PARTS.index(part) + 1] if name in ONCE]
+        params = list(GENESES['deferred']) if self.kind == 'full' else []
+        return params + single + ['committee'] * ('waiting' in self.snapshots)
+
+    def spelled_parts(self) -> Iterator[bytes]:
+        """The bytes of each part."""
+        lines = self.lines
+        params = b''.join(self.params[name] for name in GENESES['deferred'] if name in self.params)
+        yield bytes([0, self.kind == 'full']) + params
+        yield b''.join(lines['due'])
+        yield b''.join(lines['sums'])
+        yield run(lines['row'])
+        yield run(lines['role'])
+        yield run(era + listed(members) for era, members in zip(lines['era'], self.members))
+        yield self.spelled_round('round')
+        yield b''.join(lines['next_submission'])
+        yield listed(lines['submission'])
+        yield self.spelled_round('waiting')
+        yield b''.join(lines['next_slash'])
+        yield listed(lines['slash'])
+        yield self.spelled_blocks()
+
+    def spelled_round(self, part: str) -> bytes:
+        """The bytes of a snapshot, if there is one, and of the committee that waits."""
+        if part not in self.snapshots:
+            return b'\x00'
+        snapshot = b'\x01' + b''.join(map(listed, self.snapshots[part].values()))
+        return snapshot + b''.join(self.lines['committee']) + listed(self.lines['edge']) if part == 'waiting' else snapshot
+
+    def spelled(self, is_whole: bool) -> bytes:
+        """The bytes; a whole input has its end, if it has blocks. One to be damaged ends with its last part, and a run with its
+        last line."""
+        part = 'block' if is_whole else self.part
+        self.must_have(*self.needed(part), *['end'] * (is_whole and bool(self.blocks)))
+        spelled = list(self.spelled_parts())[:PARTS.index(part) + 1]
+        return b''.join(spelled)[:-1] if part in RUNS else b''.join(spelled)
 
 
 class Pool(Form):
@@ -178,8 +326,7 @@ class Pool(Form):
     def spelled(self, is_whole: bool) -> bytes:
         """The bytes; a whole input has its end."""
         self.must_have('bonding_eras', *['end'] * is_whole)
-        out = [listed(self.endowments), self.account, self.bonding, *(b'\x01' + item for item in self.items)]
-        return b''.join(out) + (b'\x00' if 'end' in self.seen else b'')
+        return listed(self.endowments) + self.account + self.bonding + run(self.items, 'end' in self.seen)
 
 
 class Bundle(Form):
@@ -284,7 +431,7 @@ def encode(text: str) -> bytes:
             raise Fault(f'line {number}: there stands {shown(words[0])} behind bytes or cut, and only such lines were expected')
     if not body:
         return damaged(b'', tail)
-    form = {'bundle': Bundle, 'pool': Pool}.get(body[0][1][0], Stream)()
+    form = {'bundle': Bundle, 'pool': Pool, 'state': State}.get(body[0][1][0], Stream)()
     number = len(text.splitlines())
     try:
         for number, words in body:

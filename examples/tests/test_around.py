@@ -3,13 +3,16 @@ from __future__ import annotations
 
 import os
 import pathlib
+import shlex
 import shutil
 import subprocess
 import tempfile
 import unittest
 from typing import Tuple
 
-from support import EXAMPLES, TOP, run
+from support import EXAMPLES, TOP, needs_program, program, run
+
+from npos_text import encode
 
 TOOLS = '/usr/bin:/bin'
 # a kit that builds a program which tells its words and ends with 1, or that fails
@@ -141,12 +144,23 @@ class Examples(Folder):
         self.assertEqual((status, said.splitlines()[0]), (1, 'check/yes: status 1, due 0; wrote'))
         self.assertTrue(said.endswith('0 passed, 1 failed\n'))
 
+    def test_the_bytes_of_a_state(self) -> None:
+        self.put('checkpoint/words', 'checkpoint')
+        for end in ['txt', 'state']:
+            self.put(f'checkpoint/plain.{end}', (EXAMPLES / f'checkpoint/plain.{end}').read_text())
+        state = self.put('kept', '')
+        right = self.put('right', f'#!/bin/sh\nfor word; do :; done\nif [ "$word" = checkpoint ]; then cat {state}; else echo verdict 0; fi\n')
+        state.write_bytes(encode((EXAMPLES / 'checkpoint/plain.state').read_text()))
+        self.assertEqual(self.told(str(right)), (0, '2 passed, 0 failed\n'))
+        state.write_bytes(state.read_bytes()[:-1])
+        self.assertEqual(self.told(str(right))[0], 1)
+
     def test_what_has_no_other_half_is_told(self) -> None:
         self.put('check/alone.txt', 'bundle\nseats 1\nnothing\n')
         self.put('check/bare.out', 'verdict 0\n')
         status, said = self.told('true')
         self.assertEqual(status, 1)
-        self.assertIn('check/alone: there is nothing to compare with, and a .out or a .bundle was expected\n', said)
+        self.assertIn('check/alone: there is nothing to compare with, and a .out, a .bundle or a .state was expected\n', said)
         self.assertIn('check/bare: there is no text to read, and a .txt or a .json was expected\n', said)
 
     def test_one_sentence(self) -> None:
@@ -187,6 +201,19 @@ class Bench(Folder):
         self.assertTrue(done.stdout.startswith(b'bonds 10: '))
         other = self.put('other', '#!/bin/sh\necho other\n')
         self.assertEqual(run(TOP / 'bench/run', '--rounds', '1', 'bonds', '10', 'true', str(other)).returncode, 1)
+
+    def test_two_jobs_of_one_input(self) -> None:
+        other = self.put('other', '#!/bin/sh\nfor word; do :; done; [ "$word" = replay ] && echo other\n')
+        done = run(TOP / 'bench/run', '--rounds', '1', 'checkpoint-replay', '10', 'true', str(other))
+        self.assertEqual((done.returncode, done.stderr), (0, b''))
+        failing = self.put('failing', '#!/bin/sh\nexit 3\n')
+        self.assertEqual(run(TOP / 'bench/run', '--rounds', '1', 'checkpoint-replay', '10', 'true', str(failing)).returncode, 1)
+
+    @needs_program
+    def test_the_state_of_the_job_resume_stands(self) -> None:
+        command = shlex.join(program() or [])
+        done = run(TOP / 'bench/run', '--rounds', '1', 'resume', '1', command, command)
+        self.assertEqual((done.returncode, done.stderr), (0, b''), done.stdout.decode())
 
     def test_a_wrapper_stands_for_its_program(self) -> None:
         self.put('crates.txt', '')

@@ -5,8 +5,9 @@ from typing import Tuple
 
 from support import EXAMPLES, Scripts, account, ask, needs_program
 
-from npos_text import Fault, account_of, encode
+from npos_text import Fault, account_of, decode, encode
 from npos_text.chains import rounds_of, stream_of
+from npos_text.cutting import cut
 from npos_text.elections import fill
 
 SOLUTION = '0:0 1:1'
@@ -103,6 +104,9 @@ ALONE = {
     'fault 0 genesis 1 1': 'the account of this endowment stands earlier',
     'fault 36 short': 'bytes are missing from there on',
     'lost 1': 'packing leaves this member without an edge',
+    'fault 0 checkpoint 2 3': 'the params have a fault of a genesis: the seats are not 1 to 512',
+    'fault 0 checkpoint 9 3': 'row 3 does not hold the deposits of its submissions',
+    'fault 0 checkpoint 11 11 0': 'the committee that waits has another verdict than yes: voter 0 gives more than its stake',
 }
 
 
@@ -145,11 +149,13 @@ class Rounds(Chains):
 
     def test_all_examples(self) -> None:
         snapshots = fills = 0
-        for path in sorted(EXAMPLES.glob('replay/*.txt')):
-            lines = path.with_suffix('.out').read_text().splitlines()
-            rounds = rounds_of(stream_of(encode(path.read_text())), lines)
+        for path in sorted([*EXAMPLES.glob('replay/*.txt'), *EXAMPLES.glob('resume/*.txt')]):
+            text, lines = path.read_text(), path.with_suffix('.out').read_text().splitlines()
+            if path.parent.name == 'resume' and path.stem.startswith('fault-'):
+                continue
+            rounds = rounds_of(stream_of(encode(text)), lines)
             snapshots += len(rounds)
-            self.assertEqual(len(rounds), sum(line.startswith('snapshot') for line in lines), path)
+            self.assertEqual(len(rounds), sum(line.startswith('snapshot') for line in lines) + text.count('\nround\n'), path)
             for one in rounds:
                 if one.seated and one.seated[0][2] == 'fill':
                     fills += 1
@@ -157,6 +163,27 @@ class Rounds(Chains):
                     due = [['member', account_of(one.election.targets[who]).hex(), str(supports[who])] for who in sorted(supports)]
                     self.assertEqual(one.seated[1:], due, path)
         self.assertGreater(min(snapshots, fills), 5)
+
+    def test_a_state_goes_on_as_the_chain_does(self) -> None:
+        """Cut behind block 3, the state has the round and what waits for it."""
+        text = (EXAMPLES / 'resume/open.txt').read_text()
+        words = ('--receipts', str(EXAMPLES / 'resume/open.out'))
+        for choice in ['--round=1', '--submission=4']:
+            self.assertEqual(self.written('rounds', *words, choice, data=encode(text)), self.rounds(*choice.split('=')))
+
+    @needs_program
+    def test_wherever_a_chain_is_cut(self) -> None:
+        """What is replayed is what is replayed of the front, but its end line, and what is written of its state with the rest."""
+        for name in ['ordinary', 'deferred', 'payout', 'offence', 'unbond', 'transfer']:
+            data = encode((EXAMPLES / f'replay/{name}.txt').read_text())
+            whole = ask('replay', data=data).stdout
+            count = whole.count(b'\nblock ') + 1
+            for block in range(count + 1):
+                front, rest = cut(data, None, block), cut(data, block + 1, None)
+                state = ask('checkpoint', data=front).stdout
+                self.assertEqual(encode(decode(state, 'state')), state)
+                told = ask('replay', data=front).stdout.splitlines(keepends=True)[:-1]
+                self.assertEqual(b''.join(told) + ask('resume', data=state + rest).stdout, whole, (name, block))
 
     @needs_program
     def test_with_the_program(self) -> None:
@@ -189,6 +216,16 @@ class Explaining(Chains):
             written = self.written('explain', str(self.stream), data=receipts).decode()
             self.assertEqual(written.splitlines()[-1].split('; ')[-1], due)
 
+    def test_what_is_written_of_a_state(self) -> None:
+        self.stream.write_bytes(encode((EXAMPLES / 'resume/open.txt').read_text()))
+        lines = self.written('explain', str(self.stream), data=(EXAMPLES / 'resume/open.out').read_bytes()).decode().splitlines()
+        self.assertEqual(split(lines[3]), ('return 1 12', 'handed in by @7, before the state'))
+        for name, due in [('short', 'in the state'), ('number', 'in block 7'), ('trailing', 'behind block 1')]:
+            self.stream.write_bytes(encode((EXAMPLES / f'resume/fault-{name}.txt').read_text()))
+            receipts = (EXAMPLES / f'resume/fault-{name}.out').read_bytes()
+            written = self.written('explain', str(self.stream), data=receipts).decode()
+            self.assertEqual(written.splitlines()[-1].split('; ')[-1], due)
+
     def test_refused(self) -> None:
         self.assertEqual(self.refused('explain', data=b'verdict 0\nhello\n'),
                          'line 2: there stands hello, and a line that npos writes was expected')
@@ -200,6 +237,29 @@ class Explaining(Chains):
         for path in EXAMPLES.glob('*/*.out'):
             if path.parent.name != 'show':
                 self.written('explain', data=path.read_bytes())
+
+
+class Cutting(Chains):
+    def test_a_stream(self) -> None:
+        data = self.stream.read_bytes()
+        self.assertEqual(self.written('cut', data=data), data)
+        self.assertEqual(self.written('cut', '--to', '0', data=data), encode(GENESIS + 'end'))
+        self.assertEqual(self.written('cut', '--to', '3', data=data), encode(STREAM.split('block 4')[0] + 'end'))
+        self.assertEqual(self.written('cut', '--from', '4', '--to', '4', data=data), bytes.fromhex('0110 00 00'))
+        self.assertEqual(self.written('cut', '--from', '6', data=data), b'\x00')
+
+    def test_a_state(self) -> None:
+        text = (EXAMPLES / 'resume/open.txt').read_text()
+        self.assertEqual(self.written('cut', '--to', '3', data=encode(text)), encode(text.split('block 4')[0] + 'end'))
+        self.assertEqual(self.written('cut', '--from', '5', data=encode(text)), bytes.fromhex('0114 00 00'))
+
+    def test_refused(self) -> None:
+        data = self.stream.read_bytes()
+        for words, said in [(['--to', '6'], 'there stands 6, and a block from 1 to 5 was expected'),
+                            (['--from', '7'], 'there stands 7, and a block from 1 to 5 was expected'),
+                            (['--from', '4', '--to', '2'], 'there stands 2, and a block from 4 on was expected')]:
+            self.assertEqual(self.refused('cut', *words, data=data), said)
+        self.assertEqual(self.refused('cut', data=data[:-1]), 'the bytes cannot be read as a stream at 814: short')
 
 
 class Faults(Scripts):

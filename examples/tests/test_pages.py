@@ -17,8 +17,9 @@ from typing import List
 
 from support import TOP, environment, needs_program, program
 
-PAGES = ['README.md', 'CONTRIBUTING.md', 'docs/AUDITING.md', 'docs/MINING.md', 'docs/RULES.md', 'examples/README.md', 'docs/npos.1']
-COMMANDS = ('./npos', 'examples/', 'for ', 'sed ', 'work=')
+PAGES = ['README.md', 'CONTRIBUTING.md', 'docs/AUDITING.md', 'docs/MINING.md', 'docs/OPERATING.md',
+         'docs/RULES.md', 'examples/README.md', 'docs/npos.1']
+COMMANDS = ('./npos', 'examples/', 'for ', 'sed ', 'printf ', 'work=')
 SKIPPED = ('rt ', 'cd ', 'git ', '.ci/', 'bench/', 'tools/', 'man ', 'python3 ')
 
 
@@ -65,8 +66,15 @@ class Pages(unittest.TestCase):
 
 
 def script_lines(block: str) -> List[str]:
-    """The lines to be run, without their remarks."""
-    return [re.sub(r'\s+# .*', '', line) for line in block.splitlines()]
+    """The lines to be run, without their remarks. A loop over several lines is one, with what waits behind it."""
+    lines: List[str] = []
+    for line in block.splitlines():
+        line = re.sub(r'\s+# .*', '', line)
+        if re.match(r'\s|done|wait', line):
+            lines[-1] += '\n' + line
+        else:
+            lines.append(line)
+    return lines
 
 
 def squeezed(text: str) -> List[List[str]]:

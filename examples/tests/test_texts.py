@@ -33,9 +33,15 @@ era_reward 1000'''
 BUNDLE = 'bundle\nseats 1\ntarget @1\nvoter @2 5 0\n'
 GENESIS = 'genesis plain\nendow @1 100\n'
 POOL = 'pool @9\nbonding_eras 1\nendow @1 100\n'
+STATE = 'state plain\ndue 1\nsums 100 0 0\nrow @1 100 0 0\n'
+PLAIN = f'''
+    00 00 04 9101 00 00
+    01 {ONE} 9101 00 00 00 01 {TWO} 00 00 00 00
+    00 00 00 00 04 00 00 04 00'''
+WAITING = STATE + 'next_submission 1\nwaiting\ntarget @1 0\nvoter @1 60 0\n'
 
 # a text, and the sentence with which it is refused
-FIRST = 'genesis plain, genesis full, genesis deferred, bundle or pool'
+FIRST = 'genesis plain, genesis full, genesis deferred, bundle, pool, state plain or state full'
 REFUSED = [
     ('', f'line 1: there stands nothing, and {FIRST} was expected'),
     ('hello', f'line 1: there stands hello, and {FIRST} was expected first'),
@@ -84,6 +90,25 @@ REFUSED = [
     (POOL + 'item @1 redeem\nendow @2 5\nend', 'line 5: there stands endow, which was expected before the items alone'),
     (POOL + 'end\nitem @1 redeem', 'line 5: there stands item behind the end, and nothing was expected but bytes or cut'),
     (POOL + 'item @1 redeem', 'line 5: there is no line end, which was expected'),
+    ('state\ndue 1', 'line 1: state needs: plain or full; there stands: nothing'),
+    ('state plain\nseats 2',
+     'line 2: there stands seats, and params were expected only in a state that has them, behind its first line'),
+    (STATE + 'due 2', 'line 5: there stands due, which was expected before row'),
+    (STATE + 'row @2 5 0', 'line 5: row needs: account free active value/release .. held; there stands: @2 5 0'),
+    (STATE + 'row @2 5 0 3/2/1 0', 'line 5: each of them needs: value release; there stands: 3 2 1'),
+    (STATE + 'role @1 0 pool', 'line 5: there stands pool, and one of these words was expected: nominator, validator'),
+    (STATE + 'member @1 0 7 claimed 0', 'line 5: there stands member, and it was expected behind era'),
+    (STATE + 'target @1 0', 'line 5: there stands target, and it was expected behind round or waiting'),
+    (STATE + 'round\nround', 'line 6: there stands round, which stands in line 5 already'),
+    (STATE, 'line 5: there is no line next_submission, which was expected'),
+    (STATE + 'next_submission 1\nnext_submission 1', 'line 6: there stands next_submission, which stands in line 5 already'),
+    (STATE + 'next_submission 1\nblock 1', 'line 6: there is no line next_slash, which was expected'),
+    (WAITING + 'next_slash 1', 'line 10: there is no line committee, which was expected'),
+    (STATE + 'next_submission 1\nnext_slash 1\nblock 1', 'line 8: there is no line end, which was expected'),
+    (STATE + 'next_submission 1\nnext_slash 1\nend\nblock 1',
+     'line 8: there stands block behind the end, and nothing was expected but bytes or cut'),
+    (STATE + 'next_submission 1\n' + 'submission 1 @1 1 1 1 0:0\n' * 17, 'line 22: there stand 17 submissions, and at most 16 were expected'),
+    ('state full\nroot @9\ndue 1\nsums 0 0 0\nnext_submission 1\nnext_slash 1\nend', 'line 7: there is no line seats, which was expected'),
 ]
 
 
@@ -118,6 +143,23 @@ class Bytes(Scripts):
             f'01{who}{kind}' for who, kind in [(ONE, '00f0'), (ONE, '0118'), (ONE, '02'), (ONE, '0304'), (ONE, '04'), (NINE, '0514'), (NINE, '06')])
         self.assertEqual(encode(POOL + items + 'end').hex(), spelled + '00')
 
+    def test_worked_states(self) -> None:
+        plain = (EXAMPLES / 'checkpoint/plain.state').read_text()
+        self.assertEqual(encode(plain).hex(), ''.join(PLAIN.split()))
+        self.assertEqual(encode(plain + 'block 1\nend').hex(), ''.join(PLAIN.split()) + '01040000')
+        self.assertEqual(encode(plain + 'end').hex(), ''.join(PLAIN.split()) + '00')
+        full = encode('state full\n' + FULL + '\ndefer_eras 2\ndue 1\nsums 0 0 0\nnext_submission 1\nnext_slash 1')
+        self.assertEqual(full.hex(), '0001' + ''.join(PARAMS.split()) + '08' + '04000000' + '000000' + '00' + '0400' + '00' + '0400')
+        row = encode(STATE + 'row @2 5 6 7/1 8/2 9\nbytes 00')
+        self.assertTrue(row.hex().endswith(f'01{TWO}1418081c0420082400'), row.hex())
+
+    def test_a_state_to_be_damaged_ends_where_its_text_does(self) -> None:
+        for text, more in [('state plain\n', '01'), ('state plain\ndue 1\n', '01'), (STATE, '02'), (STATE + 'next_submission 1\n', '50'),
+                           (STATE + 'role @1 0 validator 5\n', '0105')]:
+            data = encode(text + 'bytes ' + more)
+            self.assertEqual(data.hex()[-len(more):], more)
+            self.assertEqual(encode(Reading(data, 'state').text()), data, text)
+
     def test_refused_texts(self) -> None:
         for text, sentence in REFUSED:
             with self.subTest(text=text), self.assertRaises(Fault) as caught:
@@ -130,7 +172,7 @@ class Bytes(Scripts):
         self.assertEqual(self.refused('encode', data=b'bundle\n\xff'), 'line 2: there stands a byte ff, and UTF-8 was expected')
 
     def test_examples_both_ways(self) -> None:
-        for path in sorted([*EXAMPLES.glob('*/*.txt'), *EXAMPLES.glob('*/*.bundle')]):
+        for path in sorted(path for end in ('txt', 'bundle', 'state') for path in EXAMPLES.glob(f'*/*.{end}')):
             if path.name.startswith('fault-') and path.with_suffix('.out').read_text().split()[-1].isalpha():
                 continue
             data = encode(path.read_text())
@@ -141,7 +183,9 @@ class Bytes(Scripts):
 
 def form_of(path: pathlib.Path) -> str:
     """What the bytes of an example are."""
-    return {'replay': 'stream', 'pools': 'pool'}.get(path.parent.name, 'bundle')
+    if path.suffix == '.state':
+        return 'state'
+    return {'replay': 'stream', 'checkpoint': 'stream', 'resume': 'state', 'pools': 'pool'}.get(path.parent.name, 'bundle')
 
 
 class Decoding(Scripts):
@@ -158,6 +202,12 @@ class Decoding(Scripts):
             last, _ = self.decoded(encode(text))
             self.assertTrue(last.endswith(f'# at {due[-2]}: {due[-1]}'), last)
 
+    def test_faults_of_states(self) -> None:
+        for name in ['badtag', 'short', 'trailing']:
+            due = (EXAMPLES / f'resume/fault-{name}.out').read_text().split()
+            last, _ = self.decoded(encode((EXAMPLES / f'resume/fault-{name}.txt').read_text()), 'state')
+            self.assertTrue(last.endswith(f'# at {due[-2]}: {due[-1]}'), last)
+
     def test_the_rest_is_a_line_of_bytes(self) -> None:
         data = encode(GENESIS + 'block 1\nend')[:-1] + b'\x07'
         last, said = self.decoded(data)
@@ -171,14 +221,16 @@ class Decoding(Scripts):
         self.assertIn('as a bundle they can be: examples/decode bundle', self.decoded(bundle)[1])
         self.assertIn('as a stream they can be: examples/decode stream', self.decoded(stream, 'bundle')[1])
         self.assertIn('as a pool they can be: examples/decode pool', self.decoded(encode(POOL + 'end'))[1])
+        self.assertIn('as a state they can be: examples/decode state', self.decoded(bytes.fromhex(PLAIN))[1])
 
     def test_words(self) -> None:
+        self.assertIn(b'row @1 100 0 0', self.written('decode', 'state', data=bytes.fromhex(PLAIN)))
         self.assertIn(b'target @1', self.written('decode', 'bundle', data=encode((EXAMPLES / 'check/yes.txt').read_text())))
 
 
 class Words(Scripts):
     def test_help_and_unknown_words(self) -> None:
-        paths = [EXAMPLES / name for name in ['encode', 'decode', 'rounds', 'expand', 'explain', 'generate', 'tiny-miner', 'shape', 'run']]
+        paths = [EXAMPLES / name for name in ['encode', 'decode', 'cut', 'rounds', 'expand', 'explain', 'generate', 'tiny-miner', 'shape', 'run']]
         for path in [*paths, TOP / 'bench/run', TOP / 'bench/failures']:
             with self.subTest(path=path.name):
                 helped = run(path, '--help')

@@ -30,8 +30,12 @@ verdict_details (verdicts.WrongScore actual) = score_numbers actual
 verdict_details (verdicts.Outweighed target prescore) = target ∷ prescore ∷ []
 verdict_details (verdicts.Overspent voter) = voter ∷ []
 
+-- a verdict in numbers: its own, and what it tells besides
+abbrev pub verdict_numbers : Verdict → List ℕ
+verdict_numbers verdict = number_of verdict ∷ verdict_details verdict
+
 abbrev pub verdict_line : Verdict → List ℕ
-verdict_line verdict = numbers_line (codes "verdict") (number_of verdict ∷ verdict_details verdict)
+verdict_line verdict = numbers_line (codes "verdict") (verdict_numbers verdict)
 
 -- a member of a committee, with its support
 abbrev pub member_line : AccountId → ℕ → List ℕ

@@ -22,7 +22,7 @@ pub use demo::demo_text;
 pub use election::snapshot_of;
 pub use ending::Ending;
 pub use mining::{Judged, judge, packed_weights};
-pub use numbers::{tell_member, tell_verdict};
+pub use numbers::{tell_member, tell_verdict, tell_verdict_behind};
 pub use reading::{Election, MOST_BUNDLE};
 pub use rewriting::rewrite_bytes;
 pub use tasks::answer_bytes;

@@ -2,7 +2,7 @@
 ghost use Rattle.std.specs.Prelude.{◌≡◌, ◌≢◌, [], ◌∷◌, ◌++◌, flat_map, codes, OnOk};
 ghost use Rattle.election_snapshot.specs.declared.fault.SnapshotFault.TheVariants as faults;
 ghost use Rattle.told_lines.specs.Texts.{number_text, numbers_line};
-ghost use Rattle.bundle_reports.specs.Verdicts.{member_line, score_numbers, score_line, solution_line, lost_line, verdict_details, verdict_line, fault_numbers, snapshot_line};
+ghost use Rattle.bundle_reports.specs.Verdicts.{member_line, score_numbers, score_line, solution_line, lost_line, verdict_details, verdict_numbers, verdict_line, fault_numbers, snapshot_line};
 ghost use Rattle.bundle_reports.specs.Demo.{judged_line, size_line};
 
 use election_check::Verdict;
@@ -149,19 +149,31 @@ fn tell_details(text: &mut Vec<u8>, verdict: Verdict) -> Result<(), NoMemory>
     }
 }
 
-/// Appends the line of a verdict.
-pub fn tell_verdict(text: &mut Vec<u8>, verdict: Verdict) -> Result<(), NoMemory>
-    ensures { OnOk result (text.new.items ≡ text.old.items ++ verdict_line verdict) }
+/// Appends a line of these words, with the numbers of a verdict behind them.
+pub fn tell_verdict_behind(
+    text: &mut Vec<u8>,
+    words: &'static str,
+    verdict: Verdict,
+) -> Result<(), NoMemory>
+    ensures { OnOk result (text.new.items ≡ text.old.items
+        ++ numbers_line words.now (verdict_numbers verdict)) }
 {
     tell(
         text,
         &[
-            Piece::Words("verdict"),
+            Piece::Words(words),
             Piece::Detail(u128::from(verdict.number())),
         ],
     )?;
     tell_details(text, verdict)?;
     tell(text, &[Piece::Words("\n")])
+}
+
+/// Appends the line of a verdict.
+pub fn tell_verdict(text: &mut Vec<u8>, verdict: Verdict) -> Result<(), NoMemory>
+    ensures { OnOk result (text.new.items ≡ text.old.items ++ verdict_line verdict) }
+{
+    tell_verdict_behind(text, "verdict", verdict)
 }
 
 /// Appends the line of a number and its detail.

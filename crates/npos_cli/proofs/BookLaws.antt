@@ -10,6 +10,7 @@ use Rattle.npos_runtime.specs.Live.{IsLive}
 use Rattle.npos_runtime.specs.History.{CanTake, IsHistory}
 use Rattle.npos_runtime.proofs.LiveLemmas.{live_step, due_step}
 use Rattle.npos_runtime.proofs.BeginLemmas.{live_begun, start_law}
+use Rattle.npos_cli.specs.Texts.{genesis_line}
 use Rattle.npos_cli.specs.Replay.{Spot, IsTurn, behind, Passes, Starts, Reaches}
 use Rattle.npos_cli.specs.Chain.{npos_machine, started}
 use Rattle.npos_runtime.specs.Deposits.{DepositsHold, DepositsLaw}
@@ -35,7 +36,7 @@ pub begun_by : (genesis : Genesis) (chain : Chain) (fault : Option GenesisFault)
     → started fault genesis ≡ Ok chain
     → (genesis_fault genesis ≡ None) × (genesis_chain genesis ≡ chain)
 begun_by genesis chain None sound is = (sound, cc)
-begun_by genesis chain (Some fault) faulty is = let e : Err (fault_numbers fault) ≡ Ok chain = is in cc
+begun_by genesis chain (Some fault) faulty is = let e : Err (genesis_line (fault_numbers fault)) ≡ Ok chain = is in cc
 
 module _ (bytes : List ℕ) (start : Spot Chain) (starts : Starts npos_machine bytes start) where
   pub begun : (genesis_fault starts.genesis ≡ None) × (genesis_chain starts.genesis ≡ start.state)

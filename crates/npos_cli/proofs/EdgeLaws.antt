@@ -1,8 +1,10 @@
 -- How single reads add up to all that was left, and a write and a flush to a delivery.
-use Rattle.std.proofs.Common.{◌≡◌, ◌⊎◌, inl, inr, Bool, true, false, ℕ, ◌+◌, ◌≤◌, List, [], ◌++◌, length, take, drop, Option, Some, None, refl, sym, ◌∙◌, ap, subst, append_assoc, arith, length-append}
+use Rattle.std.proofs.Common.{◌≡◌, ◌⊎◌, inl, inr, Bool, true, false, ℕ, ◌+◌, ◌≤◌, List, [], ◌++◌, length, take, drop, Option, Some, None, Ok, Err, refl, sym, ◌∙◌, ap, subst, append_assoc, arith, length-append}
 use Rattle.std.proofs.lemmas.List.{append-nil, take_all, take_at, take-append-drop, length-take-le}
 use Rattle.npos_base.specs.Outside.{Told, Takes, IsAtEnd, Appends, Flushes}
-use Rattle.npos_cli.specs.Owed.{LeftAfter, IsAll, TakesMore, TakesAtMost, IsDrained, Delivers, DeliversFront, KeepsFlushed}
+use Rattle.npos_cli.specs.declared.halt.Halt.{Halt}
+use Rattle.npos_cli.specs.declared.halt.Halt.TheVariants as halts
+use Rattle.npos_cli.specs.Owed.{LeftAfter, IsAll, TakesMore, TakesAtMost, IsDrained, Delivers, DeliversFront, KeepsFlushed, Puts, FlushesBy}
 use Rattle.npos_cli.specs.Replay.{IsFront}
 use Rattle.npos_cli.specs.Ahead.{HasSeen}
 
@@ -128,3 +130,19 @@ pub still_unflushed : (old mid new : Option Told) (text : List ℕ) → Appends 
 still_unflushed old mid None text appends none = tt
 still_unflushed old mid (Some now) text appends none =
     let a = subst (λ (m : Option Told). Appends old m text) none.1 appends in (a.0, a.1, none.3 ∙ a.3)
+
+-- nothing was to be written
+pub puts_none : (told : Option Told) (text : List ℕ) → text ≡ [] → Puts told told text (Ok tt)
+puts_none None text none = tt
+puts_none (Some now) text none = (now, refl, sym (append-nil now.written) ∙ ap (λ back. now.written ++ back) (sym none), refl)
+
+-- where a text was to be written or flushed, nothing else may have failed
+pub put_failed : (old new : Option Told) (text : List ℕ) (halt : Halt) → Puts old new text (Err halt) → halt ≡ halts.WriteFault
+put_failed old new text halts.WriteFault puts = refl
+put_failed old new text halts.ReadFault puts = absurd puts
+put_failed old new text halts.NoMemory puts = absurd puts
+
+pub flush_failed : (old new : Option Told) (halt : Halt) → FlushesBy old new (Err halt) → halt ≡ halts.WriteFault
+flush_failed old new halts.WriteFault flushes = refl
+flush_failed old new halts.ReadFault flushes = absurd flushes
+flush_failed old new halts.NoMemory flushes = absurd flushes

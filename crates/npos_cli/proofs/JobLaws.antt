@@ -1,5 +1,5 @@
 -- What a run of each job comes to.
-use Rattle.std.proofs.Common.{◌≡◌, ◌≢◌, ℕ, Bool, true, false, List, Option, Some, None, Result, Ok, Err, IfErr, IfSome, refl, sym, subst}
+use Rattle.std.proofs.Common.{◌≡◌, ◌≢◌, ℕ, Bool, true, false, List, Option, Some, None, Result, Ok, Err, IfOk, IfErr, OnErr, IfSome, refl, sym, subst}
 use Rattle.std.proofs.lemmas.List.{append-nil}
 use Rattle.npos_base.specs.Outside.{Told}
 use Rattle.npos_cli.specs.declared.job.Job.{Job}
@@ -14,9 +14,14 @@ use Rattle.npos_cli.specs.declared.halt.Halt.TheVariants as halts
 use Rattle.bundle_reports.specs.Tasks.{IsSound}
 use Rattle.bundle_reports.specs.Demo.{demo_report}
 use Rattle.npos_cli.specs.Words.{usage_line}
-use Rattle.npos_cli.specs.Report.{ReadsInput, ReadsBundle, IsJudged, replay_status}
+use Rattle.npos_cli.specs.declared.output.Output.{Output}
+use Rattle.npos_cli.specs.declared.output.Output.TheVariants.{Receipts, Checkpoint}
+use Rattle.npos_cli.specs.Report.{ReplayOwes, JobOwes, ReadsInput, ReadsBundle, IsJudged, replay_status}
+use Rattle.npos_cli.specs.Replay.{Machine}
 use Rattle.npos_cli.specs.Chain.{npos_machine}
-use Rattle.npos_cli.specs.Owed.{LeftAfter, FindsFor, BeginsFor, IsDrained, TakesAtMost, DeliversFront, KeepsFlushed, Counts, Ends}
+use Rattle.npos_cli.specs.Checkpoints.{checkpoint_machine}
+use Rattle.npos_cli.specs.Outputs.{machine_of}
+use Rattle.npos_cli.specs.Owed.{LeftAfter, FindsFor, AnswersFor, BeginsFor, IsDrained, TakesAtMost, DeliversFront, KeepsFlushed, Counts, Ends}
 use Rattle.npos_cli.specs.Turning.{KeepsUp}
 use Rattle.npos_cli.specs.Streaming.{Halts, ReplayEnds, ReadsWhile}
 use Rattle.npos_cli.specs.Ran.{Traffic, HaltedBy, Ran, DemoEnds}
@@ -33,11 +38,20 @@ pub kept_flushed : (now : Option Told) → KeepsFlushed now now
 kept_flushed None = tt
 kept_flushed (Some now) = (now, refl, refl)
 
+on_err : {T E : Type 0} (result : Result T E) (P : E → Type 0) → ((e : E) → P e) → IfErr result P
+on_err (Ok done) P holds = tt
+on_err (Err e) P holds = holds e
+
+on_ok : {T E : Type 0} (result : Result T E) (P Q : T → Type 0) → ((done : T) → P done → Q done) → IfOk result P → IfOk result Q
+on_ok (Ok done) P Q turns holds = turns done holds
+on_ok (Err e) P Q turns holds = tt
+
 -- ## Jobs that write at their end
 
 -- what holds of a run of such a job, however it ends
 pub record AtEnd (job : Option Job) (t : Traffic) : Type 0 where
   pub other : job ≡ Some jobs.Replay → ⊥
+  pub silent : job ≡ Some jobs.Checkpoint → ⊥
   pub few : ReadsBundle job → TakesAtMost 16777217 t.left t.left_now
 
 module _ (job : Option Job) (t : Traffic) (at_end : AtEnd job t) where
@@ -53,6 +67,7 @@ module _ (job : Option Job) (t : Traffic) (at_end : AtEnd job t) where
     unflushed = keeps;
     halted = λ e. absurd (at_end.other e);
     wary = λ e. absurd (at_end.other e);
+    wary_checkpoint = λ e. absurd (at_end.silent e);
     drained = tt;
     few = at_end.few;
     accepted = λ task e. tt;
@@ -91,6 +106,7 @@ module _ (job : Option Job) (t : Traffic) (at_end : AtEnd job t) where
         unflushed = tt;
         halted = λ e. tt;
         wary = λ e. absurd (at_end.other e);
+        wary_checkpoint = λ e. absurd (at_end.silent e);
         drained = subst (λ (s : Status). IsJudged s → ReadsInput job → IsDrained t.left t.left_now) (sym ends.0) drained;
         few = at_end.few;
         accepted = λ task e. subst (λ (s : Status). s ≡ statuses.Done → IfSome t.left (IsSound task)) (sym ends.0) (accepted task e);
@@ -104,7 +120,7 @@ module _ (job : Option Job) (t : Traffic) (at_end : AtEnd job t) where
 pub usage_ran : (t : Traffic) (result : Result Status Halt) → Ends usage_line statuses.Usage t.told t.told_now result → t.read_faults_now ≡ t.read_faults
     → Counts halts.WriteFault t.write_faults t.write_faults_now result → Ran None t result
 usage_ran t result ends no_read write_faults =
-    ended_ran None t (record { other = λ e. cc; few = λ reads. absurd reads }) usage_line statuses.Usage result (nothing_asked None t.left refl) ends no_read write_faults
+    ended_ran None t (record { other = λ e. cc; silent = λ e. cc; few = λ reads. absurd reads }) usage_line statuses.Usage result (nothing_asked None t.left refl) ends no_read write_faults
     (λ judged. absurd judged) (λ task e. cc) (λ e. cc)
 
 -- the usage line takes no memory
@@ -144,7 +160,7 @@ module _ (seed voters seats : ℕ) (t : Traffic) where
   owed = found_unread demo_job t.left demo_line statuses.Done (λ bytes. record { text_is = refl; status_is = refl })
 
   at_end : AtEnd demo_job t
-  at_end = record { other = λ e. cc; few = λ reads. absurd reads }
+  at_end = record { other = λ e. cc; silent = λ e. cc; few = λ reads. absurd reads }
 
   pub demo_ran : (result : Result Status Halt) → DemoEnds demo_line t.told t.told_now result → t.read_faults_now ≡ t.read_faults
       → Counts halts.WriteFault t.write_faults t.write_faults_now result → Ran demo_job t result
@@ -158,8 +174,8 @@ module _ (seed voters seats : ℕ) (t : Traffic) where
 
 -- ## A replay
 
-keeps_wary : (left now : Option (List ℕ)) (taken written : List ℕ) → LeftAfter left now taken → KeepsUp npos_machine taken written → ReadsWhile left now
-keeps_wary left now taken written left_is keeps = record {
+keeps_wary : {G B S E : Type 0} (m : Machine G B S E) (left now : Option (List ℕ)) (taken written : List ℕ) → LeftAfter left now taken → KeepsUp m taken written → ReadsWhile m left now
+keeps_wary m left now taken written left_is keeps = record {
   earlier = keeps.earlier;
   last = keeps.last;
   text = keeps.text;
@@ -168,48 +184,109 @@ keeps_wary left now taken written left_is keeps = record {
   unsure = keeps.unsure;
 }
 
+-- however a replay ends, no more was read than was needed
+ends_wary : {G B S E : Type 0} (m : Machine G B S E) (left now : Option (List ℕ)) (old new : Option Told) (result : Result Status Halt) → ReplayEnds m left now old new result
+    → ReadsWhile m left now
+ends_wary m left now old new (Ok status) done = keeps_wary m left now done.taken done.written done.left_is done.keeps_up
+ends_wary m left now old new (Err halt) cut = keeps_wary m left now cut.taken cut.written cut.left_is cut.keeps_up
+
+ends_unflushed : {G B S E : Type 0} (m : Machine G B S E) (left now : Option (List ℕ)) (old new : Option Told) (result : Result Status Halt) → ReplayEnds m left now old new result
+    → OnErr result (KeepsFlushed old new)
+ends_unflushed m left now old new (Ok status) done = tt
+ends_unflushed m left now old new (Err halt) cut = unflushed old new cut.written cut.told
+
 judged_sound : (faulty : Bool) → IsJudged (replay_status faulty) → faulty ≡ false
 judged_sound true judged = absurd judged
 judged_sound false judged = refl
 
+ends_drained : {G B S E : Type 0} (m : Machine G B S E) (left now : Option (List ℕ)) (old new : Option Told) (result : Result Status Halt) → ReplayEnds m left now old new result
+    → IfOk result (λ status. IsJudged status → IsDrained left now)
+ends_drained m left now old new (Ok status) done = λ judged. done.finds.3 (judged_sound done.faulty (subst (λ (s : Status). IsJudged s) done.status_is judged))
+ends_drained m left now old new (Err halt) cut = tt
+
 -- what cut a replay off says what was taken and written
-halted_by : (t : Traffic) (halt : Halt) → Halts t.left t.left_now t.told t.told_now halt → HaltedBy halt t
+halted_by : (t : Traffic) (halt : Halt) → Halts npos_machine t.left t.left_now t.told t.told_now halt → HaltedBy halt t
 halted_by t halts.ReadFault h = (h.taken, h.left_is, h.written, h.told, h.cut)
 halted_by t halts.WriteFault h = (h.taken, h.left_is, h.written, h.told, has_written h.taken h.written h.keeps_up)
 halted_by t halts.NoMemory h = (h.taken, h.left_is, h.written, h.told, h.cut)
 
-pub replay_ran : (t : Traffic) (result : Result Status Halt) → ReplayEnds t.left t.left_now t.told t.told_now result
-    → Counts halts.ReadFault t.read_faults t.read_faults_now result → Counts halts.WriteFault t.write_faults t.write_faults_now result → Ran (Some jobs.Replay) t result
-replay_ran t (Ok status) done read_faults write_faults =
-    let finds = finds_for t.left t.left_now done.text done.faulty status done.finds done.status_is in
+ends_halted : (t : Traffic) (result : Result Status Halt) → ReplayEnds npos_machine t.left t.left_now t.told t.told_now result → IfErr result (λ halt. HaltedBy halt t)
+ends_halted t (Ok status) done = tt
+ends_halted t (Err halt) cut = halted_by t halt cut
+
+-- a replay, which tells receipts or a checkpoint
+abbrev pub replaying : Output → Job
+replaying Receipts = jobs.Replay
+replaying Checkpoint = jobs.Checkpoint
+
+owed_by : (output : Output) (bytes text : List ℕ) (status : Status) → ReplayOwes (machine_of output) bytes text status → JobOwes (Some (replaying output)) bytes text status
+owed_by Receipts bytes text status owes = owes
+owed_by Checkpoint bytes text status owes = owes
+
+owes_by : (output : Output) (bytes text : List ℕ) (status : Status) → JobOwes (Some (replaying output)) bytes text status → ReplayOwes (machine_of output) bytes text status
+owes_by Receipts bytes text status owes = owes
+owes_by Checkpoint bytes text status owes = owes
+
+reads_by : (output : Output) → ReadsInput (Some (replaying output))
+reads_by Receipts = tt
+reads_by Checkpoint = tt
+
+few_by : (output : Output) (left now : Option (List ℕ)) → ReadsBundle (Some (replaying output)) → TakesAtMost 16777217 left now
+few_by Receipts left now bundle = absurd bundle
+few_by Checkpoint left now bundle = absurd bundle
+
+no_bundle : (output : Output) (task : Task) → Some (replaying output) ≡ Some (jobs.OnBundle task) → ⊥
+no_bundle Receipts task e = cc
+no_bundle Checkpoint task e = cc
+
+halted_of : (output : Output) (t : Traffic) (result : Result Status Halt) → ReplayEnds (machine_of output) t.left t.left_now t.told t.told_now result
+    → Some (replaying output) ≡ Some jobs.Replay → IfErr result (λ halt. HaltedBy halt t)
+halted_of Receipts t result ends e = ends_halted t result ends
+halted_of Checkpoint t result ends e = cc
+
+wary_of : (output : Output) (left now : Option (List ℕ)) → ReadsWhile (machine_of output) left now → Some (replaying output) ≡ Some jobs.Replay → ReadsWhile npos_machine left now
+wary_of Receipts left now wary e = wary
+wary_of Checkpoint left now wary e = cc
+
+silent_of : (output : Output) (left now : Option (List ℕ)) → ReadsWhile (machine_of output) left now → Some (replaying output) ≡ Some jobs.Checkpoint
+    → ReadsWhile checkpoint_machine left now
+silent_of Receipts left now wary e = cc
+silent_of Checkpoint left now wary e = wary
+
+answers_of : (output : Output) (t : Traffic) (result : Result Status Halt) → ReplayEnds (machine_of output) t.left t.left_now t.told t.told_now result
+    → IfOk result (AnswersFor (Some (replaying output)) t.left t.told t.told_now)
+answers_of output t (Ok status) done =
+    let finds = finds_for output t.left t.left_now done.text done.faulty status done.finds done.status_is in
+    (done.text, (finds.0, finds.1, owed_by output finds.0 done.text status finds.2), done.delivers)
+answers_of output t (Err halt) cut = tt
+
+front_of : (output : Output) (t : Traffic) (result : Result Status Halt) → ReplayEnds (machine_of output) t.left t.left_now t.told t.told_now result
+    → BeginsFor (Some (replaying output)) t.left t.told t.told_now
+front_of output t (Ok status) done =
+    let answers = answers_of output t (Ok status) done in
+    front_delivered (Some (replaying output)) t.left t.told t.told_now answers.0 status answers.1 answers.2
+front_of output t (Err halt) cut = λ text status owed. cut.front text status (λ bytes all. owes_by output bytes text status (owed bytes all))
+
+pub replay_ran : (output : Output) (t : Traffic) (result : Result Status Halt) → ReplayEnds (machine_of output) t.left t.left_now t.told t.told_now result
+    → Counts halts.ReadFault t.read_faults t.read_faults_now result → Counts halts.WriteFault t.write_faults t.write_faults_now result → Ran (Some (replaying output)) t result
+replay_ran output t result ends read_faults write_faults =
+    let wary = ends_wary (machine_of output) t.left t.left_now t.told t.told_now result ends in
     record {
-      answers = (done.text, finds, done.delivers);
-      front = front_delivered (Some jobs.Replay) t.left t.told t.told_now done.text status finds done.delivers;
+      answers = answers_of output t result ends;
+      front = front_of output t result ends;
       read_faults = read_faults;
       write_faults = write_faults;
-      reads = tt;
-      unflushed = tt;
-      halted = λ e. tt;
-      wary = λ e. keeps_wary t.left t.left_now done.taken done.written done.left_is done.keeps_up;
-      drained = λ judged _. done.finds.3 (judged_sound done.faulty (subst (λ (s : Status). IsJudged s) done.status_is judged));
-      few = λ bundle. absurd bundle;
-      accepted = λ task e. cc;
-      passes = λ e. cc;
+      reads = on_err result (λ halt. halt ≡ halts.ReadFault → ReadsInput (Some (replaying output))) (λ halt e. reads_by output);
+      unflushed = ends_unflushed (machine_of output) t.left t.left_now t.told t.told_now result ends;
+      halted = halted_of output t result ends;
+      wary = wary_of output t.left t.left_now wary;
+      wary_checkpoint = silent_of output t.left t.left_now wary;
+      drained = on_ok result (λ status. IsJudged status → IsDrained t.left t.left_now) (λ status. IsJudged status → ReadsInput (Some (replaying output)) → IsDrained t.left t.left_now)
+          (λ status drained judged reads. drained judged) (ends_drained (machine_of output) t.left t.left_now t.told t.told_now result ends);
+      few = few_by output t.left t.left_now;
+      accepted = λ task e. absurd (no_bundle output task e);
+      passes = λ e. absurd (no_bundle output (tasks.Mine miners.Fill) e);
     }
-replay_ran t (Err halt) cut read_faults write_faults = record {
-  answers = tt;
-  front = cut.front;
-  read_faults = read_faults;
-  write_faults = write_faults;
-  reads = λ e. tt;
-  unflushed = unflushed t.told t.told_now cut.written cut.told;
-  halted = λ e. halted_by t halt cut;
-  wary = λ e. keeps_wary t.left t.left_now cut.taken cut.written cut.left_is cut.keeps_up;
-  drained = tt;
-  few = λ bundle. absurd bundle;
-  accepted = λ task e. tt;
-  passes = λ e. tt;
-}
 
 -- ## No job yet
 
@@ -226,7 +303,8 @@ pub starved_ran : (job : Option Job) (left : Option (List ℕ)) (told : Option T
       write_faults_now = write_faults;
     }) (Err halts.NoMemory)
 starved_ran job left told read_faults write_faults =
-    let first = begins_starved left told in
+    let first = begins_starved Receipts left told in
+    let silent = begins_starved Checkpoint left told in
     record {
       answers = tt;
       front = λ text status owed. front_none told text;
@@ -235,7 +313,8 @@ starved_ran job left told read_faults write_faults =
       reads = λ e. cc;
       unflushed = kept_flushed told;
       halted = λ e. (first.taken, first.left_is, first.written, first.told, first.cut);
-      wary = λ e. keeps_wary left left first.taken first.written first.left_is first.keeps_up;
+      wary = λ e. keeps_wary npos_machine left left first.taken first.written first.left_is first.keeps_up;
+      wary_checkpoint = λ e. keeps_wary checkpoint_machine left left silent.taken silent.written silent.left_is silent.keeps_up;
       drained = tt;
       few = λ bundle. takes_none left 16777217;
       accepted = λ task e. tt;

@@ -3,6 +3,7 @@ pub mod EdgeLaws
 pub mod GrowLaws
 pub mod ChainLaws
 pub mod TurnLaws
+pub mod SavableLaws
 pub mod NearLaws
 pub mod StartLaws
 pub mod BookLaws
@@ -18,8 +19,13 @@ pub mod CourseLaws
 pub mod JobLaws
 pub mod EndLaws
 pub mod RewriteLaws
+pub mod GoingLaws
 pub mod PoolLaws
+pub mod ResumeLaws
 pub mod FairLaws
 pub mod EraLaws
 pub mod StreamLaws
 pub mod WordsLaws
+pub mod CheckpointLaws
+pub mod ResumedLaws
+pub mod ToldLaws

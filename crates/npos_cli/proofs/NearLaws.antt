@@ -8,31 +8,11 @@ use Rattle.block_wire.specs.Genesis.{genesis_form}
 use Rattle.npos_runtime.specs.declared.chain.Chain.{Chain}
 use Rattle.npos_runtime.proofs.LiveLemmas.{due_step}
 use Rattle.npos_cli.specs.Replay.{Spot, Reaches, Passes, IsTurn, behind, turn}
-use Rattle.npos_cli.specs.Chain.{npos_machine}
+use Rattle.npos_cli.specs.declared.output.Output.{Output}
+use Rattle.npos_cli.specs.Outputs.{machine_of}
 use Rattle.npos_cli.specs.Ahead.{first_place, CutsGenesis}
 use Rattle.npos_cli.specs.Turning.{IsNear, IsCutHere}
 use Rattle.npos_cli.proofs.ChainLaws.{genesis_laws, turn_laws}
-
--- a block leads near
-behind_near : (p : Spot Chain) (block : Block) (rest : List ℕ) → IsTurn npos_machine p block rest → IsNear p → IsNear (behind npos_machine p block rest)
-behind_near p block rest is near =
-    let size = spelled_below (turn npos_machine) turn_laws (2 ^ 28) (omega arith) (Some block) is.in_range in
-    let number : block.number < 2 ^ 32 = is.in_range.0 in
-    let due = due_step p.state block in
-    (omega (arith, number, is.numbered, due), omega (arith, size, due, near.1))
-
-passes_near : (blocks : List Block) (p q : Spot Chain) (text : List ℕ) → Passes npos_machine blocks p q text → IsNear p → IsNear q
-passes_near [] p q text passes near = subst IsNear (sym passes.0) near
-passes_near (block ∷ blocks) p q text passes near = passes_near blocks (behind npos_machine p block passes.0) q passes.2 passes.3 (behind_near p block passes.0 passes.1 near)
-
-pub reaches_near : (p q : Spot Chain) (text : List ℕ) → Reaches npos_machine p q text → IsNear p → IsNear q
-reaches_near p q text reaches near = passes_near reaches.blocks p q text reaches.passes near
-
--- where the bytes are cut there are few, so that a piece has room
-pub cut_room : (p : Spot Chain) → IsCutHere npos_machine p → IsNear p → p.at + length p.rest + 65536 < 2 ^ 64
-cut_room p (inl cut) near =
-    omega (arith, missing_below (turn npos_machine) turn_laws (2 ^ 28) (omega arith) p.rest cut.0 cut.1, near.0, near.1)
-cut_room p (inr none) near = omega (arith, ap length none, near.0, near.1)
 
 pub genesis_room : (place : Place) → place.at ≡ 0 → CutsGenesis place.rest → place.at + length place.rest + 65536 < 2 ^ 64
 genesis_room place at cuts =
@@ -42,3 +22,25 @@ genesis_room place at cuts =
 pub begun_near : (taken : List ℕ) (place : Place) (genesis : Genesis) → IsRead genesis_form (first_place taken) genesis place → place.at ≤ 2 ^ 23 + 2 ^ 28
 begun_near taken place genesis read =
     omega (arith, spelled_below genesis_form genesis_laws (2 ^ 23) (omega arith) genesis read.in_range, read.at_is)
+
+module _ (output : Output) where
+  -- a block leads near
+  behind_near : (p : Spot Chain) (block : Block) (rest : List ℕ) → IsTurn (machine_of output) p block rest → IsNear p → IsNear (behind (machine_of output) p block rest)
+  behind_near p block rest is near =
+      let size = spelled_below (turn (machine_of output)) turn_laws (2 ^ 28) (omega arith) (Some block) is.in_range in
+      let number : block.number < 2 ^ 32 = is.in_range.0 in
+      let due = due_step p.state block in
+      (omega (arith, number, is.numbered, due), omega (arith, size, due, near.1))
+
+  passes_near : (blocks : List Block) (p q : Spot Chain) (text : List ℕ) → Passes (machine_of output) blocks p q text → IsNear p → IsNear q
+  passes_near [] p q text passes near = subst IsNear (sym passes.0) near
+  passes_near (block ∷ blocks) p q text passes near = passes_near blocks (behind (machine_of output) p block passes.0) q passes.2 passes.3 (behind_near p block passes.0 passes.1 near)
+
+  pub reaches_near : (p q : Spot Chain) (text : List ℕ) → Reaches (machine_of output) p q text → IsNear p → IsNear q
+  reaches_near p q text reaches near = passes_near reaches.blocks p q text reaches.passes near
+
+  -- where the bytes are cut there are few, so that a piece has room
+  pub cut_room : (p : Spot Chain) → IsCutHere (machine_of output) p → IsNear p → p.at + length p.rest + 65536 < 2 ^ 64
+  cut_room p (inl cut) near =
+      omega (arith, missing_below (turn (machine_of output)) turn_laws (2 ^ 28) (omega arith) p.rest cut.0 cut.1, near.0, near.1)
+  cut_room p (inr none) near = omega (arith, ap length none, near.0, near.1)

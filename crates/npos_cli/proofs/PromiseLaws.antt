@@ -60,6 +60,8 @@ usage_by (Some jobs.Replay) bytes text owes = absurd (not_usage owes.0.faulty ow
 usage_by (Some (jobs.OnBundle task)) bytes text owes = absurd (no_usage owes.0.ending owes.2.status_is)
 usage_by (Some (jobs.Demo seed voters seats)) bytes text owes = absurd (no_usage endings.Done owes.status_is)
 usage_by (Some (jobs.Rewrite way)) bytes text owes = absurd (no_usage _ owes.status_is)
+usage_by (Some jobs.Checkpoint) bytes text owes = absurd (not_usage owes.0.faulty owes.3)
+usage_by (Some jobs.Resume) bytes text owes = absurd (not_usage owes.0.faulty owes.3)
 usage_by (Some jobs.Pools) bytes text owes = absurd (not_usage owes.0.faulty owes.3)
 
 pub usage_due : (words : List (List ℕ)) (left : Option (List ℕ)) (old new : Option Told) (answer : Status)

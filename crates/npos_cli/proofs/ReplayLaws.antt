@@ -6,7 +6,7 @@ use Rattle.scale_wire.specs.declared.fault.Why.{Why}
 use Rattle.scale_wire.specs.declared.fault.Why.TheVariants.{Trailing}
 use Rattle.scale_wire.specs.Form.{IsWire, IsBytes}
 use Rattle.bundle_reports.specs.Texts.{fault_line}
-use Rattle.npos_cli.specs.Texts.{number_line, genesis_line}
+use Rattle.npos_cli.specs.Texts.{number_line}
 use Rattle.npos_cli.specs.Replay.{Machine, Spot, turn, behind, IsTurn, Passes, Reaches, Starts, IsEnd, all_seated, Stops, Refused, OtherNumber, Followed, Ended, Outcome, IsReplay, BadGenesis, FaultyGenesis, Replayed}
 
 pub same_spot : {S : Type 0} (p q : Spot S) → p.at ≡ q.at → p.state ≡ q.state → p.rest ≡ q.rest → p ≡ q
@@ -140,7 +140,7 @@ module _ {G B S E : Type 0} (m : Machine G B S E) (genesis_laws : IsWire m.genes
       let o : Ok p.state ≡ Ok q.state = sym one.state_is ∙ (ap m.start e.0 ∙ two.state_is) in
       same_spot p q (one.at_is ∙ ((λ i. length (m.genesis.spelling (e.0 i))) ∙ sym two.at_is)) (cc) e.1
 
-  pub begun_once : (bytes : List ℕ) (g : G) (rest : List ℕ) (p : Spot S) (fault : ℕ × ℕ) → m.genesis.in_range g
+  pub begun_once : (bytes : List ℕ) (g : G) (rest : List ℕ) (p : Spot S) (fault : List ℕ) → m.genesis.in_range g
       → bytes ≡ m.genesis.spelling g ++ rest → m.start g ≡ Err fault → Starts m bytes p → ⊥
   begun_once bytes g rest p fault in_range whole faulty start =
       let e = genesis_laws.one_reading g start.genesis rest p.rest in_range start.in_range (sym whole ∙ start.whole) in
@@ -165,7 +165,7 @@ module _ {G B S E : Type 0} (m : Machine G B S E) (genesis_laws : IsWire m.genes
       let e = genesis_laws.one_reading g g' rest rest' in_range in_range' (sym whole ∙ whole') in
       let both : Err fault ≡ Err fault' = sym faulty ∙ (ap m.start e.0 ∙ faulty') in
       let same : fault ≡ fault' = cc in
-      o ∙ ((λ i. record { text = genesis_line (same i); faulty = true; seated = []; last = None }) ∙ sym o')
+      o ∙ ((λ i. record { text = same i; faulty = true; seated = []; last = None }) ∙ sym o')
   one_replay bytes out other (FaultyGenesis g rest fault in_range whole faulty o) (Replayed p q text line faulty' start reaches stops o') =
       absurd (begun_once bytes g rest p fault in_range whole faulty start)
   one_replay bytes out other (Replayed p q text line faulty start reaches stops o) (BadGenesis at why bad o') =
@@ -247,9 +247,9 @@ module _ {G B S E : Type 0} (m : Machine G B S E) (genesis_laws : IsWire m.genes
     pub is_replay : IsReplay m bytes outcome
 
   begun : (bytes : List ℕ) (g : G) (rest : List ℕ) → IsBytes bytes → m.genesis.in_range g → bytes ≡ m.genesis.spelling g ++ rest
-      → (started : Result S (ℕ × ℕ)) → m.start g ≡ started → HasReplay bytes
+      → (started : Result S (List ℕ)) → m.start g ≡ started → HasReplay bytes
   begun bytes g rest are_bytes in_range whole (Err fault) faulty = record {
-    outcome = record { text = genesis_line fault; faulty = true; seated = []; last = None };
+    outcome = record { text = fault; faulty = true; seated = []; last = None };
     is_replay = FaultyGenesis g rest fault in_range whole faulty refl;
   }
   begun bytes g rest are_bytes in_range whole (Ok state) started =

@@ -15,13 +15,14 @@ use Rattle.npos_cli.specs.Status.{status_of}
 use Rattle.npos_cli.specs.Report.{ReplayOwes, JobOwes, Owes, Tells, replay_status, IsJudged}
 use Rattle.npos_cli.specs.Replay.{Machine, turn, Outcome}
 use Rattle.npos_cli.specs.Chain.{npos_machine}
+use Rattle.npos_cli.specs.Checkpoints.{checkpoint_machine, resume_machine}
 use Rattle.npos_cli.specs.Pools.{pool_machine}
 use Rattle.bundle_reports.specs.declared.asked.Task.{Task}
 use Rattle.bundle_reports.specs.Bundles.{Report}
 use Rattle.bundle_reports.specs.Demo.{demo_report}
 use Rattle.bundle_reports.specs.Rewriting.{rewrite_report}
 use Rattle.bundle_reports.specs.Tasks.{IsBundleReport, IsSound}
-use Rattle.npos_cli.specs.Owed.{ReadsUpTo, IsDrained, Delivers, DeliversFront, FindsFor, BeginsFor}
+use Rattle.npos_cli.specs.Owed.{ReadsUpTo, IsDrained, Delivers, DeliversFront, FindsFor, BeginsFor, IsAll, BeginsReplay}
 use Rattle.std.specs.Prelude.{option_map}
 use Rattle.npos_words.specs.declared.command.Command.{Command}
 use Rattle.npos_words.specs.declared.command.Command.TheVariants as commands
@@ -34,6 +35,7 @@ use Rattle.bundle_reports.specs.Rounds.{MinerHasRounds}
 use Rattle.npos_cli.proofs.ReplayLaws.{one_replay, any_replay}
 use Rattle.bundle_reports.proofs.ReportLaws.{one_report, any_report}
 use Rattle.bundle_reports.proofs.LongLaws.{long_report, long_reported}
+use Rattle.state_checkpoint.specs.LayoutLaws.{state_laws}
 use Rattle.npos_cli.proofs.ChainLaws.{genesis_laws, turn_laws}
 use Rattle.npos_cli.proofs.PoolLaws.{pool_laws, pool_turn_laws}
 
@@ -70,6 +72,12 @@ one_replayed {G} {B} {S} {E} m genesis_laws turn_laws bytes text other status en
     let same = one_replay m genesis_laws turn_laws bytes first.0 second.0 first.1 second.1 in
     (first.2 ∙ (ap (λ (o : Outcome S E). o.text) same ∙ sym second.2), first.3 ∙ (ap (λ (o : Outcome S E). replay_status o.faulty) same ∙ sym second.3))
 
+-- a front of the replay that was found is a front of the one that is owed
+pub replay_front : {G B S E : Type 0} (m : Machine G B S E) → IsWire m.genesis → IsWire (turn m) → (left : Option (List ℕ)) (old new : Option Told) (text : List ℕ) (status : Status)
+    → (bytes : List ℕ) × IsAll left bytes × ReplayOwes m bytes text status → DeliversFront old new text → BeginsReplay m left old new
+replay_front m genesis_laws turn_laws left old new text status finds front other end owed =
+    subst (λ (t : List ℕ). DeliversFront old new t) (one_replayed m genesis_laws turn_laws finds.0 text other status end finds.2 (owed finds.0 finds.1)).0 front
+
 -- words and bytes owe one text and one status
 pub one_for : (job : Option Job) (bytes text other : List ℕ) (status end : Status) → JobOwes job bytes text status → JobOwes job bytes other end → (text ≡ other) × (status ≡ end)
 one_for None bytes text other status end first second = (first.0 ∙ sym second.0, first.1 ∙ sym second.1)
@@ -80,6 +88,8 @@ one_for (Some (jobs.Demo seed voters seats)) bytes text other status end first s
     one_told (demo_report seed voters seats) (demo_report seed voters seats) text other status end refl first second
 one_for (Some (jobs.Rewrite way)) bytes text other status end first second =
     one_told (rewrite_report way bytes) (rewrite_report way bytes) text other status end refl first second
+one_for (Some jobs.Checkpoint) bytes text other status end first second = one_replayed checkpoint_machine genesis_laws turn_laws bytes text other status end first second
+one_for (Some jobs.Resume) bytes text other status end first second = one_replayed resume_machine state_laws turn_laws bytes text other status end first second
 one_for (Some jobs.Pools) bytes text other status end first second = one_replayed pool_machine pool_laws pool_turn_laws bytes text other status end first second
 
 pub one_owed : (words : List (List ℕ)) (bytes text other : List ℕ) (status end : Status) → Owes words bytes text status → Owes words bytes other end
@@ -114,6 +124,8 @@ job_has_rounds words = by (command_of words) (keeps_bounds words) where
   by (Some commands.Pack) bounds = tt
   by (Some commands.Show) bounds = tt
   by (Some (commands.Demo seed voters seats)) bounds = bounds
+  by (Some commands.Checkpoint) bounds = tt
+  by (Some commands.Resume) bounds = tt
   by (Some commands.Pools) bounds = tt
 
 any_replayed : {G B S E : Type 0} (m : Machine G B S E) → IsWire m.genesis → IsWire (turn m) → (bytes : List ℕ) → IsBytes bytes
@@ -131,6 +143,8 @@ any_owed words bytes are = by (job_of words) (job_has_rounds words) where
   by (Some (jobs.OnBundle task)) some = let r = any_report task some bytes in (r.0.text, status_of r.0.ending, (r.0, r.1, tells_itself r.0))
   by (Some (jobs.Demo seed voters seats)) some = let r = demo_report seed voters seats in (r.text, status_of r.ending, tells_itself r)
   by (Some (jobs.Rewrite way)) some = let r = rewrite_report way bytes in (r.text, status_of r.ending, tells_itself r)
+  by (Some jobs.Checkpoint) some = any_replayed checkpoint_machine genesis_laws turn_laws bytes are
+  by (Some jobs.Resume) some = any_replayed resume_machine state_laws turn_laws bytes are
   by (Some jobs.Pools) some = any_replayed pool_machine pool_laws pool_turn_laws bytes are
 
 -- ## A bundle

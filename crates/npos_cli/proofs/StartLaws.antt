@@ -14,7 +14,9 @@ use Rattle.chain_params.specs.Faults.{fault_numbers}
 use Rattle.bundle_reports.specs.Texts.{fault_line}
 use Rattle.npos_cli.specs.Texts.{genesis_line}
 use Rattle.npos_cli.specs.Replay.{Outcome, Starts, BadGenesis, FaultyGenesis}
-use Rattle.npos_cli.specs.Chain.{npos_machine, started}
+use Rattle.npos_cli.specs.declared.output.Output.{Output}
+use Rattle.npos_cli.specs.Outputs.{machine_of}
+use Rattle.npos_cli.specs.Chain.{started}
 use Rattle.npos_cli.specs.Owed.{LeftAfter, IsDrained, Replays, FindsReplay}
 use Rattle.npos_cli.specs.Ahead.{first_place, MayFollow, HasSeen, IsSure}
 use Rattle.npos_cli.specs.Turning.{spot}
@@ -28,62 +30,63 @@ pub outcome_with : (text other : List ℕ) (faulty : Bool) (seated : List Electi
     → outcome text faulty seated last ≡ outcome other faulty seated last
 outcome_with text other faulty seated last same = ap (λ (t : List ℕ). outcome t faulty seated last) same
 
--- what is the replay of all that was seen, whatever may follow, is that of all that was left
-pub found : (left now : Option (List ℕ)) (seen told : List ℕ) (ended faulty : Bool) → HasSeen left now seen false ended
-    → ((more : List ℕ) → MayFollow ended more → Replays npos_machine (seen ++ more) told faulty) → (faulty ≡ false → ended ≡ true) → FindsReplay npos_machine left now told faulty
-found left now seen told ended faulty has_seen replays ends = on left has_seen.taken has_seen.at_end where
-  drained : (left : Option (List ℕ)) → ((false ≡ true) × (now ≡ left)) ⊎ IsDrained left now → IsDrained left now
-  drained left (inl never) = absurd (true≢false (sym never.0))
-  drained left (inr end) = end
-
-  on : (left : Option (List ℕ)) → LeftAfter left now seen → (ended ≡ true → ((false ≡ true) × (now ≡ left)) ⊎ IsDrained left now) → FindsReplay npos_machine left now told faulty
-  on None taken at_end = (seen ++ [], tt, replays [] (λ _. refl), λ _. tt)
-  on (Some all) taken at_end = (
-    all,
-    refl,
-    subst (λ (bytes : List ℕ). Replays npos_machine bytes told faulty) (sym taken.2)
-        (replays taken.0 (λ end. let e : Some taken.0 ≡ Some [] = sym taken.1 ∙ drained (Some all) (at_end end) in cc)),
-    λ sound. drained (Some all) (at_end (ends sound)),
-  )
-
-pub refused_replay : (left now : Option (List ℕ)) (taken told : List ℕ) (ended : Bool) (fault : WireFault) → HasSeen left now taken false ended → IsBytes taken
-    → IsFault genesis_form (first_place taken) fault (first_place taken) → IsSure ended fault.why → told ≡ fault_line fault.at fault.why → FindsReplay npos_machine left now told true
-refused_replay left now taken told ended fault has_seen are_bytes is sure told_is =
-    let place : fault.at ≡ is.place = omega (arith, is.at_is) in
-    found left now taken told ended true has_seen
-    (λ more follow. (
-      [],
-      None,
-      BadGenesis is.place fault.why (bad_grows genesis_form genesis_laws taken more is.place fault.why ended are_bytes sure follow is.bad)
-          (outcome_with told (fault_line is.place fault.why) true [] None (told_is ∙ ap (λ at. fault_line at fault.why) place)),
-    ))
-    (λ e. cc)
-
 is_due : (due : Option GenesisFault) (fault : GenesisFault) → IsGenesisFault due fault → fault ≢ NoMemory → due ≡ Some fault
 is_due due fault (inl memory) not_memory = absurd (not_memory memory)
 is_due due fault (inr e) not_memory = e
 
-pub faulty_replay : (left now : Option (List ℕ)) (taken told : List ℕ) (place : Place) (genesis : Genesis) (fault : GenesisFault) → LeftAfter left now taken
-    → IsRead genesis_form (first_place taken) genesis place → IsGenesisFault (genesis_fault genesis) fault → fault ≢ NoMemory → told ≡ genesis_line (fault_numbers fault)
-    → FindsReplay npos_machine left now told true
-faulty_replay left now taken told place genesis fault left_is is due not_memory told_is =
-    found left now taken told false true (record { taken = left_is; at_end = λ e. absurd (true≢false (sym e)) })
-    (λ more follow. (
-      [],
-      None,
-      FaultyGenesis genesis (place.rest ++ more) (fault_numbers fault) is.in_range (read_grows genesis_form (first_place taken) place genesis more is).whole
-          (ap (λ (o : Option GenesisFault). started o genesis) (is_due (genesis_fault genesis) fault due not_memory))
-          (outcome_with told (genesis_line (fault_numbers fault)) true [] None told_is),
-    ))
-    (λ e. cc)
+module _ (output : Output) where
+  -- what is the replay of all that was seen, whatever may follow, is that of all that was left
+  pub found : (left now : Option (List ℕ)) (seen told : List ℕ) (ended faulty : Bool) → HasSeen left now seen false ended
+      → ((more : List ℕ) → MayFollow ended more → Replays (machine_of output) (seen ++ more) told faulty) → (faulty ≡ false → ended ≡ true) → FindsReplay (machine_of output) left now told faulty
+  found left now seen told ended faulty has_seen replays ends = on left has_seen.taken has_seen.at_end where
+    drained : (left : Option (List ℕ)) → ((false ≡ true) × (now ≡ left)) ⊎ IsDrained left now → IsDrained left now
+    drained left (inl never) = absurd (true≢false (sym never.0))
+    drained left (inr end) = end
 
--- the genesis starts the chain
-pub genesis_starts : (taken : List ℕ) (place : Place) (genesis : Genesis) (chain : Chain) → IsRead genesis_form (first_place taken) genesis place → genesis_fault genesis ≡ None
-    → chain ≡ genesis_chain genesis → Starts npos_machine taken (spot place chain)
-genesis_starts taken place genesis chain is sound chain_is = record {
-  genesis = genesis;
-  in_range = is.in_range;
-  state_is = ap (λ (o : Option GenesisFault). started o genesis) sound ∙ ap Ok (sym chain_is);
-  whole = is.whole;
-  at_is = omega (arith, is.at_is);
-}
+    on : (left : Option (List ℕ)) → LeftAfter left now seen → (ended ≡ true → ((false ≡ true) × (now ≡ left)) ⊎ IsDrained left now) → FindsReplay (machine_of output) left now told faulty
+    on None taken at_end = (seen ++ [], tt, replays [] (λ _. refl), λ _. tt)
+    on (Some all) taken at_end = (
+      all,
+      refl,
+      subst (λ (bytes : List ℕ). Replays (machine_of output) bytes told faulty) (sym taken.2)
+          (replays taken.0 (λ end. let e : Some taken.0 ≡ Some [] = sym taken.1 ∙ drained (Some all) (at_end end) in cc)),
+      λ sound. drained (Some all) (at_end (ends sound)),
+    )
+
+  pub refused_replay : (left now : Option (List ℕ)) (taken told : List ℕ) (ended : Bool) (fault : WireFault) → HasSeen left now taken false ended → IsBytes taken
+      → IsFault genesis_form (first_place taken) fault (first_place taken) → IsSure ended fault.why → told ≡ fault_line fault.at fault.why → FindsReplay (machine_of output) left now told true
+  refused_replay left now taken told ended fault has_seen are_bytes is sure told_is =
+      let place : fault.at ≡ is.place = omega (arith, is.at_is) in
+      found left now taken told ended true has_seen
+      (λ more follow. (
+        [],
+        None,
+        BadGenesis is.place fault.why (bad_grows genesis_form genesis_laws taken more is.place fault.why ended are_bytes sure follow is.bad)
+            (outcome_with told (fault_line is.place fault.why) true [] None (told_is ∙ ap (λ at. fault_line at fault.why) place)),
+      ))
+      (λ e. cc)
+
+  pub faulty_replay : (left now : Option (List ℕ)) (taken told : List ℕ) (place : Place) (genesis : Genesis) (fault : GenesisFault) → LeftAfter left now taken
+      → IsRead genesis_form (first_place taken) genesis place → IsGenesisFault (genesis_fault genesis) fault → fault ≢ NoMemory → told ≡ genesis_line (fault_numbers fault)
+      → FindsReplay (machine_of output) left now told true
+  faulty_replay left now taken told place genesis fault left_is is due not_memory told_is =
+      found left now taken told false true (record { taken = left_is; at_end = λ e. absurd (true≢false (sym e)) })
+      (λ more follow. (
+        [],
+        None,
+        FaultyGenesis genesis (place.rest ++ more) (genesis_line (fault_numbers fault)) is.in_range (read_grows genesis_form (first_place taken) place genesis more is).whole
+            (ap (λ (o : Option GenesisFault). started o genesis) (is_due (genesis_fault genesis) fault due not_memory))
+            (outcome_with told (genesis_line (fault_numbers fault)) true [] None told_is),
+      ))
+      (λ e. cc)
+
+  -- the genesis starts the chain
+  pub genesis_starts : (taken : List ℕ) (place : Place) (genesis : Genesis) (chain : Chain) → IsRead genesis_form (first_place taken) genesis place → genesis_fault genesis ≡ None
+      → chain ≡ genesis_chain genesis → Starts (machine_of output) taken (spot place chain)
+  genesis_starts taken place genesis chain is sound chain_is = record {
+    genesis = genesis;
+    in_range = is.in_range;
+    state_is = ap (λ (o : Option GenesisFault). started o genesis) sound ∙ ap Ok (sym chain_is);
+    whole = is.whole;
+    at_is = omega (arith, is.at_is);
+  }

@@ -30,4 +30,6 @@ found_answers (Some jobs.Replay) left text status finds = subst (λ (s : Status)
 found_answers (Some (jobs.OnBundle task)) left text status finds = told_answers finds.2.0 text status finds.2.2
 found_answers (Some (jobs.Demo seed voters seats)) left text status finds = subst (λ (s : Status). IsAnswer s) (sym finds.2.status_is) tt
 found_answers (Some (jobs.Rewrite way)) left text status finds = subst (λ (s : Status). IsAnswer s) (sym finds.2.status_is) (ending_answers _)
+found_answers (Some jobs.Checkpoint) left text status finds = subst (λ (s : Status). IsAnswer s) (sym finds.2.3) (replayed finds.2.0.faulty)
+found_answers (Some jobs.Resume) left text status finds = subst (λ (s : Status). IsAnswer s) (sym finds.2.3) (replayed finds.2.0.faulty)
 found_answers (Some jobs.Pools) left text status finds = subst (λ (s : Status). IsAnswer s) (sym finds.2.3) (replayed finds.2.0.faulty)

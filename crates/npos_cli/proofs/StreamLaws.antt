@@ -1,18 +1,22 @@
 -- The replay of a whole stream ends with its end line, so a run that is not cut off is done.
-use Rattle.std.proofs.Common.{◌≡◌, ◌⊎◌, inl, inr, ℕ, false, List, ◌++◌, Option, Some, refl, ◌∙◌, ap, subst}
+use Rattle.std.proofs.Common.{◌≡◌, ◌⊎◌, inl, inr, ℕ, false, List, [], ◌∷◌, ◌++◌, Option, Some, refl, ◌∙◌, ap, subst}
 use Rattle.npos_base.specs.Outside.{Told, Rose}
 use Rattle.scale_wire.specs.Form.{IsWire}
 use Rattle.npos_cli.specs.declared.job.Job.{Job}
 use Rattle.npos_cli.specs.declared.job.Job.TheVariants as jobs
 use Rattle.npos_cli.specs.declared.status.Status.{Status}
 use Rattle.npos_cli.specs.declared.status.Status.TheVariants as statuses
-use Rattle.npos_cli.specs.Replay.{Machine, turn, all_seated, Outcome, IsReplay, Replayed, Ended}
+use Rattle.block_wire.specs.declared.block.Block.{Block}
+use Rattle.npos_runtime.specs.declared.chain.Chain.{Chain}
+use Rattle.npos_cli.specs.Replay.{Machine, Spot, turn, behind, Passes, all_seated, Outcome, IsReplay, Replayed, Ended}
 use Rattle.npos_cli.specs.Chain.{npos_machine}
+use Rattle.npos_cli.specs.Checkpoints.{checkpoint_machine, resume_machine}
 use Rattle.npos_cli.specs.Pools.{pool_machine}
 use Rattle.npos_cli.specs.Report.{JobOwes, ReplayOwes, ReadsInput, IsAnswer, replay_status}
 use Rattle.npos_cli.specs.Owed.{IsAll, AnswersFor}
 use Rattle.npos_cli.specs.Streams.{IsStream, LeavesStream}
 use Rattle.npos_cli.proofs.ReplayLaws.{one_replay}
+use Rattle.state_checkpoint.specs.LayoutLaws.{state_laws}
 use Rattle.npos_cli.proofs.ChainLaws.{genesis_laws, turn_laws}
 use Rattle.npos_cli.proofs.PoolLaws.{pool_laws, pool_turn_laws}
 
@@ -65,3 +69,47 @@ pub pool_done : (job : Option Job) (left : Option (List ℕ)) (old new : Option 
     → (IsAnswer status → AnswersFor job left old new status) → (status ≡ statuses.ReadFault → ReadsInput job × Rose reads read) → (status ≡ statuses.WriteFault → Rose writes wrote)
     → (status ≡ statuses.Done) ⊎ (status ≡ statuses.NoMemory)
 pool_done = ends_done pool_machine pool_laws pool_turn_laws (Some jobs.Pools) (λ bytes text status owes. owes)
+
+-- a stream has a checkpoint too
+silent_passes : (blocks : List Block) (p q : Spot Chain) (text : List ℕ) → Passes npos_machine blocks p q text → Passes checkpoint_machine blocks p q []
+silent_passes [] p q text passes = (passes.0, refl)
+silent_passes (block ∷ blocks) p q text passes = (
+  passes.0,
+  record { in_range = passes.1.in_range; numbered = passes.1.numbered; whole = passes.1.whole },
+  [],
+  silent_passes blocks (behind npos_machine p block passes.0) q passes.2 passes.3,
+  refl,
+)
+
+silent_stream : (bytes : List ℕ) → IsStream npos_machine bytes → IsStream checkpoint_machine bytes
+silent_stream bytes stream = record {
+  start = stream.start;
+  place = stream.place;
+  text = [];
+  starts = record {
+    genesis = stream.starts.genesis;
+    in_range = stream.starts.in_range;
+    state_is = stream.starts.state_is;
+    whole = stream.starts.whole;
+    at_is = stream.starts.at_is;
+  };
+  reaches = record {
+    blocks = stream.reaches.blocks;
+    passes = silent_passes stream.reaches.blocks stream.start stream.place stream.text stream.reaches.passes;
+  };
+  ended = stream.ended;
+}
+
+pub checkpoint_done : (job : Option Job) (left : Option (List ℕ)) (old new : Option Told) (reads read writes wrote : ℕ) (status : Status)
+    → job ≡ Some jobs.Checkpoint → LeavesStream npos_machine left → (Rose reads read → ⊥) → (Rose writes wrote → ⊥)
+    → (IsAnswer status → AnswersFor job left old new status) → (status ≡ statuses.ReadFault → ReadsInput job × Rose reads read) → (status ≡ statuses.WriteFault → Rose writes wrote)
+    → (status ≡ statuses.Done) ⊎ (status ≡ statuses.NoMemory)
+checkpoint_done job left old new reads read writes wrote status is stream =
+    ends_done checkpoint_machine genesis_laws turn_laws (Some jobs.Checkpoint) (λ bytes text status owes. owes) job left old new reads read writes wrote status is
+    (stream.0, stream.1, silent_stream stream.0 stream.2)
+
+pub resume_done : (job : Option Job) (left : Option (List ℕ)) (old new : Option Told) (reads read writes wrote : ℕ) (status : Status)
+    → job ≡ Some jobs.Resume → LeavesStream resume_machine left → (Rose reads read → ⊥) → (Rose writes wrote → ⊥)
+    → (IsAnswer status → AnswersFor job left old new status) → (status ≡ statuses.ReadFault → ReadsInput job × Rose reads read) → (status ≡ statuses.WriteFault → Rose writes wrote)
+    → (status ≡ statuses.Done) ⊎ (status ≡ statuses.NoMemory)
+resume_done = ends_done resume_machine state_laws turn_laws (Some jobs.Resume) (λ bytes text status owes. owes)

@@ -70,7 +70,7 @@ module _ {G B S E : Type 0} (m : Machine G B S E) (genesis_laws : IsWire m.genes
       way.1
 
   begun_whole : (bytes : List ℕ) (g : G) (rest : List ℕ) → IsBytes bytes → m.genesis.in_range g → bytes ≡ m.genesis.spelling g ++ rest
-      → (started : Result S (ℕ × ℕ)) → m.start g ≡ started → (text : List ℕ) × IsWhole m bytes text
+      → (started : Result S (List ℕ)) → m.start g ≡ started → (text : List ℕ) × IsWhole m bytes text
   begun_whole bytes g rest are_bytes in_range whole (Err fault) faulty =
       ([], NoStart (λ p start. begun_once m genesis_laws turn_laws bytes g rest p fault in_range whole faulty start) refl)
   begun_whole bytes g rest are_bytes in_range whole (Ok state) started =

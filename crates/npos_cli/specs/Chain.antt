@@ -14,7 +14,7 @@ use Rattle.block_receipts.specs.declared.line.Line.TheVariants as lines
 use Rattle.npos_runtime.specs.Genesis.{genesis_fault, genesis_chain}
 use Rattle.chain_params.specs.Faults.{fault_numbers}
 use Rattle.npos_runtime.specs.Step.{step}
-use Rattle.npos_base.specs.declared.account.AccountId.{AccountId}
+use Rattle.npos_cli.specs.Texts.{genesis_line}
 use Rattle.told_lines.specs.Texts.{newline, amount_line, ok_line}
 use Rattle.bundle_reports.specs.Verdicts.{member_line, verdict_line}
 use Rattle.npos_cli.specs.Replay.{Machine}
@@ -57,10 +57,10 @@ end_line totals =
     ++ (codes " minted " ++ (decimal totals.minted ++ (codes " burned " ++ (decimal totals.burned
     ++ (codes " issuance " ++ (decimal totals.issuance ++ newline)))))))))))))
 
--- the chain of a genesis, or the number and the detail of its first fault
-abbrev pub started : Option GenesisFault → Genesis → Result Chain (ℕ × ℕ)
+-- the chain of a genesis, or the line of its first fault
+abbrev pub started : Option GenesisFault → Genesis → Result Chain (List ℕ)
 started None genesis = Ok (genesis_chain genesis)
-started (Some fault) genesis = Err (fault_numbers fault)
+started (Some fault) genesis = Err (genesis_line (fault_numbers fault))
 
 abbrev pub npos_machine : Machine Genesis Block Chain Election
 npos_machine = record {

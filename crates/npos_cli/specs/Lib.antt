@@ -5,9 +5,12 @@ pub mod Words
 pub mod Report
 pub mod Owed
 pub mod Pools
+pub mod Going
 pub mod Pooling
 pub mod Ahead
 pub mod Chain
+pub mod Checkpoints
+pub mod Outputs
 pub mod Books
 pub mod Headline
 pub mod Turning
@@ -17,4 +20,6 @@ pub mod Laws
 pub mod Crowding
 pub mod Eras
 pub mod Streams
+pub mod Resumable
+pub mod Resumed
 pub mod Says

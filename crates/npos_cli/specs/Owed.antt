@@ -8,7 +8,7 @@ use Rattle.npos_cli.specs.declared.status.Status.TheVariants as statuses
 use Rattle.npos_cli.specs.Replay.{Machine, Outcome, IsReplay}
 use Rattle.npos_cli.specs.declared.job.Job.{Job}
 use Rattle.npos_cli.specs.Words.{job_of}
-use Rattle.npos_cli.specs.Report.{JobOwes}
+use Rattle.npos_cli.specs.Report.{ReplayOwes, JobOwes}
 
 -- The text was appended whole, and all that was ever written is flushed.
 -- Nothing is said of a sink that does not tell its bytes.
@@ -132,6 +132,16 @@ IsOwed words = IsOwedFor (job_of words)
 abbrev pub BeginsFor : Option Job → Option (List ℕ) → Option Told → Option Told → Type 0
 BeginsFor job left old new =
     (text : List ℕ) (status : Status) → IsOwedFor job left text status → DeliversFront old new text
+
+-- this replay is owed, whatever the bytes are that a source does not tell
+abbrev pub IsOwedReplay : {G B S E : Type 0} → Machine G B S E → Option (List ℕ) → List ℕ → Status → Type 0
+IsOwedReplay m left text status = (bytes : List ℕ) → IsAll left bytes → ReplayOwes m bytes text status
+
+-- a front of the replay that is owed was delivered
+abbrev pub BeginsReplay : {G B S E : Type 0} → Machine G B S E → Option (List ℕ) → Option Told → Option Told
+    → Type 0
+BeginsReplay m left old new =
+    (text : List ℕ) (status : Status) → IsOwedReplay m left text status → DeliversFront old new text
 
 abbrev pub BeginsToAnswer : List (List ℕ) → Option (List ℕ) → Option Told → Option Told → Type 0
 BeginsToAnswer words = BeginsFor (job_of words)

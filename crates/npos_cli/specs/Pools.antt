@@ -18,8 +18,8 @@ use Rattle.stake_pools.specs.Laws.{KeepsPrice, IsNoSlash}
 use Rattle.stake_pools.specs.declared.input.PoolKind.{PoolKind}
 use Rattle.stake_pools.specs.declared.input.PoolKind.TheVariants.{Join, Redeem}
 use Rattle.npos_base.specs.declared.account.AccountId.{AccountId}
-use Rattle.told_lines.specs.Texts.{newline}
-use Rattle.told_lines.specs.Texts.{amount_line}
+use Rattle.told_lines.specs.Texts.{newline, amount_line}
+use Rattle.npos_cli.specs.Texts.{genesis_line}
 use Rattle.npos_cli.specs.Chain.{end_line}
 use Rattle.npos_cli.specs.Replay.{Machine, Spot, Starts, Reaches}
 
@@ -47,10 +47,14 @@ abbrev pub pool_line : PoolChain → List ℕ
 pool_line pool =
     figures_line (all_points_of pool) (active_of pool) (pot_of pool) (all_credits pool.members)
 
--- the pool of a genesis, or the number and the detail of its first fault
-abbrev pub pool_started : Option PoolFault → PoolGenesis → Result PoolRun (ℕ × ℕ)
+-- the lines of a pool where the input ends
+abbrev pub pool_ending : PoolChain → List ℕ
+pool_ending pool = pool_line pool ++ end_line (totals_of pool.book)
+
+-- the pool of a genesis, or the line of its first fault
+abbrev pub pool_started : Option PoolFault → PoolGenesis → Result PoolRun (List ℕ)
 pool_started None genesis = Ok (record { asked = 0; pool = pool_chain genesis })
-pool_started (Some fault) genesis = Err (fault_numbers fault)
+pool_started (Some fault) genesis = Err (genesis_line (fault_numbers fault))
 
 -- Items have no number: each is due. Nothing is elected.
 abbrev pub pool_machine : Machine PoolGenesis PoolItem PoolRun ⊥
@@ -67,7 +71,7 @@ pool_machine = record {
   lines = λ run item.
       flat_map (pool_line_text run.asked) (item_outcome run.pool item.who item.kind).lines;
   seats = λ run item. [];
-  ending = λ run. pool_line run.pool ++ end_line (totals_of run.pool.book);
+  ending = λ run. pool_ending run.pool;
 }
 
 -- What holds of a pool: its books balance, and credits and active stake are within what they stand

@@ -10,6 +10,8 @@ use Rattle.npos_cli.specs.declared.status.Status.{Status}
 use Rattle.npos_cli.specs.declared.status.Status.TheVariants as statuses
 use Rattle.npos_cli.specs.declared.halt.Halt.{Halt}
 use Rattle.npos_cli.specs.declared.halt.Halt.TheVariants as halts
+use Rattle.npos_cli.specs.Chain.{npos_machine}
+use Rattle.npos_cli.specs.Checkpoints.{checkpoint_machine}
 use Rattle.npos_cli.specs.Report.{ReadsInput, ReadsBundle, IsJudged}
 use Rattle.bundle_reports.specs.Tasks.{IsSound}
 use Rattle.npos_cli.specs.Owed.{AnswersFor, BeginsFor, IsDrained, TakesAtMost, Delivers, DeliversFront, KeepsFlushed, Counts}
@@ -54,7 +56,8 @@ pub record Ran (job : Option Job) (t : Traffic) (result : Result Status Halt) : 
   pub reads : IfErr result (λ halt. halt ≡ halts.ReadFault → ReadsInput job)
   pub unflushed : OnErr result (KeepsFlushed t.told t.told_now)
   pub halted : job ≡ Some jobs.Replay → IfErr result (λ halt. HaltedBy halt t)
-  pub wary : job ≡ Some jobs.Replay → ReadsWhile t.left t.left_now
+  pub wary : job ≡ Some jobs.Replay → ReadsWhile npos_machine t.left t.left_now
+  pub wary_checkpoint : job ≡ Some jobs.Checkpoint → ReadsWhile checkpoint_machine t.left t.left_now
   pub drained : IfOk result (λ status. IsJudged status → ReadsInput job → IsDrained t.left t.left_now)
   pub few : ReadsBundle job → TakesAtMost 16777217 t.left t.left_now
   pub accepted : (task : Task) → job ≡ Some (jobs.OnBundle task)

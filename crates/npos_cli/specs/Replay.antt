@@ -6,14 +6,14 @@ use Rattle.scale_wire.specs.declared.fault.Why.TheVariants.{Trailing}
 use Rattle.scale_wire.specs.Form.{Form}
 use Rattle.scale_wire.specs.Composite.{optional}
 use Rattle.bundle_reports.specs.Texts.{fault_line}
-use Rattle.npos_cli.specs.Texts.{number_line, genesis_line}
+use Rattle.npos_cli.specs.Texts.{number_line}
 
 -- How genesis and blocks are spelled, and what each of them does to a state, writes and seats.
 pub record Machine (G B S E : Type 0) : Type 1 where
   pub genesis : Form G
   pub block : Form B
-  -- the first state, or the number and the detail of the genesis's first fault
-  pub start : G → Result S (ℕ × ℕ)
+  -- the first state, or the line of the genesis's first fault
+  pub start : G → Result S (List ℕ)
   pub number : B → ℕ
   pub due : S → ℕ
   pub after : S → B → S
@@ -101,9 +101,9 @@ pub data IsReplay {G B S E : Type 0} (m : Machine G B S E) (bytes : List ℕ) (o
   BadGenesis : (at : ℕ) (why : Why) → m.genesis.bad bytes at why
       → out ≡ record { text = fault_line at why; faulty = true; seated = []; last = None }
       → IsReplay m bytes out
-  FaultyGenesis : (g : G) (rest : List ℕ) (fault : ℕ × ℕ) → m.genesis.in_range g
-      → bytes ≡ m.genesis.spelling g ++ rest → m.start g ≡ Err fault
-      → out ≡ record { text = genesis_line fault; faulty = true; seated = []; last = None }
+  FaultyGenesis : (g : G) (rest line : List ℕ) → m.genesis.in_range g
+      → bytes ≡ m.genesis.spelling g ++ rest → m.start g ≡ Err line
+      → out ≡ record { text = line; faulty = true; seated = []; last = None }
       → IsReplay m bytes out
   Replayed : (p q : Spot S) (text line : List ℕ) (faulty : Bool) → Starts m bytes p
       → (reaches : Reaches m p q text) → Stops m q line faulty

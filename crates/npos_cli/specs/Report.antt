@@ -8,6 +8,7 @@ use Rattle.npos_cli.specs.Status.{status_of}
 use Rattle.npos_cli.specs.Words.{job_of, usage_line}
 use Rattle.npos_cli.specs.Replay.{Machine, Outcome, IsReplay}
 use Rattle.npos_cli.specs.Chain.{npos_machine}
+use Rattle.npos_cli.specs.Checkpoints.{checkpoint_machine, resume_machine}
 use Rattle.npos_cli.specs.Pools.{pool_machine}
 use Rattle.bundle_reports.specs.Bundles.{Report}
 use Rattle.bundle_reports.specs.Tasks.{IsBundleReport}
@@ -39,6 +40,8 @@ JobOwes (Some (jobs.OnBundle task)) bytes text status =
 JobOwes (Some (jobs.Demo seed voters seats)) bytes text status =
     Tells (demo_report seed voters seats) text status
 JobOwes (Some (jobs.Rewrite way)) bytes text status = Tells (rewrite_report way bytes) text status
+JobOwes (Some jobs.Checkpoint) bytes text status = ReplayOwes checkpoint_machine bytes text status
+JobOwes (Some jobs.Resume) bytes text status = ReplayOwes resume_machine bytes text status
 JobOwes (Some jobs.Pools) bytes text status = ReplayOwes pool_machine bytes text status
 
 abbrev pub Owes : List (List ℕ) → List ℕ → List ℕ → Status → Type 0
@@ -51,6 +54,8 @@ ReadsInput (Some jobs.Replay) = ⊤
 ReadsInput (Some (jobs.OnBundle task)) = ⊤
 ReadsInput (Some (jobs.Demo seed voters seats)) = ⊥
 ReadsInput (Some (jobs.Rewrite way)) = ⊤
+ReadsInput (Some jobs.Checkpoint) = ⊤
+ReadsInput (Some jobs.Resume) = ⊤
 ReadsInput (Some jobs.Pools) = ⊤
 
 -- whether a job reads a bundle
@@ -60,6 +65,8 @@ ReadsBundle (Some jobs.Replay) = ⊥
 ReadsBundle (Some (jobs.OnBundle task)) = ⊤
 ReadsBundle (Some (jobs.Demo seed voters seats)) = ⊥
 ReadsBundle (Some (jobs.Rewrite way)) = ⊤
+ReadsBundle (Some jobs.Checkpoint) = ⊥
+ReadsBundle (Some jobs.Resume) = ⊥
 ReadsBundle (Some jobs.Pools) = ⊥
 
 -- a status that answers what is owed; the others say that the run was cut off

@@ -12,6 +12,8 @@ use Rattle.npos_cli.specs.declared.status.Status.TheVariants as statuses
 use Rattle.npos_cli.specs.Words.{job_of}
 use Rattle.npos_cli.specs.Report.{ReadsInput, ReadsBundle, IsAnswer, IsJudged}
 use Rattle.npos_cli.specs.Chain.{npos_machine}
+use Rattle.npos_cli.specs.Checkpoints.{checkpoint_machine, resume_machine, WritesCheckpoints, GoesOnFromCheckpoints, StartsWithCheckpoints}
+use Rattle.npos_cli.specs.Resumed.{KeepsOn}
 use Rattle.npos_cli.specs.Pools.{pool_machine, PoolsAreFair}
 use Rattle.npos_cli.specs.Books.{BooksBalance, DepositsAreKept}
 use Rattle.npos_cli.specs.Headline.{SeatsAreSound, IsPromised, RoundsAreSeated}
@@ -43,10 +45,17 @@ pub record Says (words : List (List ℕ)) (t : Traffic) (Unread Unwritten : Type
   pub whole : job_of words ≡ Some jobs.Replay → LeavesStream npos_machine t.left
       → (Rose t.read_faults t.read_faults_now → ⊥) → (Rose t.write_faults t.write_faults_now → ⊥)
       → (status ≡ statuses.Done) ⊎ (status ≡ statuses.NoMemory)
+  pub whole_checkpoint : job_of words ≡ Some jobs.Checkpoint → LeavesStream npos_machine t.left
+      → (Rose t.read_faults t.read_faults_now → ⊥) → (Rose t.write_faults t.write_faults_now → ⊥)
+      → (status ≡ statuses.Done) ⊎ (status ≡ statuses.NoMemory)
+  pub whole_resume : job_of words ≡ Some jobs.Resume → LeavesStream resume_machine t.left
+      → (Rose t.read_faults t.read_faults_now → ⊥) → (Rose t.write_faults t.write_faults_now → ⊥)
+      → (status ≡ statuses.Done) ⊎ (status ≡ statuses.NoMemory)
   pub whole_pool : job_of words ≡ Some jobs.Pools → LeavesStream pool_machine t.left
       → (Rose t.read_faults t.read_faults_now → ⊥) → (Rose t.write_faults t.write_faults_now → ⊥)
       → (status ≡ statuses.Done) ⊎ (status ≡ statuses.NoMemory)
-  pub wary : job_of words ≡ Some jobs.Replay → ReadsWhile t.left t.left_now
+  pub wary : job_of words ≡ Some jobs.Replay → ReadsWhile npos_machine t.left t.left_now
+  pub wary_checkpoint : job_of words ≡ Some jobs.Checkpoint → ReadsWhile checkpoint_machine t.left t.left_now
   pub usage_memory : has_verb words ≡ false → status ≢ statuses.NoMemory
   pub unread : (ReadsInput (job_of words) → ⊥) → Unread
   pub drained : IsJudged status → ReadsInput (job_of words) → IsDrained t.left t.left_now
@@ -57,6 +66,10 @@ pub record Says (words : List (List ℕ)) (t : Traffic) (Unread Unwritten : Type
   pub crowding : IfSome t.left NoneIsCrowdedOut
   pub eras : IfSome t.left ErasAreKept
   pub pools : IfSome t.left PoolsAreFair
+  pub checkpoints : IfSome t.left WritesCheckpoints
+  pub resumes : IfSome t.left GoesOnFromCheckpoints
+  pub restored : IfSome t.left StartsWithCheckpoints
+  pub resumed : IfSome t.left KeepsOn
   pub headline : job_of words ≡ Some jobs.Replay → (Rose t.read_faults t.read_faults_now → ⊥)
       → (Rose t.write_faults t.write_faults_now → ⊥) → status ≢ statuses.NoMemory
       → IfSome t.left (λ bytes. IsPromised bytes t.told t.told_now)

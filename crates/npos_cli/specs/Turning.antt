@@ -3,14 +3,12 @@ use Rattle.std.specs.Prelude.{◌≡◌, ◌⊎◌, ◌<◌, ⊤, ℕ, ◌+◌, 
 use Rattle.scale_wire.specs.declared.fault.Why.TheVariants.{Short, Trailing}
 use Rattle.npos_base.specs.Outside.{Told, Appends}
 use Rattle.scale_wire.specs.Reading.{Place}
-use Rattle.stake_ledger.specs.declared.totals.Totals.{Totals}
 use Rattle.npos_runtime.specs.declared.chain.Chain.{Chain}
 use Rattle.npos_cli.specs.declared.replaying.Turn.{Turn}
 use Rattle.npos_cli.specs.declared.replaying.Turn.TheVariants.{Taken, Stopped}
 use Rattle.npos_cli.specs.declared.replaying.Stop.{Stop}
 use Rattle.npos_cli.specs.declared.replaying.Stop.TheVariants.{More, Last}
 use Rattle.bundle_reports.specs.Texts.{fault_line}
-use Rattle.npos_cli.specs.Chain.{end_line}
 use Rattle.npos_cli.specs.declared.halt.Halt.{Halt}
 use Rattle.npos_cli.specs.declared.halt.Halt.TheVariants as halts
 use Rattle.npos_cli.specs.Ahead.{MayFollow}
@@ -71,12 +69,12 @@ WritesOn {G} {B} {S} {E} m ended p q old new line (Err halts.WriteFault) =
     × Appends old new put
 WritesOn m ended p q old new line (Err other) = ⊥
 
--- Behind the None that ends a stream: the line of the byte that follows, or the end line where none does.
-abbrev pub StopsHere : Place → Totals → List ℕ → List ℕ → Stop → Type 0
-StopsHere place totals old new More = ⊥
-StopsHere place totals old new (Last true) = (0 < length place.rest)
+-- Behind the None that ends a stream: the line of the byte that follows, or the ending where none does.
+abbrev pub StopsHere : Place → List ℕ → List ℕ → List ℕ → Stop → Type 0
+StopsHere place ending old new More = ⊥
+StopsHere place ending old new (Last true) = (0 < length place.rest)
     × (new ≡ old ++ fault_line place.at Trailing)
-StopsHere place totals old new (Last false) = (place.rest ≡ []) × (new ≡ old ++ end_line totals)
+StopsHere place ending old new (Last false) = (place.rest ≡ []) × (new ≡ old ++ ending)
 
 -- after this turn the reader goes on
 abbrev pub IsGoing : Turn → Type 0

@@ -28,6 +28,8 @@ job_by (commands.Mine miner rounds) = jobs.OnBundle (tasks.Mine (miner_by miner 
 job_by commands.Pack = jobs.Rewrite ways.Pack
 job_by commands.Show = jobs.Rewrite ways.Show
 job_by (commands.Demo seed voters seats) = jobs.Demo seed voters seats
+job_by commands.Checkpoint = jobs.Checkpoint
+job_by commands.Resume = jobs.Resume
 job_by commands.Pools = jobs.Pools
 
 abbrev pub job_of : List (List ℕ) → Option Job
@@ -44,9 +46,11 @@ KeepsBounds None = ⊤
 KeepsBounds (Some jobs.Replay) = ⊤
 KeepsBounds (Some (jobs.OnBundle task)) = TaskHasRounds task
 KeepsBounds (Some (jobs.Rewrite way)) = ⊤
+KeepsBounds (Some jobs.Checkpoint) = ⊤
+KeepsBounds (Some jobs.Resume) = ⊤
 KeepsBounds (Some jobs.Pools) = ⊤
 KeepsBounds (Some (jobs.Demo seed voters seats)) = (1 ≤ voters) × (voters ≤ MOST_VOTERS)
     × (1 ≤ seats) × (seats ≤ MOST_SEATS)
 
 abbrev pub usage_line : List ℕ
-usage_line = codes "usage: npos replay|check|mine|pack|show|demo" ++ newline
+usage_line = codes "usage: npos replay|check|mine|pack|show|demo|checkpoint|resume|pools" ++ newline

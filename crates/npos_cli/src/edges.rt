@@ -1,5 +1,5 @@
 //! The edge of a run at which its text goes out.
-ghost use Rattle.std.specs.Prelude.{◌≡◌, MatchResult, IfErr, OnErr};
+ghost use Rattle.std.specs.Prelude.{◌≡◌, [], MatchResult, IfErr, OnErr};
 ghost use Rattle.npos_cli.specs.declared.halt.Halt.TheVariants as halts;
 ghost use Rattle.npos_cli.specs.Owed.{Counts, Ends, Puts, FlushesBy};
 
@@ -16,6 +16,19 @@ pub fn put<K: Sink>(sink: &mut K, text: &[u8]) -> Result<(), Halt>
         Ok(()) => Ok(()),
         Err(_) => Err(Halt::WriteFault),
     }
+}
+
+/// Writes the text, where there is any. Where there is none the sink is not called.
+#[tactic(auto, using(crate::proofs::EdgeLaws::puts_none))]
+pub fn put_some<K: Sink>(sink: &mut K, text: &[u8]) -> Result<(), Halt>
+    ensures puts { Puts (K.told sink.old) (K.told sink.new) text.now result }
+    ensures faults { Counts halts.WriteFault (K.faults sink.old) (K.faults sink.new) result }
+    ensures quiet { text.now ≡ [] → sink.new ≡ sink.old }
+{
+    if text.is_empty() {
+        return Ok(());
+    }
+    put(sink, text)
 }
 
 /// Flushes the sink.

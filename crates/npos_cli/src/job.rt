@@ -16,6 +16,10 @@ pub enum Job {
     Rewrite(Rewriting),
     /// To report on the election that the seed generates. Nothing is read.
     Demo { seed: u64, voters: u32, seats: u32 },
+    /// To replay a stream and to write the checkpoint behind its last block alone.
+    Checkpoint,
+    /// To go on from a checkpoint.
+    Resume,
     /// To go through the input of a stake pool.
     Pools,
 }
@@ -50,6 +54,8 @@ pub fn job_of(command: Command) -> Job
             voters,
             seats,
         },
+        Command::Checkpoint => Job::Checkpoint,
+        Command::Resume => Job::Resume,
         Command::Pools => Job::Pools,
     }
 }

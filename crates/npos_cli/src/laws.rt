@@ -2,19 +2,24 @@
 //! nothing, or no more than the call that it speaks of.
 ghost use Rattle.std.specs.Prelude.{◌≡◌, ℕ, List};
 ghost use Rattle.npos_cli.specs.Chain.{npos_machine};
+ghost use Rattle.npos_cli.specs.Checkpoints.{checkpoint_machine, resume_machine};
 ghost use Rattle.npos_cli.specs.Books.{DepositsAreKept};
 ghost use Rattle.npos_cli.specs.Headline.{SeatsAreSound, RoundsAreSeated};
 ghost use Rattle.npos_cli.specs.Crowding.{NoneIsCrowdedOut};
 ghost use Rattle.npos_cli.specs.Eras.{ErasAreKept};
 ghost use Rattle.npos_cli.specs.Pools.{pool_machine, PoolsAreFair};
+ghost use Rattle.npos_cli.specs.Checkpoints.{WritesCheckpoints, GoesOnFromCheckpoints, StartsWithCheckpoints};
+ghost use Rattle.npos_cli.specs.Resumable.{StaysWhole, GoesOnWhole, EachGoesOn};
+ghost use Rattle.npos_cli.specs.Resumed.{ResumedBooksBalance, ResumedSeatsAreSound, ResumedRoundsAreSeated, ResumedNoneIsCrowdedOut, ResumedDepositsAreKept, ResumedErasAreKept};
 ghost use Rattle.npos_cli.specs.Laws.{OwesOnce, OwesAlways, PacksBack, IsReplayedOnce, IsAlwaysReplayed, IsWholeOnce, IsAlwaysWhole, BeginsWithWhole, WholeGrows, FaultsStand};
 
 pub use bundle_reports::laws::a_fill_is_sealed;
 use npos_runtime::laws::{
-    deposits_are_settled, each_round_is_decided_once, every_round_ends_as_it_began,
-    every_seated_committee_is_sound, nothing_valid_is_crowded_out_for_free,
-    payouts_are_within_the_reward, slashes_are_within_the_stake,
-    slashes_that_wait_take_what_is_due,
+    a_saved_state_has_no_fault, a_state_without_a_fault_is_kept, chains_can_be_saved,
+    deposits_are_settled, deposits_go_on, each_round_is_decided_once, equal_states_go_on_alike,
+    every_round_ends_as_it_began, every_seated_committee_is_sound,
+    nothing_valid_is_crowded_out_for_free, payouts_are_within_the_reward,
+    slashes_are_within_the_stake, slashes_that_wait_take_what_is_due,
 };
 use stake_pools::laws::{
     a_payment_is_within_its_part, every_list_of_items_leaves_a_pool_sound, every_pool_starts_sound,
@@ -96,12 +101,16 @@ pub fn what_is_shown_packs_back()
 /// No bytes have two replays: text, end and last state are determined by them.
 pub fn one_replay()
     ensures chain { IsReplayedOnce npos_machine }
+    ensures checkpoint { IsReplayedOnce checkpoint_machine }
+    ensures resumed { IsReplayedOnce resume_machine }
     ensures pool { IsReplayedOnce pool_machine }
 {}
 
 /// All bytes have a replay.
 pub fn every_input_has_a_replay()
     ensures chain { IsAlwaysReplayed npos_machine }
+    ensures checkpoint { IsAlwaysReplayed checkpoint_machine }
+    ensures resumed { IsAlwaysReplayed resume_machine }
     ensures pool { IsAlwaysReplayed pool_machine }
 {}
 
@@ -122,3 +131,97 @@ pub fn whole_text_grows()
 pub fn faults_stand()
     ensures { FaultsStand npos_machine }
 {}
+
+/// A stream may be cut behind any of its blocks: the checkpoint of the blocks before the cut is the
+/// state that the chain keeps there, and nothing else is told.
+pub fn replays_write_checkpoints()
+    ensures { (bytes : List ℕ) → WritesCheckpoints bytes }
+{}
+
+/// What a whole replay writes and seats behind a block is what is written and seated by whoever
+/// goes on from the checkpoint of the blocks up to there, with the bytes that follow.
+pub fn replays_go_on_from_checkpoints()
+    ensures { (bytes : List ℕ) → GoesOnFromCheckpoints bytes }
+{
+    chains_can_be_saved();
+    a_saved_state_has_no_fault();
+    a_state_without_a_fault_is_kept();
+    equal_states_go_on_alike();
+}
+
+/// A checkpoint that is gone on from is the very one that the chain which goes on would write, so no
+/// two checkpoints start the same chain.
+pub fn replays_start_with_their_checkpoint()
+    ensures { (bytes : List ℕ) → StartsWithCheckpoints bytes }
+{
+    a_state_without_a_fault_is_kept();
+}
+
+/// What is a whole stream for a replay is one for who writes its last state. The checkpoint of a
+/// place in it, and the bytes behind, are a whole stream for who goes on; so are the checkpoint of
+/// any chain that can be saved, and blocks that are due.
+pub fn whole_streams_stop_and_go_on()
+    ensures stop { (bytes : List ℕ) → StaysWhole bytes }
+    ensures go_on { (bytes : List ℕ) → GoesOnWhole bytes }
+    ensures each { EachGoesOn }
+{
+    chains_can_be_saved();
+    a_saved_state_has_no_fault();
+    a_state_without_a_fault_is_kept();
+    equal_states_go_on_alike();
+}
+
+/// Wherever a replay that goes on has come, its books balance.
+pub fn resumed_replays_balance()
+    ensures { (bytes : List ℕ) → ResumedBooksBalance bytes }
+{
+    a_state_without_a_fault_is_kept();
+}
+
+/// Every committee that a replay seats which goes on is sound, also one of a round that was open when
+/// the checkpoint was written.
+pub fn resumed_replays_seat_sound_committees()
+    ensures { (bytes : List ℕ) → ResumedSeatsAreSound bytes }
+{
+    a_state_without_a_fault_is_kept();
+    every_seated_committee_is_sound();
+}
+
+/// Where a block of a replay that goes on takes the snapshot of a round, the block of its decision
+/// seats exactly one committee, elected from that very snapshot; or its line told why there is none.
+pub fn resumed_replays_seat_each_round()
+    ensures { (bytes : List ℕ) → ResumedRoundsAreSeated bytes }
+{
+    a_state_without_a_fault_is_kept();
+    every_round_ends_as_it_began();
+}
+
+/// Nothing valid that is offered to a round since the checkpoint is crowded out of it for free.
+pub fn resumed_replays_crowd_nothing_out()
+    ensures { (bytes : List ℕ) → ResumedNoneIsCrowdedOut bytes }
+{
+    a_state_without_a_fault_is_kept();
+    nothing_valid_is_crowded_out_for_free();
+}
+
+/// What is held of an account is the deposits of its submissions that wait. Each that waited when the
+/// checkpoint was written, or was accepted since then, waits or was settled once, and by the time
+/// its round is decided it is settled.
+pub fn resumed_replays_settle_deposits()
+    ensures { (bytes : List ℕ) → ResumedDepositsAreKept bytes }
+{
+    a_state_without_a_fault_is_kept();
+    deposits_go_on();
+}
+
+/// Each round is decided once. A slash takes the lesser of what is due and what is bonded, at once or
+/// when it was waited for, unless it is cancelled; and no more is taken for an era than waited for it
+/// in the checkpoint and was made due for it since then.
+pub fn resumed_replays_keep_the_bounds_of_slashes()
+    ensures { (bytes : List ℕ) → ResumedErasAreKept bytes }
+{
+    a_state_without_a_fault_is_kept();
+    each_round_is_decided_once();
+    slashes_are_within_the_stake();
+    slashes_that_wait_take_what_is_due();
+}

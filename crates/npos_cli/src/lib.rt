@@ -2,15 +2,18 @@
 #![tactic(auto)]
 
 mod edges;
+mod going;
 mod halt;
 mod input;
 mod job;
 pub mod laws;
+mod output;
 mod pieces;
 mod pool_lines;
 mod pooling;
 pub mod promises;
 mod replaying;
+mod resuming;
 mod rewriting;
 mod status;
 mod telling;

@@ -2,15 +2,18 @@
 ghost use Rattle.std.specs.Prelude.{◌≡◌, ◌≢◌, ◌+◌, ◌^◌, ◌<◌, Some, false, length, IfOk, IfErr};
 ghost use Rattle.npos_cli.specs.declared.job.Job.TheVariants as jobs;
 ghost use Rattle.npos_cli.specs.declared.halt.Halt.TheVariants as halts;
-ghost use Rattle.npos_cli.specs.declared.pooling.Turn.TheVariants as turns;
+ghost use Rattle.npos_cli.specs.declared.going.Turn.TheVariants as turns;
 ghost use Rattle.npos_cli.specs.Owed.{FindsFor, IsDrained, Counts};
 ghost use Rattle.npos_cli.specs.Ran.{Ran, traffic};
 ghost use Rattle.npos_cli.specs.Report.{JobOwes};
 ghost use Rattle.npos_cli.specs.Status.{status_of};
-ghost use Rattle.npos_cli.specs.Pooling.{EndsHere, GoesOn, TakesItem, pool_spot};
+ghost use Rattle.npos_cli.specs.Going.{EndsHere, GoesOn, TakesItem};
+ghost use Rattle.npos_cli.specs.Pools.{pool_ending, pool_machine};
+ghost use Rattle.npos_cli.specs.Pooling.{pool_spot};
 
 use crate::Status;
 use crate::edges::deliver;
+use crate::going::{Turn, faulty};
 use crate::halt::Halt;
 use crate::input::read_all;
 use crate::pool_lines::{tell_pool, tell_pool_fault, tell_pool_lines};
@@ -22,17 +25,9 @@ use scale_wire::{Cursor, Wire};
 use stake_pools::{Pool, PoolBlock, PoolFault, PoolGenesis, PoolItem};
 use std::alloc::Global;
 
-/// What reading the next item came to.
-enum Turn {
-    /// An item was taken.
-    Taken,
-    /// The input ended here, with a fault line or not.
-    Last { faulty: bool },
-}
-
 /// Ends the text behind the items: with the lines of the pool, or because a byte follows.
 fn tell_stop(cursor: &Cursor<'_>, pool: &Pool, text: &mut Vec<u8>) -> Result<Turn, NoMemory>
-    ensures { IfOk result (EndsHere cursor.now pool.now.state text.old.items text.new.items) }
+    ensures { IfOk result (EndsHere cursor.now (pool_ending pool.now.state) text.old.items text.new.items) }
 {
     if !cursor.rest().is_empty() {
         tell_fault(text, cursor.at(), Why::Trailing)?;
@@ -51,7 +46,7 @@ fn take_item(
     text: &mut Vec<u8>,
 ) -> Result<Turn, NoMemory>
     requires unspent { pool.old.spent ≡ false }
-    ensures turn { IfOk result (TakesItem (pool_spot cursor.old asked pool.old.state)
+    ensures turn { IfOk result (TakesItem pool_machine (pool_spot cursor.old asked pool.old.state)
         (pool_spot cursor.new (asked + 1) pool.new.state) text.old.items text.new.items) }
     ensures unspent { IfOk result (λ turn. turn ≡ turns.Taken → pool.new.spent ≡ false) }
 {
@@ -82,7 +77,7 @@ fn take_items(
 ) -> Result<bool, NoMemory>
     requires unspent { pool.old.spent ≡ false }
     requires fits { length cursor.old.rest < 2 ^ 64 }
-    ensures { IfOk result (GoesOn (pool_spot cursor.old 0 pool.old.state)
+    ensures { IfOk result (GoesOn pool_machine (pool_spot cursor.old 0 pool.old.state)
         text.old.items text.new.items) }
 {
     let mut asked = 0;
@@ -91,17 +86,6 @@ fn take_items(
             Turn::Taken => asked += 1,
             Turn::Last { faulty } => return Ok(faulty),
         }
-    }
-}
-
-/// A text that ends with a fault line.
-fn faulty(text: Vec<u8>) -> Answer
-    ensures text { result.text.items ≡ text.items }
-    ensures status { status_of result.ending ≡ Status.BadInput }
-{
-    Answer {
-        text,
-        ending: Ending::BadInput,
     }
 }
 

@@ -1,11 +1,12 @@
 //! The replay of a stream: a genesis, and then a turn for each block until one is the last. It
-//! reads piece by piece, and writes the lines of each block before it reads again.
-ghost use Rattle.std.specs.Prelude.{◌≡◌, ◌+◌, ◌<◌, ◌≤◌, ℕ, List, Some, Ok, [], ◌∷◌, true, false, length, IfOk, IsTrue, ◌↔◌};
-ghost use Rattle.stake_ledger.specs.Ledger.{totals_of};
+//! reads piece by piece, and writes what is told of each block before it reads again.
+ghost use Rattle.std.specs.Prelude.{◌≡◌, ◌≢◌, ◌+◌, ◌<◌, ◌≤◌, ℕ, List, Some, Ok, [], ◌∷◌, true, false, length, IfOk, IfErr, IsTrue, ◌↔◌};
+ghost use Rattle.npos_runtime.specs.Savable.{IsSavable};
 ghost use Rattle.npos_base.specs.Outside.{Appends};
 ghost use Rattle.npos_cli.specs.declared.halt.Halt.TheVariants as halts;
 ghost use Rattle.npos_cli.specs.declared.replaying.Stop.TheVariants as stops;
-ghost use Rattle.npos_cli.specs.Chain.{npos_machine};
+ghost use Rattle.npos_cli.specs.declared.output.Output.TheVariants as outputs;
+ghost use Rattle.npos_cli.specs.Outputs.{end_text, machine_of};
 ghost use Rattle.npos_cli.specs.Ahead.{Begins, first_place};
 ghost use Rattle.npos_cli.specs.Owed.{Counts};
 ghost use Rattle.npos_cli.specs.Report.{replay_status};
@@ -13,13 +14,15 @@ ghost use Rattle.npos_cli.specs.Streaming.{Runs, RunsOn, ReplayEnds};
 ghost use Rattle.npos_cli.specs.Turning.{spot, IsNear, IsGoing, TakesTurn, WritesOn, StopsHere};
 
 use crate::Status;
-use crate::edges::{flush, put};
+use crate::edges::{flush, put, put_some};
 use crate::halt::Halt;
+use crate::output::{Output, tell_block, tell_chain};
 use crate::pieces::{PIECE, blank_piece, read_piece};
-use crate::telling::{tell_end, tell_genesis_fault, tell_lines, tell_other_number};
+use crate::telling::{tell_genesis_fault, tell_other_number};
 use block_wire::{Genesis, Next, StreamReader};
 use bundle_reports::tell_fault;
 use npos_base::{NoMemory, Sink, Source};
+use npos_runtime::laws::chains_can_be_saved;
 use npos_runtime::{BlockFault, Runtime};
 use scale_wire::fault::{ReadFault, Why, WireFault};
 use std::alloc::Global;
@@ -46,29 +49,39 @@ fn is_lone_none(bytes: &[u8]) -> bool
     bytes.len() == 1 && bytes[0] == 0
 }
 
-/// Ends the replay behind the None: with the end line, or because a byte follows.
-fn tell_stop(reader: &StreamReader, runtime: &Runtime, text: &mut Vec<u8>) -> Result<Stop, NoMemory>
+/// Ends the replay behind the None: with what is told of the chain, or because a byte follows.
+fn tell_stop(
+    alloc: Global,
+    output: Output,
+    reader: &StreamReader,
+    runtime: &Runtime,
+    text: &mut Vec<u8>,
+) -> Result<Stop, NoMemory>
+    requires { IsSavable runtime.now.state }
     ensures { IfOk result (StopsHere reader.now
-        (totals_of runtime.now.state.book) text.old.items text.new.items) }
+        (end_text output runtime.now.state) text.old.items text.new.items) }
 {
     if !reader.held().is_empty() {
         tell_fault(text, reader.at(), Why::Trailing)?;
         return Ok(Stop::Last { faulty: true });
     }
-    tell_end(text, &runtime.totals())?;
+    tell_chain(alloc, output, text, runtime)?;
     Ok(Stop::Last { faulty: false })
 }
 
-/// Takes what stands next, and appends what it writes to the text.
+/// Takes what stands next, and appends what is told of it to the text.
 fn take_turn(
+    alloc: Global,
+    output: Output,
     ended: bool,
     reader: &mut StreamReader,
     runtime: &mut Runtime,
     text: &mut Vec<u8>,
 ) -> Result<Turn, NoMemory>
     requires unspent { runtime.old.spent ≡ false }
+    requires savable { IsSavable runtime.old.state }
     ensures turn { IfOk result
-        (TakesTurn npos_machine ended (spot reader.old runtime.old.state)
+        (TakesTurn (machine_of output) ended (spot reader.old runtime.old.state)
         (spot reader.new runtime.new.state) text.old.items text.new.items) }
     ensures unspent { IfOk result (λ turn. IsGoing turn → runtime.new.spent ≡ false) }
 {
@@ -78,7 +91,9 @@ fn take_turn(
     let (at, block) = match reader.take_block(ended) {
         Ok(Next::Block { at, block }) => (at, block),
         Ok(Next::More) => return Ok(Turn::Stopped(Stop::More)),
-        Ok(Next::End) => return Ok(Turn::Stopped(tell_stop(reader, runtime, text)?)),
+        Ok(Next::End) => {
+            return Ok(Turn::Stopped(tell_stop(alloc, output, reader, runtime, text)?));
+        }
         Err(ReadFault::Wire(fault)) => {
             tell_fault(text, fault.at, fault.why)?;
             return Ok(Turn::Stopped(Stop::Last { faulty: true }));
@@ -87,7 +102,7 @@ fn take_turn(
     };
     match runtime.apply(block) {
         Ok(receipt) => {
-            tell_lines(text, receipt.lines.as_slice())?;
+            tell_block(output, text, receipt.lines.as_slice())?;
             Ok(Turn::Taken)
         }
         Err(BlockFault::WrongNumber { due, found }) => {
@@ -98,9 +113,11 @@ fn take_turn(
     }
 }
 
-/// Takes turns and writes what each block writes, until bytes are missing or the replay ends with
-/// the line that is then the text.
+/// Takes turns and writes what is told of each block, until bytes are missing or the replay ends
+/// with the line that is then the text.
 fn take_turns<K: Sink>(
+    alloc: Global,
+    output: Output,
     ended: bool,
     reader: &mut StreamReader,
     runtime: &mut Runtime,
@@ -108,16 +125,20 @@ fn take_turns<K: Sink>(
     sink: &mut K,
 ) -> Result<Stop, Halt>
     requires unspent { runtime.old.spent ≡ false }
-    ensures writes { WritesOn npos_machine ended (spot reader.old runtime.old.state)
+    requires savable { IsSavable runtime.old.state }
+    ensures writes { WritesOn (machine_of output) ended (spot reader.old runtime.old.state)
         (spot reader.new runtime.new.state) (K.told sink.old) (K.told sink.new)
         text.new.items result }
     ensures unspent { IfOk result (λ stop. stop ≡ stops.More → runtime.new.spent ≡ false) }
     ensures faults { Counts halts.WriteFault (K.faults sink.old) (K.faults sink.new) result }
+    ensures quiet { output ≡ outputs.Checkpoint → sink.new ≡ sink.old }
 {
+    // a law, which does nothing
+    chains_can_be_saved();
     'turns: loop {
         text.clear();
-        match take_turn(ended, reader, runtime, text)? {
-            Turn::Taken => put(sink, text.as_slice())?,
+        match take_turn(alloc, output, ended, reader, runtime, text)? {
+            Turn::Taken => put_some(sink, text.as_slice())?,
             Turn::Stopped(stop) => return Ok(stop),
         }
     }
@@ -126,6 +147,8 @@ fn take_turns<K: Sink>(
 /// Takes what is read until the replay ends, with a fault line or not. All but that line is then
 /// written.
 fn take_all<S: Source, K: Sink>(
+    alloc: Global,
+    output: Output,
     source: &mut S,
     reader: &mut StreamReader,
     piece: &mut [u8],
@@ -134,17 +157,21 @@ fn take_all<S: Source, K: Sink>(
     sink: &mut K,
 ) -> Result<bool, Halt>
     requires unspent { runtime.old.spent ≡ false }
+    requires savable { IsSavable runtime.old.state }
     requires some { 0 < length piece.old }
     requires one_piece { length piece.old ≤ 65536 }
     requires near { IsNear (spot reader.old runtime.old.state) }
-    ensures runs { RunsOn (S.left source.old) (S.left source.new) (K.told sink.old)
+    ensures runs { RunsOn (machine_of output) (S.left source.old) (S.left source.new) (K.told sink.old)
         (K.told sink.new) (spot reader.old runtime.old.state) text.new.items result }
     ensures reads { Counts halts.ReadFault (S.faults source.old) (S.faults source.new) result }
     ensures writes { Counts halts.WriteFault (K.faults sink.old) (K.faults sink.new) result }
+    ensures quiet { output ≡ outputs.Checkpoint → sink.new ≡ sink.old }
 {
+    // a law, which does nothing
+    chains_can_be_saved();
     let mut ended = false;
     'pieces: loop {
-        match take_turns(ended, reader, runtime, text, sink)? {
+        match take_turns(alloc, output, ended, reader, runtime, text, sink)? {
             Stop::Last { faulty } => return Ok(faulty),
             Stop::More => ended = read_piece(source, piece, reader)?,
         }
@@ -178,16 +205,20 @@ fn take_genesis<S: Source>(
 /// Answers whether that is a fault line.
 fn tell_replay<S: Source, K: Sink>(
     alloc: Global,
+    output: Output,
     source: &mut S,
     text: &mut Vec<u8>,
     sink: &mut K,
 ) -> Result<bool, Halt>
     requires empty { text.old.items ≡ [] }
-    ensures runs { Runs (S.left source.old) (S.left source.new) (K.told sink.old) (K.told sink.new)
-        text.new.items result }
+    ensures runs { Runs (machine_of output) (S.left source.old) (S.left source.new)
+        (K.told sink.old) (K.told sink.new) text.new.items result }
     ensures reads { Counts halts.ReadFault (S.faults source.old) (S.faults source.new) result }
     ensures writes { Counts halts.WriteFault (K.faults sink.old) (K.faults sink.new) result }
+    ensures quiet { output ≡ outputs.Checkpoint → sink.new ≡ sink.old }
 {
+    // a law, which does nothing
+    chains_can_be_saved();
     let mut piece = blank_piece(alloc, PIECE)?;
     let mut reader = StreamReader::new(alloc);
     let genesis = match take_genesis(source, &mut reader, piece.as_mut_slice())? {
@@ -205,6 +236,8 @@ fn tell_replay<S: Source, K: Sink>(
         }
     };
     take_all(
+        alloc,
+        output,
         source,
         &mut reader,
         piece.as_mut_slice(),
@@ -225,19 +258,22 @@ fn replay_status(faulty: bool) -> Status
     }
 }
 
-/// Replays what is left in the source, writes it to the sink and flushes that once.
+/// Replays what is left in the source, writes what it tells to the sink and flushes that once.
 pub fn replay<S: Source, K: Sink>(
     alloc: Global,
+    output: Output,
     source: &mut S,
     sink: &mut K,
 ) -> Result<Status, Halt>
-    ensures ends { ReplayEnds (S.left source.old) (S.left source.new) (K.told sink.old)
-        (K.told sink.new) result }
+    ensures ends { ReplayEnds (machine_of output) (S.left source.old) (S.left source.new)
+        (K.told sink.old) (K.told sink.new) result }
     ensures reads { Counts halts.ReadFault (S.faults source.old) (S.faults source.new) result }
     ensures writes { Counts halts.WriteFault (K.faults sink.old) (K.faults sink.new) result }
+    ensures quiet { output ≡ outputs.Checkpoint
+        → IfErr result (λ halt. halt ≢ halts.WriteFault → sink.new ≡ sink.old) }
 {
     let mut text = Vec::new(alloc);
-    let faulty = tell_replay(alloc, source, &mut text, sink)?;
+    let faulty = tell_replay(alloc, output, source, &mut text, sink)?;
     put(sink, text.as_slice())?;
     flush(sink)?;
     Ok(replay_status(faulty))

@@ -8,11 +8,13 @@ ghost use Rattle.chain_params.specs.Faults.{fault_numbers};
 ghost use Rattle.chain_params.specs.declared.fault.GenesisFault.TheVariants as faults;
 ghost use Rattle.told_lines.specs.Pieces.{piece_text};
 ghost use Rattle.npos_cli.specs.Chain.{end_line, line_text};
+ghost use Rattle.npos_cli.specs.Checkpoints.{state_line};
+ghost use Rattle.npos_runtime.specs.declared.state_fault.StateFault.TheVariants as state_faults;
 
-use bundle_reports::{tell_member, tell_verdict};
+use bundle_reports::{tell_member, tell_verdict, tell_verdict_behind};
 use election_check::Verdict;
 use npos_base::NoMemory;
-use npos_runtime::{GenesisFault, Line};
+use npos_runtime::{GenesisFault, Line, StateFault};
 use stake_ledger::Totals;
 use told_lines::{Piece, tell, tell_amount, tell_ok};
 
@@ -44,6 +46,23 @@ pub fn tell_genesis_fault(text: &mut Vec<u8>, fault: GenesisFault) -> Result<(),
     match fault {
         GenesisFault::NoMemory => Err(NoMemory),
         fault => tell_fault_of_genesis(text, fault.number(), fault.detail()),
+    }
+}
+
+/// Appends the line of a state from which no chain goes on. Want of memory is no fault of a state,
+/// and has no line.
+pub fn tell_state_fault(text: &mut Vec<u8>, fault: StateFault) -> Result<(), NoMemory>
+    ensures line { OnOk result (text.new.items ≡ text.old.items ++ state_line fault) }
+    ensures memory { OnOk result (fault ≢ state_faults.NoMemory) }
+{
+    match fault {
+        StateFault::NoMemory => Err(NoMemory),
+        StateFault::NotElected(verdict) => {
+            tell_verdict_behind(text, "fault 0 checkpoint 11", verdict)
+        }
+        StateFault::Cause { number, detail } => {
+            tell_two(text, "fault 0 checkpoint ", u64::from(number), " ", detail)
+        }
     }
 }
 

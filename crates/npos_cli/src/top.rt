@@ -13,6 +13,8 @@ ghost use Rattle.npos_cli.specs.Report.{ReadsInput, ReadsBundle, IsAnswer, IsJud
 ghost use Rattle.npos_cli.specs.Books.{BooksBalance, DepositsAreKept};
 ghost use Rattle.npos_cli.specs.Headline.{SeatsAreSound, IsPromised, RoundsAreSeated};
 ghost use Rattle.npos_cli.specs.Chain.{npos_machine};
+ghost use Rattle.npos_cli.specs.Checkpoints.{checkpoint_machine, resume_machine, WritesCheckpoints, GoesOnFromCheckpoints, StartsWithCheckpoints};
+ghost use Rattle.npos_cli.specs.Resumed.{KeepsOn};
 ghost use Rattle.npos_cli.specs.Pools.{pool_machine, PoolsAreFair};
 ghost use Rattle.npos_cli.specs.Crowding.{NoneIsCrowdedOut};
 ghost use Rattle.npos_cli.specs.Eras.{ErasAreKept};
@@ -31,11 +33,17 @@ use crate::halt::{Halt, end_of};
 use crate::input::read_up_to;
 use crate::job::{Job, job_of};
 use crate::laws::{
-    pools_are_fair, replays_crowd_nothing_out, replays_keep_the_bounds_of_eras,
-    replays_seat_each_round, replays_seat_sound_committees, replays_settle_deposits,
+    pools_are_fair, replays_crowd_nothing_out, replays_go_on_from_checkpoints,
+    replays_keep_the_bounds_of_eras, replays_seat_each_round, replays_seat_sound_committees,
+    replays_settle_deposits, replays_start_with_their_checkpoint, replays_write_checkpoints,
+    resumed_replays_balance, resumed_replays_crowd_nothing_out,
+    resumed_replays_keep_the_bounds_of_slashes, resumed_replays_seat_each_round,
+    resumed_replays_seat_sound_committees, resumed_replays_settle_deposits,
 };
+use crate::output::Output;
 use crate::pooling::pools;
 use crate::replaying::replay;
+use crate::resuming::resume;
 use crate::rewriting::rewrite;
 use crate::status::status_of;
 use bundle_reports::{Answer, MOST_BUNDLE, Task, answer_bytes, demo_text};
@@ -44,7 +52,7 @@ use npos_words::command_of;
 use std::alloc::Global;
 
 /// What the program writes where the words ask for no job.
-const USAGE: &str = "usage: npos replay|check|mine|pack|show|demo\n";
+const USAGE: &str = "usage: npos replay|check|mine|pack|show|demo|checkpoint|resume|pools\n";
 
 /// Reads the bundle that is left in the source, no more than one byte beyond the limit, and reports
 /// on it.
@@ -119,7 +127,9 @@ fn run_job<S: Source, K: Sink>(
 {
     match job {
         None => deliver(sink, USAGE.as_bytes(), Status::Usage),
-        Some(Job::Replay) => replay(alloc, source, sink),
+        Some(Job::Replay) => replay(alloc, Output::Receipts, source, sink),
+        Some(Job::Checkpoint) => replay(alloc, Output::Checkpoint, source, sink),
+        Some(Job::Resume) => resume(alloc, source, sink),
         Some(Job::OnBundle(task)) => report(alloc, source, sink, task),
         Some(Job::Rewrite(way)) => rewrite(alloc, source, sink, way),
         Some(Job::Pools) => pools(alloc, source, sink),
@@ -157,7 +167,7 @@ fn run_words<S: Source, K: Sink>(
 /// Does all that the program does: finds the job that the words ask for, reads its input from the
 /// source, writes to the sink what is due, flushes it, and says how it ended. `words[0]` is the
 /// program's name and is not looked at.
-#[tactic(auto, using(crate::proofs::BookLaws::books_told, crate::proofs::SeatLaws::told_sound, crate::proofs::SeatLaws::told_rounds, crate::proofs::BookLaws::told_deposits, crate::proofs::CrowdingLaws::told_crowded, crate::proofs::EraLaws::told_eras, crate::proofs::FairLaws::told_pools))]
+#[tactic(auto, using(crate::proofs::BookLaws::books_told, crate::proofs::SeatLaws::told_sound, crate::proofs::SeatLaws::told_rounds, crate::proofs::BookLaws::told_deposits, crate::proofs::CrowdingLaws::told_crowded, crate::proofs::EraLaws::told_eras, crate::proofs::FairLaws::told_pools, crate::proofs::ToldLaws::told_checkpoints, crate::proofs::ToldLaws::told_resumes, crate::proofs::ToldLaws::told_starts, crate::proofs::ToldLaws::told_promises))]
 pub fn run<S: Source, K: Sink>(
     alloc: Global,
     words: &[String],
@@ -195,13 +205,25 @@ pub fn run<S: Source, K: Sink>(
         → (Rose (S.faults source.old) (S.faults source.new) → ⊥)
         → (Rose (K.faults sink.old) (K.faults sink.new) → ⊥)
         → (result ≡ Status.Done) ⊎ (result ≡ Status.NoMemory) }
+    ensures whole_checkpoint { job_of (map string_bytes words.now) ≡ Some jobs.Checkpoint
+        → LeavesStream npos_machine (S.left source.old)
+        → (Rose (S.faults source.old) (S.faults source.new) → ⊥)
+        → (Rose (K.faults sink.old) (K.faults sink.new) → ⊥)
+        → (result ≡ Status.Done) ⊎ (result ≡ Status.NoMemory) }
+    ensures whole_resume { job_of (map string_bytes words.now) ≡ Some jobs.Resume
+        → LeavesStream resume_machine (S.left source.old)
+        → (Rose (S.faults source.old) (S.faults source.new) → ⊥)
+        → (Rose (K.faults sink.old) (K.faults sink.new) → ⊥)
+        → (result ≡ Status.Done) ⊎ (result ≡ Status.NoMemory) }
     ensures whole_pool { job_of (map string_bytes words.now) ≡ Some jobs.Pools
         → LeavesStream pool_machine (S.left source.old)
         → (Rose (S.faults source.old) (S.faults source.new) → ⊥)
         → (Rose (K.faults sink.old) (K.faults sink.new) → ⊥)
         → (result ≡ Status.Done) ⊎ (result ≡ Status.NoMemory) }
     ensures wary { job_of (map string_bytes words.now) ≡ Some jobs.Replay
-        → ReadsWhile (S.left source.old) (S.left source.new) }
+        → ReadsWhile npos_machine (S.left source.old) (S.left source.new) }
+    ensures wary_checkpoint { job_of (map string_bytes words.now) ≡ Some jobs.Checkpoint
+        → ReadsWhile checkpoint_machine (S.left source.old) (S.left source.new) }
     ensures usage_memory { has_verb (map string_bytes words.now) ≡ false
         → result ≢ Status.NoMemory }
     ensures unread { (ReadsInput (job_of (map string_bytes words.now)) → ⊥)
@@ -215,6 +237,10 @@ pub fn run<S: Source, K: Sink>(
     ensures crowding { IfSome (S.left source.old) NoneIsCrowdedOut }
     ensures eras { IfSome (S.left source.old) ErasAreKept }
     ensures pools { IfSome (S.left source.old) PoolsAreFair }
+    ensures checkpoints { IfSome (S.left source.old) WritesCheckpoints }
+    ensures resumes { IfSome (S.left source.old) GoesOnFromCheckpoints }
+    ensures restored { IfSome (S.left source.old) StartsWithCheckpoints }
+    ensures resumed { IfSome (S.left source.old) KeepsOn }
     ensures headline { job_of (map string_bytes words.now) ≡ Some jobs.Replay
         → (Rose (S.faults source.old) (S.faults source.new) → ⊥)
         → (Rose (K.faults sink.old) (K.faults sink.new) → ⊥)
@@ -236,5 +262,14 @@ pub fn run<S: Source, K: Sink>(
     replays_crowd_nothing_out();
     replays_keep_the_bounds_of_eras();
     pools_are_fair();
+    replays_write_checkpoints();
+    replays_go_on_from_checkpoints();
+    replays_start_with_their_checkpoint();
+    resumed_replays_balance();
+    resumed_replays_seat_sound_committees();
+    resumed_replays_seat_each_round();
+    resumed_replays_crowd_nothing_out();
+    resumed_replays_settle_deposits();
+    resumed_replays_keep_the_bounds_of_slashes();
     end_of(run_words(alloc, words, source, sink))
 }

@@ -15,7 +15,7 @@ use Rattle.stake_ledger.proofs.KeepLemmas.{balanced_endowed}
 use Rattle.chain_params.specs.declared.fault.GenesisFault.{GenesisFault}
 use Rattle.chain_params.specs.declared.fault.GenesisFault.TheVariants.{RepeatedAccount, TooMuch, BadThreshold}
 use Rattle.era_book.specs.Eras.{first_era}
-use Rattle.era_book.proofs.LawLemmas.{in_order_law}
+use Rattle.npos_runtime.proofs.CourseLemmas.{first_course}
 use Rattle.npos_runtime.proofs.RoleLemmas.{none_kept}
 use Rattle.chain_params.proofs.PhaseLemmas.{era_first}
 use Rattle.npos_runtime.specs.Genesis.{params_of, defer_of, endowment_sum, endowed_all, endowment_fault, is_endowed, genesis_fault, genesis_chain}
@@ -148,7 +148,7 @@ between_begun genesis none =
       timely = refl;
       elected = tt;
       slashes = record {
-        order = in_order_law.0;
+        order = first_course;
         later = λ k d few. absurd (omega arith);
         fits = omega (arith, wait_within (params_of genesis) (defer_of genesis) live.params live.defer);
       };

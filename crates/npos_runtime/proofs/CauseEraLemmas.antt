@@ -1,5 +1,5 @@
 -- No cause stands against the eras of a sound chain.
-use Rattle.std.proofs.Common.{◌≡◌, ◌≢◌, ℕ, zero, suc, ◌+◌, ◌-◌, ◌≤◌, ◌<◌, min, Bool, true, false, not, cond, ◌||◌, nat_eq, nat_lt, is_some, unwrap_or, All, List, [], ◌∷◌, length, map, drop, take, slice_get, get_or, Option, Some, None, option_map, refl, ap, sym, subst, ◌∙◌, arith}
+use Rattle.std.proofs.Common.{◌≡◌, ◌≢◌, ℕ, zero, suc, ◌+◌, ◌-◌, ◌≤◌, ◌<◌, min, Bool, true, false, not, cond, ◌||◌, nat_eq, nat_lt, is_some, unwrap_or, All, List, [], ◌∷◌, length, map, drop, take, slice_get, get_or, Option, Some, None, option_map, refl, ap, ap₂, sym, subst, ◌∙◌, arith}
 use Rattle.std.specs.List.{IsDistinct}
 use Rattle.std.specs.List.Sorted.{IsStrictlySortedBy}
 use Rattle.std.specs.Map.{keys_of, values_of}
@@ -20,7 +20,6 @@ use Rattle.era_book.specs.declared.exposure.Backer.{Backer}
 use Rattle.era_book.specs.Exposures as exposures
 use Rattle.era_book.specs.Members.{Member, Members}
 use Rattle.era_book.specs.Eras.{Eras, members_in, AreMembers}
-use Rattle.era_book.specs.Course.{IsFine}
 use Rattle.era_book.proofs.HistoryLemmas.{numbers_known}
 use Rattle.chain_params.specs.Rules.{era_of}
 use Rattle.state_rules.specs.declared.state.EraRow.{EraRow}
@@ -34,8 +33,8 @@ use Rattle.state_rules.specs.Sound.{EachIs, AreSoundBackers, IsSoundEra}
 use Rattle.state_rules.specs.Sound as rule
 use Rattle.state_rules.proofs.SoundLemmas.{none_is, no_some, none_of}
 use Rattle.npos_runtime.specs.declared.chain.Chain.{Chain}
-use Rattle.npos_runtime.specs.Live.{IsReady}
-use Rattle.npos_runtime.specs.KeptState.{book_row, member_row, era_row, era_rows, kept, IsTold}
+use Rattle.npos_runtime.specs.Live.{HaveFractions, IsReady}
+use Rattle.npos_runtime.specs.KeptState.{book_row, member_row, era_row, era_rows, kept, IsTrueMember, AreTrueMembers, IsTold}
 use Rattle.npos_runtime.specs.KeptChain.{IsInForm, AreKeptEras}
 use Rattle.npos_runtime.specs.Sound.{AreKnown, IsSoundMember, IsSound}
 use Rattle.npos_runtime.proofs.KeptFormLemmas.{kept_form}
@@ -92,8 +91,19 @@ IsRight book member =
     (has_row (map book_row book.rows) member.who ≡ true) × (member.commission ≤ WHOLE_FRACTION) × (member.fraction ≤ WHOLE_FRACTION)
     × AreSoundBackers (map book_row book.rows) member.who member.backers
 
+-- a member's row under the account that it stands under
+abbrev keyed_row : AccountId × Member → MemberRow
+keyed_row entry = record (member_row entry) { who = entry.0 }
+
+rows_keyed : (members : Members) → AreTrueMembers members → map keyed_row members ≡ map member_row members
+rows_keyed [] own = refl
+rows_keyed (entry ∷ members) own =
+    ap₂ (λ (row : MemberRow) (rows : List MemberRow). row ∷ rows)
+    (ap (λ (who : AccountId). record (member_row entry) { who = who }) (sym (All-head IsTrueMember entry members own).own))
+    (rows_keyed members (All-tail IsTrueMember entry members own))
+
 members_right : (book : Ledger) (members : Members) → IsStrictlySortedBy account_cmp (keys_of members) → All (IsFitMember book) members
-    → AreRightMembers (map book_row book.rows) (map member_row members)
+    → AreRightMembers (map book_row book.rows) (map keyed_row members)
 members_right book members rising fit place d few = record {
   above = above place d few;
   known = (each place d few).0;
@@ -101,14 +111,14 @@ members_right book members rising fit place d few = record {
   fraction = (each place d few).2;
   backers = (each place d few).3;
 } where
-  above : EachIs (λ (before : List MemberRow) (member : MemberRow). follows (λ earlier later. is_below earlier.who later.who) before member ≡ true) (map member_row members)
+  above : EachIs (λ (before : List MemberRow) (member : MemberRow). follows (λ earlier later. is_below earlier.who later.who) before member ≡ true) (map keyed_row members)
   above =
       pairs_follow (λ (first later : MemberRow). account_cmp first.who later.who ≡ Less) (λ (earlier later : MemberRow). is_below earlier.who later.who)
-      (λ first later lower. ap is_lt lower) (map member_row members)
-      (pairs_map member_row (λ (first later : MemberRow). account_cmp first.who later.who ≡ Less) members
+      (λ first later lower. ap is_lt lower) (map keyed_row members)
+      (pairs_map keyed_row (λ (first later : MemberRow). account_cmp first.who later.who ≡ Less) members
       (sorted_pairs (λ (entry : AccountId × Member). entry.0) members rising))
 
-  right : {entry : AccountId × Member} → IsFitMember book entry → IsRight book (member_row entry)
+  right : {entry : AccountId × Member} → IsFitMember book entry → IsRight book (keyed_row entry)
   right {entry} is = (
     row_known book entry.0 ∙ is.sound.known,
     is.exposed.commission,
@@ -121,13 +131,13 @@ members_right book members rising fit place d few = record {
     },
   )
 
-  each : All (IsRight book) (map member_row members)
-  each = All-map (IsRight book) member_row members (λ k e within. right (fit k e within))
+  each : All (IsRight book) (map keyed_row members)
+  each = All-map (IsRight book) keyed_row members (λ k e within. right (fit k e within))
 
 -- ## The eras that are kept
 
 -- the members of each era that is kept stand at its place
-kept_at : (eras : Eras) → length eras.kept ≡ min (eras.current + 1) (MOST_PAST_ERAS + 1) → (place : ℕ) (d : Members) → place < length eras.kept
+pub kept_at : (eras : Eras) → length eras.kept ≡ min (eras.current + 1) (MOST_PAST_ERAS + 1) → (place : ℕ) (d : Members) → place < length eras.kept
     → members_in eras (eras.current - place) ≡ get_or eras.kept place d
 kept_at eras count place d few =
     ap (λ b. unwrap_or (cond b None (slice_get eras.kept (eras.current - (eras.current - place)))) [])
@@ -162,7 +172,7 @@ rows_later (suc era) (members ∷ before) few none =
           (All-nil (λ (row : EraRow). 1 ≤ row.era))
 
 -- what holds of the members of each era holds of those of its row
-rows_members : (Right : List MemberRow → Type 0) (era : ℕ) (kept_members : List Members) → All (λ members. Right (map member_row members)) kept_members
+pub rows_members : (Right : List MemberRow → Type 0) (era : ℕ) (kept_members : List Members) → All (λ members. Right (map member_row members)) kept_members
     → All (λ (row : EraRow). Right row.members) (era_rows era kept_members)
 rows_members Right era [] all = All-nil (λ (row : EraRow). Right row.members)
 rows_members Right era (members ∷ before) all =
@@ -195,23 +205,23 @@ module _ (chain : Chain) (ready : IsReady chain) (told : IsTold chain) (sound : 
 
   fit : (place : ℕ) (d : Members) → place < length chain.eras.kept → AreRightMembers (kept chain).rows (map member_row (get_or chain.eras.kept place d))
   fit place d few =
-      members_right chain.book (get_or chain.eras.kept place d) (sound.eras.members place d few).rising
+      subst (AreRightMembers (kept chain).rows) (rows_keyed (get_or chain.eras.kept place d) (told.eras.members place d few))
+      (members_right chain.book (get_or chain.eras.kept place d) (sound.eras.members place d few).rising
       (parts (get_or chain.eras.kept place d) (sound.eras.members place d few).each (ready.between.slashes.order.kept.sound place d few)
-      (subst (λ (members : Members). All (IsFine (chain.eras.current - place) chain.eras.current) (values_of members))
-      (kept_at chain.eras told.eras.count place d few) (ready.between.slashes.order.fine (chain.eras.current - place)))) where
+      (ready.between.slashes.order.fractions place d few))) where
         parts : (members : Members) → All (IsSoundMember chain.book) members → AreMembers members
-            → All (IsFine (chain.eras.current - place) chain.eras.current) (values_of members) → All (IsFitMember chain.book) members
-        parts [] each exposed fine = All-nil (IsFitMember chain.book)
-        parts (entry ∷ members) each exposed fine =
+            → HaveFractions members → All (IsFitMember chain.book) members
+        parts [] each exposed whole = All-nil (IsFitMember chain.book)
+        parts (entry ∷ members) each exposed whole =
             All-cons (IsFitMember chain.book) entry members
             record {
               sound = All-head (IsSoundMember chain.book) entry members each;
               exposed = All-head (λ (member : Member). exposures.IsSound member.exposure) entry.1 (values_of members) exposed;
-              fraction = (All-head (IsFine (chain.eras.current - place) chain.eras.current) entry.1 (values_of members) fine).fraction;
+              fraction = All-head (λ (member : Member). member.fraction ≤ WHOLE_FRACTION) entry.1 (values_of members) whole;
             }
             (parts members (All-tail (IsSoundMember chain.book) entry members each)
             (All-tail (λ (member : Member). exposures.IsSound member.exposure) entry.1 (values_of members) exposed)
-            (All-tail (IsFine (chain.eras.current - place) chain.eras.current) entry.1 (values_of members) fine))
+            (All-tail (λ (member : Member). member.fraction ≤ WHOLE_FRACTION) entry.1 (values_of members) whole))
 
   right : All (λ (row : EraRow). AreRightMembers (kept chain).rows row.members) all_rows
   right = rows_members (AreRightMembers (kept chain).rows) chain.eras.current chain.eras.kept (λ place d few. fit place d few)

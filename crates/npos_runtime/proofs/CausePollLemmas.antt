@@ -119,7 +119,7 @@ seats_taken : (targets total seats : ℕ) → 1 ≤ seats → seats ≤ MOST_SEA
 seats_taken targets total seats some few enough rich =
     rw (or_from (nat_eq seats 0) (nat_lt MOST_SEATS seats) (not_none seats some) (le-ltb MOST_SEATS seats few), le-ltb targets seats enough, le-ltb total (seats * seats) rich) refl
 
-sum_mapped : {A B : Type 0} (f : B → ℕ) (g : A → B) (items : List A) → sum_by f (map g items) ≡ sum_by (λ item. f (g item)) items
+pub sum_mapped : {A B : Type 0} (f : B → ℕ) (g : A → B) (items : List A) → sum_by f (map g items) ≡ sum_by (λ item. f (g item)) items
 sum_mapped f g [] = refl
 sum_mapped f g (item ∷ items) =
     sum_by-cons f (g item) (map g items) ∙ (ap (λ n. f (g item) + n) (sum_mapped f g items) ∙ sym (sum_by-cons (λ x. f (g x)) item items))

@@ -141,7 +141,7 @@ more_before test (item ∷ items) (suc place) d few is = at (test item) (more_be
   at true rest = omega (arith, rest)
   at false rest = rest
 
-account_same : IsEquivalence same_account
+pub account_same : IsEquivalence same_account
 account_same = record {
   refl = same_itself;
   symm = turned;
@@ -229,7 +229,7 @@ validators_few roles order apart =
 -- ## The roles of a chain
 
 -- who stands in the walk is listed
-listed_at : (order : Order) (place : ℕ) (d : AccountId × ℕ) → place < length order → is_listed order (get_or order place d).0 ≡ true
+pub listed_at : (order : Order) (place : ℕ) (d : AccountId × ℕ) → place < length order → is_listed order (get_or order place d).0 ≡ true
 listed_at [] place d few = absurd (omega (arith, few))
 listed_at (entry ∷ order) zero d few = rw (same_itself entry.0) refl
 listed_at (entry ∷ order) (suc place) d few = at (same_account entry.0 (get_or order place d).0) (listed_at order place d (omega (arith, few))) where

@@ -92,7 +92,7 @@ one_more true deposit given sum item rest is more =
 one_more false deposit given sum item rest is more = let none : 0 + sum ≡ sum = omega arith in none ∙ more
 
 -- deposits that are all the same are as many times that as there are submissions
-deposits_counted : (deposit : ℕ) (who : AccountId) (items : List Submission) → All (λ item. item.deposit ≡ deposit) items
+pub deposits_counted : (deposit : ℕ) (who : AccountId) (items : List Submission) → All (λ item. item.deposit ≡ deposit) items
     → deposits_of who items ≡ deposit * waiting_of (map queue_row items) who
 deposits_counted deposit who [] all = sym (mul-zero deposit)
 deposits_counted deposit who (item ∷ items) all =

@@ -1,6 +1,7 @@
 -- Behind a decision nothing waits, and what was issued by then stays settled once.
-use Rattle.std.proofs.Common.{◌≡◌, ◌⊎◌, inl, inr, ℕ, ◌+◌, ◌≤◌, ◌<◌, ◌^◌, Bool, true, false, ◌==◌, nat_lt, List, [], ◌∷◌, ◌++◌, length, Option, Some, None, refl, sym, ◌∙◌, ap, subst, arith, if◌then◌else◌, true≢false, append_assoc}
-use Rattle.std.proofs.lemmas.Bool.Decides.{nat_tests}
+use Rattle.std.proofs.Common.{◌≡◌, ◌≢◌, ◌⊎◌, inl, inr, ℕ, suc, ◌+◌, ◌≤◌, ◌<◌, ◌^◌, Bool, true, false, cond, ◌==◌, nat_lt, List, [], ◌∷◌, ◌++◌, All, AllPairs, length, Option, Some, None, refl, sym, ◌∙◌, ap, subst, arith, if◌then◌else◌, true≢false, append_assoc}
+use Rattle.std.proofs.lemmas.Bool.Decides.{eqb_tells, nat_tests}
+use Rattle.std.proofs.lemmas.List.Elements.{All-head, All-tail}
 use Rattle.std.proofs.lemmas.List.{length-append}
 use Rattle.std.proofs.lemmas.List.Sums.{sum_by-append}
 use Rattle.block_wire.specs.declared.genesis.Params.{Params}
@@ -17,12 +18,13 @@ use Rattle.npos_runtime.specs.Genesis.{genesis_chain}
 use Rattle.npos_runtime.specs.Step.{step, after_blocks, told_by}
 use Rattle.npos_runtime.specs.Fates.{fate, waiting_with, issued}
 use Rattle.npos_runtime.specs.Live.{IsBetweenBlocks, IsInTime}
-use Rattle.npos_runtime.specs.History.{IsHistory}
-use Rattle.npos_runtime.specs.Deposits.{AreSettledBy, DepositsLaw}
+use Rattle.npos_runtime.specs.History.{CanTake, IsHistory}
+use Rattle.npos_runtime.specs.Deposits.{AreSettledBy, DepositsLaw, DepositsGoOnLaw}
 use Rattle.npos_runtime.proofs.OfficeCallLemmas.{settling}
 use Rattle.npos_runtime.proofs.BeginLemmas.{start_law}
 use Rattle.npos_runtime.proofs.LawLemmas.{held_after}
-use Rattle.npos_runtime.proofs.FateLemmas.{one_fate}
+use Rattle.npos_runtime.proofs.FateLemmas.{one_fate, settled_law}
+use Rattle.npos_runtime.proofs.FairLemmas.{waiting_more}
 use Rattle.npos_runtime.proofs.LiveLemmas.{due_step, params_step, params_blocks}
 use Rattle.npos_runtime.proofs.TimeLemmas.{between_step, between_blocks}
 
@@ -145,4 +147,52 @@ deposits_law genesis blocks history = record {
   held = λ who. held_after (genesis_chain genesis) blocks who (start_law genesis blocks history);
   fates = λ number from. one_fate number genesis blocks history from;
   decided = λ before more decision parts is. settled_by genesis before decision more (subst (IsHistory genesis) parts history) is;
+}
+
+-- ## From any chain on
+
+-- submissions with numbers apart, all given: each number waits once, if it was given, and no other does
+module _ (number next : ℕ) where
+  none_waits : (items : List Submission) → All (λ item. item.number ≢ number) items → waiting_with number items ≡ 0
+  none_waits [] others = refl
+  none_waits (item ∷ items) others =
+      let rest = none_waits items (All-tail (λ (other : Submission). other.number ≢ number) item items others) in
+      elim (eqb_tells item.number number) [
+        | inl same ↦ absurd (All-head (λ (other : Submission). other.number ≢ number) item items others same.1)
+        | inr other ↦ omega (arith, waiting_more number item items, ap {B = ℕ} (λ b. cond b 1 0) other.0, rest)
+      ]
+
+  waits_once : (items : List Submission) → All (λ item. item.number < next) items
+      → AllPairs (λ (first later : Submission). first.number ≢ later.number) items → waiting_with number items ≤ issued number next
+  waits_once [] given apart = omega arith
+  waits_once (item ∷ items) given apart =
+      let rest = waits_once items (All-tail (λ (other : Submission). other.number < next) item items given)
+      (λ i j d before below. apart (suc i) (suc j) d (omega (arith, before)) (omega (arith, below))) in
+      elim (eqb_tells item.number number) [
+        | inl same ↦ omega (
+          arith,
+          waiting_more number item items,
+          ap {B = ℕ} (λ b. cond b 1 0) same.0,
+          none_waits items (λ k d under is. apart 0 (suc k) d (omega arith) (omega (arith, under)) (same.1 ∙ sym is)),
+          issued_one number next (omega (arith, same.1, All-head (λ (other : Submission). other.number < next) item items given)),
+        )
+        | inr other ↦ omega (arith, waiting_more number item items, ap {B = ℕ} (λ b. cond b 1 0) other.0, rest)
+      ]
+
+emptied_behind : (chain : Chain) (before more : List Block) (decision : Block) → CanTake chain (before ++ decision ∷ more)
+    → is_decision chain.params (after_blocks chain before).due ≡ true → (after_blocks chain (before ++ decision ∷ [])).queue.items ≡ []
+emptied_behind chain before more decision can decides =
+    let fits = can.fit in
+    let count = length-append before (decision ∷ more) in
+    ap (λ (c : Chain). c.queue.items) (after_append chain before (decision ∷ []))
+    ∙ emptied (after_blocks chain before) decision (between_blocks chain before can.between (omega (arith, count, fits)))
+    (omega (arith, due_blocks chain before, count, fits))
+    (ap (λ (params : Option Params). is_decision params (after_blocks chain before).due) (params_blocks chain before) ∙ decides)
+
+pub deposits_go_on : DepositsGoOnLaw
+deposits_go_on chain blocks can sound = record {
+  held = λ who. held_after chain blocks who can;
+  waited = λ number. waits_once number chain.next chain.queue.items (λ k d below. (sound.accepted k d below).given) sound.apart;
+  fates = λ number. settled_law chain blocks number can;
+  emptied = λ before more decision parts decides. emptied_behind chain before more decision (subst (CanTake chain) parts can) decides;
 }

@@ -49,7 +49,7 @@ kind_back : (kind : RoleKind) → kind_in (Some (standing_in kind)) ≡ kind
 kind_back (kinds.Nominator targets) = refl
 kind_back (kinds.Validator commission) = refl
 
-other_account : (one other : AccountId) → same_account one other ≡ false → one ≢ other
+pub other_account : (one other : AccountId) → same_account one other ≡ false → one ≢ other
 other_account one other apart same =
     true≢false (sym (same_itself one) ∙ (ap (λ (who : AccountId). same_account one who) same ∙ apart))
 
@@ -256,7 +256,7 @@ pairs_again : (pairs : List (AccountId × ℕ)) → zip (map (λ (p : AccountId 
 pairs_again [] = refl
 pairs_again (pair ∷ pairs) = ap (λ (more : List (AccountId × ℕ)). pair ∷ more) (pairs_again pairs)
 
-pairs_count : (pairs : List (AccountId × ℕ)) → length (map (λ (p : AccountId × ℕ). p.1) pairs) ≡ length (map (λ (p : AccountId × ℕ). p.0) pairs)
+pub pairs_count : (pairs : List (AccountId × ℕ)) → length (map (λ (p : AccountId × ℕ). p.1) pairs) ≡ length (map (λ (p : AccountId × ℕ). p.0) pairs)
 pairs_count [] = refl
 pairs_count (pair ∷ pairs) = ap suc (pairs_count pairs)
 

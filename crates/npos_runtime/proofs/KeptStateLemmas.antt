@@ -121,10 +121,8 @@ all_both P (x ∷ xs) ys first second = (first.0, all_both P xs ys first.1 secon
 
 member_back : (entry : AccountId × Member) → IsTrueMember entry → member_entry (member_row entry) ≡ entry
 member_back entry true_is = λ i. (
-  entry.0,
-  record entry.1 {
-    exposure = record entry.1.exposure { validator = sym true_is.own i; support = sym true_is.support i };
-  },
+  true_is.own i,
+  record entry.1 { exposure = record entry.1.exposure { support = sym true_is.support i } },
 )
 
 -- rows are of the era of this number and of those before it

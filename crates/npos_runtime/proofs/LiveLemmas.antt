@@ -11,9 +11,7 @@ use Rattle.stake_ledger.specs.Ledger.{row_at}
 use Rattle.era_book.specs.declared.deferred.DeferredSlash.{DeferredSlash}
 use Rattle.era_book.specs.Deferred.{next_due}
 use Rattle.era_book.specs.Exposures.{AreSound as AreSoundExposures}
-use Rattle.era_book.specs.Course.{AreInOrder}
 use Rattle.era_book.specs.Events.{Started, Taken}
-use Rattle.era_book.proofs.LawLemmas.{in_order_law}
 use Rattle.era_book.specs.Eras.{Eras}
 use Rattle.block_receipts.specs.declared.refusal.Refusal.{Refusal}
 use Rattle.chain_params.specs.Rules.{era_of, begun_era}
@@ -30,7 +28,8 @@ use Rattle.npos_runtime.specs.Exposed.{exposed}
 use Rattle.npos_runtime.specs.Offices.{apply_slash, applied}
 use Rattle.npos_runtime.specs.Outcome.{Outcome}
 use Rattle.npos_runtime.specs.Step.{eras_after, waiting_after, applied_in, era_phase, phases, before_calls, call_after, call_outcome, calls_outcome, closed, step, after_blocks}
-use Rattle.npos_runtime.specs.Live.{IsLive, CanDefer}
+use Rattle.npos_runtime.specs.Live.{IsLive, AreInCourse, CanDefer}
+use Rattle.npos_runtime.proofs.CourseLemmas.{course_after}
 use Rattle.npos_runtime.proofs.EraLemmas.{era_begun}
 use Rattle.npos_runtime.proofs.RuleLemmas.{KeepsLive, IsFixed, fixed_itself, fixed_then, IsLawful, IsLater, line_same, rule_can}
 use Rattle.npos_runtime.proofs.OfficeCallLemmas.{applied_keeps, eras_applied}
@@ -72,7 +71,7 @@ more_quotient : (a b k : ℕ) → a ≤ b → a / k ≤ b / k
 more_quotient a b zero more = omega (arith, div-zero a, div-zero b)
 more_quotient a b (suc k) more = le-div (a / suc k) b (suc k) (omega arith) (omega (arith, div-mul-le_self a (suc k), more))
 
-later_release : (params : Option Params) (due : ℕ) → era_of params due ≤ era_of params (due + 1)
+pub later_release : (params : Option Params) (due : ℕ) → era_of params due ≤ era_of params (due + 1)
 later_release None due = omega arith
 later_release (Some params) due = more_quotient (due - 1) (due + 1 - 1) params.era_blocks (omega arith)
 
@@ -188,7 +187,7 @@ twice zero k two = omega arith
 twice (suc q) k two = omega (arith, twice q k two, two)
 
 -- the number of an era is far below those of blocks
-era_small : (params : Option Params) (number : ℕ) → AreSound params → number ≤ 2 ^ 32 → era_of params number < 2 ^ 31
+pub era_small : (params : Option Params) (number : ℕ) → AreSound params → number ≤ 2 ^ 32 → era_of params number < 2 ^ 31
 era_small None number sound most = omega arith
 era_small (Some params) number sound most =
     let within = phases_sound params sound in
@@ -208,27 +207,27 @@ later_started (Some era) chain later =
     (All-weaker (λ (slash : DeferredSlash). slash.due ≤ chain.eras.current + chain.defer) (λ slash. slash.due ≤ eras.current + chain.defer)
     (λ slash below. omega (arith, below)) chain.eras.queue later)
 
-order_takings : (count : ℕ) (chain : Chain) → AreInOrder chain.eras → AreInOrder (applied count chain).state.eras
+order_takings : (count : ℕ) (chain : Chain) → AreInCourse chain.eras → AreInCourse (applied count chain).state.eras
 order_takings zero chain order = order
 order_takings (suc more) chain order =
     let next : Chain = (apply_slash (next_due chain.eras) chain).state in
     order_takings more next
-    (subst AreInOrder (sym (eras_applied (next_due chain.eras) chain refl)) (in_order_law.1 Taken chain.eras tt order))
+    (subst AreInCourse (sym (eras_applied (next_due chain.eras) chain refl)) (course_after Taken chain.eras tt order))
 
-order_started : (begun : Option ℕ) (chain : Chain) → AreSoundExposures (exposed chain.waiting) → AreInOrder chain.eras
-    → AreInOrder (applied_in begun (record chain {
+order_started : (begun : Option ℕ) (chain : Chain) → AreSoundExposures (exposed chain.waiting) → AreInCourse chain.eras
+    → AreInCourse (applied_in begun (record chain {
       waiting = waiting_after chain.waiting begun;
       eras = eras_after chain.eras chain.waiting begun;
     })).state.eras
 order_started None chain sound order = order
 order_started (Some era) chain sound order =
     order_takings (length chain.eras.queue) (record chain { waiting = None; eras = eras_after chain.eras chain.waiting (Some era) })
-    (in_order_law.1 (Started (exposed chain.waiting)) chain.eras sound order)
+    (course_after (Started (exposed chain.waiting)) chain.eras sound order)
 
 can_begun : (chain : Chain) → IsLive chain → chain.eras.current ≡ era_of chain.params (chain.due - 1) → AreSoundExposures (exposed chain.waiting)
     → CanDefer chain → CanDefer (era_phase chain).state
 can_begun chain live is sound can = record {
-  order = subst (λ (c : Chain). AreInOrder c.eras) (sym (era_state chain)) (order_started (begun_era chain.params chain.due) chain sound can.order);
+  order = subst (λ (c : Chain). AreInCourse c.eras) (sym (era_state chain)) (order_started (begun_era chain.params chain.due) chain sound can.order);
   later = later_started (begun_era chain.params chain.due) chain can.later;
   fits = omega (
     arith,
@@ -240,7 +239,7 @@ can_begun chain live is sound can = record {
 
 can_same : (old new : Chain) → new.eras ≡ old.eras → new.defer ≡ old.defer → CanDefer old → CanDefer new
 can_same old new same defer can = record {
-  order = subst AreInOrder (sym same) can.order;
+  order = subst AreInCourse (sym same) can.order;
   later = (line_same {old = old} {new = new} same defer).later can.later;
   fits = omega (arith, can.fits, defer, ap (λ (eras : Eras). eras.current) same);
 }

@@ -54,7 +54,7 @@ module _ (P : AccountId × Member → Type 0) where
             (All-tail P row rows all)
         at Greater is rest = All-cons P row (with_exposure rows exposure) (All-head P row rows all) rest
 
-  all_entered : (members : Members) (exposures : List Exposure) → All (λ exposure. P (entry_of exposure)) exposures → All P members
+  pub all_entered : (members : Members) (exposures : List Exposure) → All (λ exposure. P (entry_of exposure)) exposures → All P members
       → All P (fold with_exposure members exposures)
   all_entered members [] fine all = all
   all_entered members (exposure ∷ more) fine all =
@@ -101,7 +101,7 @@ module _ (targets voters : List AccountId) (target : ℕ) where
             (holds edge (All-head (λ (e : Edge). e.voter < length voters) edge more within) is) all
         at false is all = all
 
-  all_backers : (Q : Backer → Type 0) (edges : List Edge)
+  pub all_backers : (Q : Backer → Type 0) (edges : List Edge)
       → ((edge : Edge) → edge.voter < length voters → gives_to target edge ≡ true → Q (backer_of voters edge))
       → All (λ edge. edge.voter < length voters) edges → All Q (backers_of targets voters edges target)
   all_backers Q edges holds within =
@@ -166,12 +166,12 @@ given_most target edges = omega (arith, filter_sum (λ (edge : Edge). edge.amoun
 
 module _ (book : Ledger) (committee : Committee) (sound : IsWellFormed committee.snapshot) (feasible : IsFeasible committee.snapshot committee.weights)
     (noted : AreNoted committee.snapshot.targets committee.commissions) (poll : IsSoundPoll book committee.snapshot) where
-  ordered : IsElected committee.snapshot.targets (voters_in committee) committee.commissions (supports_in committee) (edges_in committee) committee.weights.committee
+  pub ordered : IsElected committee.snapshot.targets (voters_in committee) committee.commissions (supports_in committee) (edges_in committee) committee.weights.committee
   ordered =
       (order_law committee.snapshot.targets (voters_in committee) committee.commissions (supports_in committee) committee.weights.edges committee.weights.committee
       (elected committee sound feasible noted)).0
 
-  within : All (λ edge. edge.voter < length (voters_in committee)) (edges_in committee)
+  pub within : All (λ edge. edge.voter < length (voters_in committee)) (edges_in committee)
   within = voters_within committee.snapshot.targets (voters_in committee) (edges_in committee) ordered.edges_within
 
   all_fit : (target : ℕ) → amount_sum (backers_of committee.snapshot.targets (voters_in committee) (edges_in committee) target) < 2 ^ 64

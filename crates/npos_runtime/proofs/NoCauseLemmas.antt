@@ -14,7 +14,7 @@ use Rattle.npos_runtime.proofs.CausePollLemmas.{sound_round, sound_waiting}
 use Rattle.npos_runtime.proofs.CauseSlashLemmas.{sound_next_slash, sound_slashes}
 
 -- the state is sound but for its slashes
-sound_kept : (chain : Chain) → IsReady chain → IsTold chain → IsSound chain → state.IsSound (kept chain)
+pub sound_kept : (chain : Chain) → IsReady chain → IsTold chain → IsSound chain → state.IsSound (kept chain)
 sound_kept chain ready told sound = record {
   book = sound_book chain ready told sound;
   releases = sound_releases chain ready told sound;
@@ -28,7 +28,7 @@ sound_kept chain ready told sound = record {
 }
 
 -- and so are these
-slashes_kept : (chain : Chain) → IsReady chain → IsTold chain → IsSound chain → state.HasSoundSlashes (kept chain)
+pub slashes_kept : (chain : Chain) → IsReady chain → IsTold chain → IsSound chain → state.HasSoundSlashes (kept chain)
 slashes_kept chain ready told sound = record {
   next_slash = sound_next_slash chain ready told sound;
   slashes = sound_slashes chain ready told sound;

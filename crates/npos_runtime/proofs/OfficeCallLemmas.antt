@@ -290,7 +290,7 @@ told_slashes who (due ∷ more) chain =
       sum_by-cons (λ (l : Backer). cond (same_account l.who who) l.amount 0) due more,
     )
 
-root_free : (root : Bool) (due : Option Refusal) → (if not root then Some NotRoot else due) ≡ None → due ≡ None
+pub root_free : (root : Bool) (due : Option Refusal) → (if not root then Some NotRoot else due) ≡ None → due ≡ None
 root_free true due e = e
 root_free false due e = absurd (cc)
 

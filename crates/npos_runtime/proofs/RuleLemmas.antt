@@ -5,8 +5,6 @@ use Rattle.npos_base.specs.declared.account.AccountId.{AccountId}
 use Rattle.npos_base.specs.declared.figures.Score.{Score}
 use Rattle.submission_queue.specs.declared.submission.Submission.{Submission}
 use Rattle.era_book.specs.Eras.{Eras}
-use Rattle.era_book.specs.Course.{AreInOrder}
-use Rattle.era_book.proofs.LawLemmas.{in_order_law}
 use Rattle.era_book.specs.Events.{Event, after, AreAccepted, after_all, given_by, pays, makes_due, begun}
 use Rattle.npos_runtime.specs.declared.chain.Chain.{Chain}
 use Rattle.block_receipts.specs.declared.line.Line.{Line}
@@ -15,11 +13,12 @@ use Rattle.block_receipts.specs.declared.refusal.Refusal.{Refusal}
 use Rattle.chain_params.specs.Rules.{era_reward_of}
 use Rattle.npos_runtime.specs.CallRule.{CallRule, plain}
 use Rattle.npos_runtime.specs.Signed.{submit_rule}
-use Rattle.npos_runtime.specs.Live.{IsLive, CanDefer}
+use Rattle.npos_runtime.specs.Live.{IsLive, AreInCourse, CanDefer}
 use Rattle.npos_runtime.specs.Fates.{fate}
 use Rattle.npos_runtime.specs.EraLaws.{paid_for, taken_for}
 use Rattle.npos_runtime.specs.DeferredLaws.{waiting_for, waiting_due}
 use Rattle.std.proofs.lemmas.List.Elements.{All-nil}
+use Rattle.npos_runtime.proofs.CourseLemmas.{course_after}
 
 abbrev pub KeepsLive : Chain → CallRule → Type 0
 KeepsLive chain rule = IsLive chain → rule.refusal ≡ None → IsLive rule.done
@@ -88,9 +87,9 @@ line_same {old = old} {new = new} same defer = record {
 }
 
 -- events that are accepted leave the eras in order
-pub order_all : (events : List Event) (eras : Eras) → AreAccepted events eras → AreInOrder eras → AreInOrder (after_all events eras)
+pub order_all : (events : List Event) (eras : Eras) → AreAccepted events eras → AreInCourse eras → AreInCourse (after_all events eras)
 order_all [] eras ok order = order
-order_all (event ∷ more) eras ok order = order_all more (after event eras) ok.1 (in_order_law.1 event eras ok.0 order)
+order_all (event ∷ more) eras ok order = order_all more (after event eras) ok.1 (course_after event eras ok.0 order)
 
 -- For each era: what a call takes, and what waits then, is at most what it makes due, and what waited.
 pub record KeepsDues (chain : Chain) (rule : CallRule) : Type 0 where
@@ -126,7 +125,7 @@ no_events same = record {
 -- a call that is not refused leaves what waits in order
 pub rule_can : (chain : Chain) (who : AccountId) (rule : CallRule) → IsLawful chain who rule → rule.refusal ≡ None → CanDefer chain → CanDefer rule.done
 rule_can chain who rule is free can = record {
-  order = subst AreInOrder is.eras.eras (order_all rule.events chain.eras (is.eras.accepted can free) can.order);
+  order = subst AreInCourse is.eras.eras (order_all rule.events chain.eras (is.eras.accepted can free) can.order);
   later = is.line.later can.later;
   fits = omega (arith, can.fits, is.fixed.era, is.fixed.defer);
 }

@@ -43,7 +43,7 @@ keeps_sound books roles eras round submissions waiting slashes chain block can =
 }
 
 -- the counts of a sound chain are those that its blocks could make
-ready_sound : (chain : Chain) → IsBetweenBlocks chain → IsSound chain → IsReady chain
+pub ready_sound : (chain : Chain) → IsBetweenBlocks chain → IsSound chain → IsReady chain
 ready_sound chain between sound = record {
   between = between;
   numbered = omega (arith, sound.queue.few);

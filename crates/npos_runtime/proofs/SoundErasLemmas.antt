@@ -118,7 +118,7 @@ module _ (old new : Ledger) (stay : StayKnown old new) where
 -- ## One member changes
 
 -- what holds of each entry still does when the value of one changes, and keeps it
-set_each : (P : AccountId × Member → Type 0) (test : AccountId → Bool) (change : Member → Member)
+pub set_each : (P : AccountId × Member → Type 0) (test : AccountId → Bool) (change : Member → Member)
     → ((entry : AccountId × Member) → P entry → P (entry.0, change entry.1))
     → (members : Members) (member : Member) → lookup test members ≡ Some member → All P members → All P (set_value test members (change member))
 set_each P test change keeps [] member is all = absurd (cc)
@@ -247,7 +247,7 @@ given_lines (first ∷ more) = at (nat_lt 0 first.amount) refl (given_lines more
       All-cons (λ (line : Backer). 0 < line.amount) first (filter (λ line. nat_lt 0 line.amount) more) (grind (arith, nat_tests)) rest
   at false is rest = rest
 
-known_backers : (book : Ledger) (backers : List Backer) → AreKnown book (map (λ backer. backer.who) backers)
+pub known_backers : (book : Ledger) (backers : List Backer) → AreKnown book (map (λ backer. backer.who) backers)
     → All (λ backer. is_some (row_of book backer.who) ≡ true) backers
 known_backers book [] known = All-nil (λ (backer : Backer). is_some (row_of book backer.who) ≡ true)
 known_backers book (first ∷ more) known =

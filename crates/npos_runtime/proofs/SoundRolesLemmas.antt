@@ -120,7 +120,7 @@ StayBonded old new = (who : AccountId) → is_bonded (row_at old who) ≡ true �
 is_above : (row : Row) → 0 < row.active + chunk_sum row.chunks → is_bonded row ≡ true
 is_above row above = grind (arith, nat_tests, above)
 
-above_is : (row : Row) → is_bonded row ≡ true → 0 < row.active + chunk_sum row.chunks
+pub above_is : (row : Row) → is_bonded row ≡ true → 0 < row.active + chunk_sum row.chunks
 above_is row bonded = grind (arith, nat_tests, bonded)
 
 -- one row may change, and stays bonded where it was

@@ -7,8 +7,7 @@ use Rattle.npos_base.specs.declared.limits.TheConstants.{MOST_PAST_ERAS}
 use Rattle.npos_base.specs.Account.{same_account}
 use Rattle.block_wire.specs.declared.bundle.BundleVoter.{BundleVoter}
 use Rattle.block_wire.specs.declared.genesis.Params.{Params}
-use Rattle.stake_ledger.specs.declared.book_row.BookRow.{BookRow}
-use Rattle.stake_ledger.specs.declared.row.Row.{Row}
+pub use Rattle.stake_ledger.specs.BookRows.{entry_of as book_entry}
 use Rattle.voter_lists.specs.declared.standing.Standing.{Standing}
 use Rattle.voter_lists.specs.declared.standing.Standing.TheVariants as standing
 use Rattle.voter_lists.specs.Roles.{RoleList, with_standing}
@@ -33,10 +32,6 @@ use Rattle.npos_runtime.specs.declared.round.Round.TheVariants as rounds
 use Rattle.npos_runtime.specs.Committee.{Committee}
 
 -- ## What the rows stand for
-
-abbrev pub book_entry : BookRow → AccountId × Row
-book_entry row =
-    (row.who, record { free = row.free; active = row.active; chunks = row.chunks; held = row.held })
 
 abbrev pub standing_in : RoleKind → Standing
 standing_in (kinds.Nominator targets) = standing.Nominator targets

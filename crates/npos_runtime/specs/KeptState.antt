@@ -9,8 +9,7 @@ use Rattle.npos_base.specs.declared.limits.TheConstants.{MOST_PAST_ERAS}
 use Rattle.npos_base.specs.Account.{account_cmp}
 use Rattle.block_wire.specs.declared.bundle.BundleVoter.{BundleVoter}
 use Rattle.block_wire.specs.declared.genesis.Params.{Params}
-use Rattle.stake_ledger.specs.declared.book_row.BookRow.{BookRow}
-use Rattle.stake_ledger.specs.declared.row.Row.{Row}
+pub use Rattle.stake_ledger.specs.BookRows.{book_row}
 use Rattle.voter_lists.specs.declared.standing.Standing.{Standing}
 use Rattle.voter_lists.specs.declared.standing.Standing.TheVariants as standing
 use Rattle.voter_lists.specs.Roles.{RoleList, standing_of}
@@ -37,15 +36,6 @@ use Rattle.npos_runtime.specs.Kept.{as_kept}
 
 -- ## The rows
 
-abbrev pub book_row : AccountId × Row → BookRow
-book_row entry = record {
-  who = entry.0;
-  free = entry.1.free;
-  active = entry.1.active;
-  chunks = entry.1.chunks;
-  held = entry.1.held;
-}
-
 -- who stands in the bags has a role
 abbrev pub kind_in : Option Standing → RoleKind
 kind_in None = kinds.Nominator []
@@ -58,7 +48,7 @@ role_row roles entry =
 
 abbrev pub member_row : AccountId × Member → MemberRow
 member_row entry = record {
-  who = entry.0;
+  who = entry.1.exposure.validator;
   commission = entry.1.exposure.commission;
   backers = entry.1.exposure.backers;
   points = entry.1.points;

@@ -27,6 +27,9 @@ pub mod KeptChain
 pub mod Sound
 pub mod SoundLaws
 pub mod KeptLaws
+pub mod Restoring
+pub mod Savable
 pub mod Laws
 pub mod EraLaws
 pub mod DeferredLaws
+pub mod Remade

@@ -1,5 +1,6 @@
 -- What holds of a chain, besides what its parts keep.
 use Rattle.std.specs.Prelude.{◌≡◌, ℕ, ◌+◌, ◌-◌, ◌*◌, ◌^◌, ◌≤◌, ◌<◌, false, All, List, [], count_by, length, Option, Some, None}
+use Rattle.std.specs.Map.{values_of}
 use Rattle.npos_base.specs.declared.account.AccountId.{AccountId}
 use Rattle.npos_base.specs.declared.limits.TheConstants.{MOST_NOMINATIONS, WHOLE_FRACTION}
 use Rattle.stake_ledger.specs.Ledger.{Ledger, row_at, IsBalanced}
@@ -18,7 +19,9 @@ use Rattle.election_snapshot.specs.Snapshot.{IsWellFormed, stake_of}
 use Rattle.weight_book.specs.Weights.{Follows, spent}
 use Rattle.submission_queue.specs.declared.submission.Submission.{Submission}
 use Rattle.submission_queue.specs.Ranking.{IsOrdered}
-use Rattle.era_book.specs.Course.{AreInOrder}
+use Rattle.era_book.specs.Deferred.{AreQueued}
+use Rattle.era_book.specs.Eras.{Eras, AreKept}
+use Rattle.era_book.specs.Members.{Members}
 use Rattle.npos_runtime.specs.declared.round.Round.{Round}
 use Rattle.npos_runtime.specs.declared.round.Round.TheVariants.{Open}
 use Rattle.round_decision.specs.Deposits.{AreHeld}
@@ -121,10 +124,22 @@ abbrev pub WasElected : Option Committee → Type 0
 WasElected None = Unit {0}
 WasElected (Some committee) = IsElected committee
 
--- The eras are in order, and a slash that is reported now is due no earlier than those that wait, in an
+-- each kept fraction is at most the whole
+abbrev pub HaveFractions : Members → Type 0
+HaveFractions members = All (λ member. member.fraction ≤ WHOLE_FRACTION) (values_of members)
+
+-- What holds of the eras of a chain: the members of those that are kept are sound, and slashes wait in line.
+-- Nothing is said of who has claimed: a state in which a member of the current era has is taken too, though
+-- no history from a genesis leads there.
+pub record AreInCourse (eras : Eras) : Type 0 where
+  pub kept : AreKept eras
+  pub fractions : All HaveFractions eras.kept
+  pub queued : AreQueued eras
+
+-- The eras are in course, and a slash that is reported now is due no earlier than those that wait, in an
 -- era whose number is a u32.
 pub record CanDefer (chain : Chain) : Type 0 where
-  pub order : AreInOrder chain.eras
+  pub order : AreInCourse chain.eras
   pub later : All (λ slash. slash.due ≤ chain.eras.current + chain.defer) chain.eras.queue
   pub fits : chain.eras.current + chain.defer < 2 ^ 32
 

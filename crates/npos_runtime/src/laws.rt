@@ -5,13 +5,14 @@ ghost use Rattle.block_wire.specs.declared.block.Block.{Block as ABlock};
 ghost use Rattle.stake_ledger.specs.Ledger.{IsBalanced};
 ghost use Rattle.npos_runtime.specs.Step.{after_blocks};
 ghost use Rattle.npos_runtime.specs.History.{StartLaw};
-ghost use Rattle.npos_runtime.specs.Deposits.{DepositsLaw};
+ghost use Rattle.npos_runtime.specs.Deposits.{DepositsLaw, DepositsGoOnLaw};
 ghost use Rattle.npos_runtime.specs.Seatings.{SeatingsLaw};
 ghost use Rattle.npos_runtime.specs.Laws.{SoundStepLaw, SeatedSoundLaw, SeatsLaw, HeldLaw, SettledLaw, FateLaw, NoneCrowdedOutLaw};
 ghost use Rattle.npos_runtime.specs.EraLaws.{HistoryLaw, PaidWithinRewardLaw, PaidAsToldLaw, SlashLaw, TakenLaw, OnceLaw, DueWithinStakeLaw};
 ghost use Rattle.npos_runtime.specs.DeferredLaws.{QueuedLaw, AppliedLaw, TakenInAllLaw};
 ghost use Rattle.npos_runtime.specs.KeptLaws.{AlikeStepLaw, AlikeLaw, SameKeptLaw, ToldLaw, ResumeLaw, RestoreLaw, CheckpointLaw};
 ghost use Rattle.npos_runtime.specs.SoundLaws.{BooksStaySound, RolesStaySound, ErasStaySound, RoundStaysSound, SubmissionsStaySound, WaitingStaysSound, SlashesStaySound, StartsSound, KeepsSoundLaw, StaysSoundLaw, NoCauseLaw};
+ghost use Rattle.npos_runtime.specs.Savable.{SavableStartLaw, SavableStepLaw, SavedLaw, RestoredLaw};
 
 use crate::Runtime;
 use election_check::laws::{a_packed_yes_is_a_plain_yes, a_plain_yes_is_passing};
@@ -74,6 +75,12 @@ pub fn each_deposit_has_one_fate()
 /// once, and by the time a round is decided each is settled for good.
 pub fn deposits_are_settled()
     ensures { DepositsLaw }
+{}
+
+/// The same from any chain on, though nothing is known of what was settled before: what is held is the
+/// deposits of what waits, and each submission that waits or is accepted is settled once.
+pub fn deposits_go_on()
+    ensures { DepositsGoOnLaw }
 {}
 
 /// Nothing valid is crowded out for free. A submission is offered to a round where its call is
@@ -193,4 +200,24 @@ pub fn sound_chains_stay_sound()
 /// No cause stands against the state that a sound chain keeps.
 pub fn no_cause_stands_against_a_sound_chain()
     ensures { NoCauseLaw }
+{}
+
+/// Between two blocks a chain is sound, and the state that it keeps tells all of it and fits its
+/// layout: from the genesis on, and after each block.
+pub fn chains_can_be_saved()
+    ensures start { SavableStartLaw }
+    ensures step { SavableStepLaw }
+{
+    sound_chains_stay_sound();
+}
+
+/// The state of a chain that can be saved has no fault.
+pub fn a_saved_state_has_no_fault()
+    ensures { SavedLaw }
+{}
+
+/// Where a state has no fault, a chain goes on from it that can be saved, and keeps this very
+/// state.
+pub fn a_state_without_a_fault_is_kept()
+    ensures { RestoredLaw }
 {}

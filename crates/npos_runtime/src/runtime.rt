@@ -3,6 +3,11 @@ ghost use Rattle.std.specs.Prelude.{◌≡◌, ◌≢◌, ◌<◌, ◌≤◌, �
 ghost use Rattle.npos_base.specs.declared.limits.TheConstants.{MOST_ENDOWMENTS, MOST_THRESHOLDS};
 ghost use Rattle.stake_ledger.specs.Ledger.{IsBalanced, totals_of};
 ghost use Rattle.npos_runtime.specs.Genesis.{IsFault, endowments_of, genesis_chain, genesis_fault, thresholds_of};
+ghost use Rattle.npos_runtime.specs.declared.state_fault.SaveFault.TheVariants as save_faults;
+ghost use Rattle.npos_runtime.specs.KeptChain.{chain_of};
+ghost use Rattle.npos_runtime.specs.KeptState.{kept};
+ghost use Rattle.npos_runtime.specs.Restoring.{state_fault, IsDueFault};
+ghost use Rattle.state_checkpoint.specs.Layout.{state_form};
 ghost use Rattle.std.specs.Option.{option_copied};
 ghost use Rattle.npos_runtime.specs.Life.{AppliesWell, HasFault};
 ghost use Rattle.npos_runtime.specs.Committee.{IsSeated};
@@ -10,9 +15,11 @@ ghost use Rattle.npos_runtime.specs.Live.{IsReady, IsJoined};
 ghost use Rattle.npos_runtime.specs.declared.runtime.BlockFault.TheVariants as faults;
 ghost use Rattle.npos_runtime.specs.declared.runtime.BlockFault.TheVariants.{NoMemory as NoMemoryFault};
 
-use crate::Chain;
 use crate::begin::begin;
+use crate::restoring::chain_of;
+use crate::saving::state_of;
 use crate::step::take_block;
+use crate::{Chain, SaveFault, StateFault};
 use block_receipts::Line;
 use block_wire::{Block, Genesis};
 use chain_params::GenesisFault;
@@ -20,6 +27,7 @@ use election_check::Elected;
 use era_book::EraBook;
 use npos_base::{List, NoMemory};
 use stake_ledger::{Book, Totals};
+use state_rules::State;
 use std::alloc::Global;
 use std::marker::Model;
 use submission_queue::Queue;
@@ -132,6 +140,48 @@ impl Runtime {
         self.told = lines.len();
         Ok(Receipt {
             lines: List::from_vec(lines),
+        })
+    }
+
+    /// The state that the chain keeps: nothing that a later block tells depends on more.
+    ///
+    /// # Errors
+    ///
+    /// `Spent` exactly where an earlier block wanted memory.
+    pub fn save(&self, alloc: Global) -> Result<State, SaveFault>
+        ensures ok { IfOk result (λ state. (self.now.spent ≡ false)
+            × (state ≡ kept self.now.state)) }
+        ensures fault { IfErr result (λ fault. fault ≡ save_faults.Spent → self.now.spent ≡ true) }
+        ensures spent { self.now.spent ≡ true → result ≡ Err save_faults.Spent }
+    {
+        if self.spent {
+            return Err(SaveFault::Spent);
+        }
+        let state = state_of(alloc, &self.chain)?;
+        Ok(state)
+    }
+
+    /// The chain that goes on from a state, whose numbers and lists fit the layout in which it is
+    /// written: a chain that keeps this very state.
+    ///
+    /// # Errors
+    ///
+    /// The first fault that the state has: the number of the next block, the params, the causes of
+    /// `state_rules` but those of slashes, the committee that waits where the verdict on it is not
+    /// Yes, and the slashes. `NoMemory` may come at any time.
+    #[tactic(auto, using(crate::proofs::RestoredLemmas::restored_ready))]
+    pub fn restore(alloc: Global, state: State) -> Result<Runtime, StateFault>
+        requires { state_form.in_range state }
+        ensures ok { IfOk result (λ runtime. (state_fault state ≡ None)
+            × (runtime ≡ record { state = chain_of state; spent = false })) }
+        ensures refused { IfErr result (IsDueFault (state_fault state)) }
+    {
+        let chain = chain_of(alloc, state)?;
+        Ok(Runtime {
+            alloc,
+            chain,
+            told: 0,
+            spent: false,
         })
     }
 

@@ -15,6 +15,8 @@ mod refusals;
 #[cfg(test)]
 mod replays;
 #[cfg(test)]
+mod resumes;
+#[cfg(test)]
 mod rewriting;
 #[cfg(test)]
 mod runtimes;

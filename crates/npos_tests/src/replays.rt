@@ -297,7 +297,7 @@ fn words_without_a_form_owe_the_usage_line(rt: HostRuntime) -> Result<(), Fail> 
             &rt,
             &ran,
             2,
-            "usage: npos replay|check|mine|pack|show|demo\n",
+            "usage: npos replay|check|mine|pack|show|demo|checkpoint|resume|pools\n",
         );
         assert_eq!(rt; ran.left, 69);
     }

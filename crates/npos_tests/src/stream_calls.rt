@@ -229,8 +229,7 @@ pub fn put_blocks(pen: &mut Pen, blocks: &[&[Call]]) -> Result<(), NoMemory> {
     pen.put_u8(0)
 }
 
-pub fn stream_of(alloc: Global, stream: &Stream) -> Result<List<u8>, NoMemory> {
-    let mut pen = Pen::new(alloc);
+pub fn put_stream_genesis(pen: &mut Pen, stream: &Stream) -> Result<(), NoMemory> {
     let numbers = [
         2,
         6,
@@ -247,7 +246,12 @@ pub fn stream_of(alloc: Global, stream: &Stream) -> Result<List<u8>, NoMemory> {
         5,
         1000,
     ];
-    put_genesis(&mut pen, 5, stream.endowment, 9, &numbers)?;
+    put_genesis(pen, 5, stream.endowment, 9, &numbers)
+}
+
+pub fn stream_of(alloc: Global, stream: &Stream) -> Result<List<u8>, NoMemory> {
+    let mut pen = Pen::new(alloc);
+    put_stream_genesis(&mut pen, stream)?;
     put_blocks(&mut pen, stream.blocks)?;
     Ok(pen.finish())
 }

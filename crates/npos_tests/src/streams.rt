@@ -11,9 +11,14 @@ use std::test::Fail;
 
 /// What a replay of these bytes writes, and its status.
 pub fn replay(alloc: Global, bytes: List<u8>) -> Result<(Vec<u8>, u8), NoMemory> {
+    run_verb(alloc, "replay", bytes)
+}
+
+/// What a verb that has no options writes of these bytes, and its status.
+pub fn run_verb(alloc: Global, verb: &str, bytes: List<u8>) -> Result<(Vec<u8>, u8), NoMemory> {
     let mut words = Vec::new(alloc);
     words.push(String::from_str(alloc, "npos")?)?;
-    words.push(String::from_str(alloc, "replay")?)?;
+    words.push(String::from_str(alloc, verb)?)?;
     let mut source = MemorySource::new(bytes, 64, List::new(alloc));
     let mut sink = MemorySink::new(alloc, 64, List::new(alloc));
     sink.reserve(16_384)?;

@@ -112,7 +112,7 @@ asked_keeps (verb ∷ more) word words keeps = go (bytes_eq word verb.name) (ask
   go false others = others
 
 by_kept : (word : Text) (words : List Text) → KeepsBounds (command_by word words)
-by_kept word words = asked_keeps verbs word words ((λ w. alone_kept commands.Replay tt (options_of [] w)), ((λ w. alone_kept commands.Check tt (options_of [] w)), ((λ w. read_kept mine_of mine_kept (options_of mine_names w)), ((λ w. alone_kept commands.Pack tt (options_of [] w)), ((λ w. alone_kept commands.Show tt (options_of [] w)), ((λ w. read_kept demo_of demo_kept (options_of demo_names w)), ((λ w. alone_kept commands.Pools tt (options_of [] w)), tt)))))))
+by_kept word words = asked_keeps verbs word words ((λ w. alone_kept commands.Replay tt (options_of [] w)), ((λ w. alone_kept commands.Check tt (options_of [] w)), ((λ w. read_kept mine_of mine_kept (options_of mine_names w)), ((λ w. alone_kept commands.Pack tt (options_of [] w)), ((λ w. alone_kept commands.Show tt (options_of [] w)), ((λ w. read_kept demo_of demo_kept (options_of demo_names w)), ((λ w. alone_kept commands.Checkpoint tt (options_of [] w)), ((λ w. alone_kept commands.Resume tt (options_of [] w)), ((λ w. alone_kept commands.Pools tt (options_of [] w)), tt)))))))))
 
 after_keeps : (words : List Text) → KeepsBounds (command_after words)
 after_keeps [] = tt

@@ -77,6 +77,8 @@ verbs =
     ∷ verb (codes "pack") (alone commands.Pack)
     ∷ verb (codes "show") (alone commands.Show)
     ∷ verb (codes "demo") demo_by
+    ∷ verb (codes "checkpoint") (alone commands.Checkpoint)
+    ∷ verb (codes "resume") (alone commands.Resume)
     ∷ verb (codes "pools") (alone commands.Pools)
     ∷ []
 

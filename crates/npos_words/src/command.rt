@@ -28,6 +28,10 @@ pub enum Command {
         /// How many seats it has, from 1 to 512.
         seats: u32,
     },
+    /// To replay a stream and to write the state behind its last block alone.
+    Checkpoint,
+    /// To go on from a state that a checkpoint wrote.
+    Resume,
     /// To go through what is asked of a stake pool.
     Pools,
 }

@@ -115,6 +115,8 @@ fn command_by(alloc: Global, verb: &str, words: &[String]) -> Result<Option<Comm
         "pack" => alone(alloc, Command::Pack, words),
         "show" => alone(alloc, Command::Show, words),
         "demo" => demo_by(alloc, words),
+        "checkpoint" => alone(alloc, Command::Checkpoint, words),
+        "resume" => alone(alloc, Command::Resume, words),
         "pools" => alone(alloc, Command::Pools, words),
         _ => Ok(None),
     }

@@ -1,7 +1,8 @@
 //! What no clause says: that the calls succeed where there is memory, and the worked chunks.
-use npos_base::AccountId;
-use stake_ledger::{Book, LedgerRefusal, Loss, Totals};
+use npos_base::{AccountId, List, NoMemory};
+use stake_ledger::{Book, BookRow, Chunk, LedgerRefusal, Loss, RowsFault, Totals, laws};
 use std::alloc::Global;
+use std::fmt::Write;
 use std::test::Fail;
 
 const FIRST: AccountId = AccountId { hi: 0, lo: 1 };
@@ -282,4 +283,128 @@ fn accounts_are_found_by_guesses(rt: HostRuntime) -> Result<(), Fail> {
     ];
     assert!(rt; guessed_calls(rt.alloc())? == (7, losses));
     Ok(())
+}
+
+/// A row: an account and what is free, beside 20 active and 3 held, and as many chunks of one
+/// value, whose releases rise by a step.
+type Made = (u8, u64, u32, u64, u32);
+
+/// Rows, what the genesis gave, was minted and burned, and what is told of them: the first bad row,
+/// that the sums fail, or each row with its chunks.
+const MADE: [(&[Made], (u64, u64, u64), &str); 12] = [
+    (&[], (0, 0, 0), "0 known: "),
+    (&[], (7, 0, 7), "0 known: "),
+    (
+        &[(1, 7, 0, 0, 0), (4, 0, 2, 5, 1)],
+        (70, 3, 10),
+        "2 known: 1 7 20 0 3, 4 0 20 10 3, ",
+    ),
+    (&[(2, 0, 32, 1, 1)], (55, 0, 0), "1 known: 2 0 20 32 3, "),
+    (&[(2, 0, 33, 1, 1)], (56, 0, 0), "row 0"),
+    (&[(2, 0, 2, 5, 0)], (33, 0, 0), "row 0"),
+    (&[(2, 0, 1, 0, 1)], (23, 0, 0), "row 0"),
+    (&[(2, 0, 0, 0, 0), (2, 0, 0, 0, 0)], (46, 0, 0), "row 1"),
+    (&[(2, 0, 0, 0, 0), (1, 0, 2, 5, 0)], (0, 0, 0), "row 1"),
+    (&[(2, 0, 0, 0, 0)], (20, 4, 0), "sum"),
+    (&[(2, 1 << 63, 0, 0, 0)], ((1 << 63) + 23, 0, 0), "sum"),
+    (
+        &[(2, u64::MAX, 0, 0, 0), (3, 0, 0, 0, 0)],
+        (22, 0, 0),
+        "sum",
+    ),
+];
+
+fn push<T: Drop>(list: &mut List<T>, item: T) -> Result<(), NoMemory> {
+    match list.push(item) {
+        Ok(()) => Ok(()),
+        Err(_) => Err(NoMemory),
+    }
+}
+
+fn row(alloc: Global, made: Made) -> Result<BookRow, NoMemory> {
+    let (who, free, count, value, step) = made;
+    let mut chunks = List::new(alloc);
+    for number in 0..count {
+        let release = number.wrapping_mul(step);
+        push(&mut chunks, Chunk { value, release })?;
+    }
+    Ok(BookRow {
+        who: AccountId {
+            hi: 0,
+            lo: u128::from(who),
+        },
+        free,
+        active: 20,
+        chunks,
+        held: 3,
+    })
+}
+
+/// Each row of the books, as they answer it and by account.
+fn tell(alloc: Global, book: &Book, text: &mut String) -> Result<(), Fail> {
+    write!(text, "{} known: ", book.account_count())?;
+    let rows = book.to_rows(alloc)?;
+    for (place, row) in rows.as_slice().iter().enumerate() {
+        if place < book.account_count() && book.account_at(place) == row.who {
+            let chunks = row.chunks.as_slice().iter();
+            let away = chunks.fold(0u64, |sum, chunk| sum.wrapping_add(chunk.value));
+            write!(
+                text,
+                "{} {} {} {away} {}, ",
+                row.who.lo, row.free, row.active, row.held
+            )?;
+        }
+    }
+    Ok(())
+}
+
+fn told_of_rows(alloc: Global, made: &[Made], sums: (u64, u64, u64)) -> Result<String, Fail> {
+    let mut rows = List::new(alloc);
+    for one in made {
+        push(&mut rows, row(alloc, *one)?)?;
+    }
+    let mut text = String::new(alloc);
+    match Book::from_rows(alloc, rows, sums.0, sums.1, sums.2) {
+        Ok(book) => tell(alloc, &book, &mut text)?,
+        Err(RowsFault::BadRow(place)) => write!(text, "row {place}")?,
+        Err(RowsFault::BadSum) => write!(text, "sum")?,
+        Err(RowsFault::NoMemory) => write!(text, "no memory")?,
+    }
+    Ok(text)
+}
+
+#[test]
+fn books_are_made_of_rows(rt: HostRuntime) -> Result<(), Fail> {
+    for (rows, sums, told) in &MADE {
+        let text = told_of_rows(rt.alloc(), rows, *sums)?;
+        assert_eq!(rt; text.as_str(), *told);
+    }
+    Ok(())
+}
+
+/// The rows of a book in whatever order the accounts came are those of the book that they make.
+#[test]
+fn a_book_is_made_anew(rt: HostRuntime) -> Result<(), Fail> {
+    let alloc = rt.alloc();
+    let mut book = Book::new(alloc);
+    for number in [70u32, 20, 50, 10, 99] {
+        endow(&mut book, twin(number), u64::from(number))?;
+    }
+    book.bond(twin(50), 30, 1)?;
+    let again = Book::from_rows(alloc, book.to_rows(alloc)?, 249, 0, 0)?;
+    let mut first = String::new(alloc);
+    tell(alloc, &book, &mut first)?;
+    let mut second = String::new(alloc);
+    tell(alloc, &again, &mut second)?;
+    assert_eq!(rt; first.as_str(), second.as_str());
+    assert_eq!(rt;
+        first.as_str(),
+        "5 known: 10 10 0 0 0, 20 20 0 0 0, 0 20 30 0 0, 20 70 0 0 0, 49 99 0 0 0, "
+    );
+    Ok(())
+}
+
+#[test]
+fn each_law_is_called(_rt: HostRuntime) {
+    laws::books_are_made_anew_from_their_rows();
 }

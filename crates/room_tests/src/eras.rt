@@ -332,4 +332,6 @@ fn each_law_is_called(_rt: HostRuntime) {
     laws::later_dues_are_within_the_exposures();
     laws::what_is_taken_was_queued();
     laws::exposures_are_the_edges();
+    laws::eras_are_made_anew_from_their_members();
+    laws::members_stay_whole();
 }

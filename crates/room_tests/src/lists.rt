@@ -256,4 +256,6 @@ fn the_middle_of_four_hundred_thousand_leaves_one_bag(rt: HostRuntime) -> Result
 fn each_law_is_called(_rt: HostRuntime) {
     laws::calls_end_with_one_walk();
     laws::accounts_repeat_or_are_distinct();
+    laws::a_walk_is_made_anew_in_its_order();
+    laws::roles_stay_sound();
 }

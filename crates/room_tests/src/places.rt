@@ -55,3 +55,18 @@ fn accounts_are_found_where_they_came(rt: HostRuntime) -> Result<(), Fail> {
     }
     Ok(())
 }
+
+#[test]
+fn accounts_are_told_in_order(rt: HostRuntime) -> Result<(), Fail> {
+    for apart in [1, 0x9e37_79b9_7f4a_7c15] {
+        let places = crowd(rt.alloc(), 100, apart)?;
+        let order = places.by_account(rt.alloc())?;
+        let count = order.len();
+        assert_eq!(rt; count, 100);
+        for (rank, (who, place)) in order.iter().enumerate() {
+            assert!(rt; rank < count && stands(&places, *place, *who));
+            assert_eq!(rt; places.in_order(rank), *who);
+        }
+    }
+    Ok(())
+}

@@ -84,8 +84,23 @@ fn a_full_queue_refuses_an_equal_claim(rt: HostRuntime) -> Result<(), Fail> {
 }
 
 #[test]
+fn submissions_are_read_by_rank(rt: HostRuntime) -> Result<(), Fail> {
+    let mut queue = Queue::new(rt.alloc(), 4)?;
+    for (number, minimal) in TIES {
+        assert!(rt; queue.offer(submission(rt.alloc(), number, minimal)).is_ok());
+    }
+    for (place, number) in [2u64, 4, 1, 3].into_iter().enumerate() {
+        assert!(rt; place < queue.len());
+        assert_eq!(rt; queue.item(place).number, number);
+    }
+    Ok(())
+}
+
+#[test]
 fn each_law_is_called(rt: HostRuntime) {
     laws::the_rank_is_a_stable_sort(&[submission(rt.alloc(), 1, 40)]);
     laws::a_queue_keeps_the_best_of_all_offers();
     laws::nothing_valid_is_crowded_out_for_free();
+    laws::a_queue_is_made_anew_by_its_rank();
+    laws::submissions_stay_numbered();
 }

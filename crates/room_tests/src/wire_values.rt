@@ -1,5 +1,6 @@
+use npos_base::List;
 use scale_wire::fault::{ReadFault, Why, WireFault};
-use scale_wire::{BytesUpTo, Pen, UpTo, Wire, laws, read_whole};
+use scale_wire::{BytesUpTo, Cursor, Layout, Own, Pen, RunOf, UpTo, Wire, laws, read_whole};
 use std::alloc::Global;
 use std::test::Fail;
 
@@ -48,6 +49,53 @@ fn fault_of(alloc: Global, bytes: &[u8]) -> Option<WireFault> {
     }
 }
 
+// A run of the numbers 1 and 2.
+const RUN: [u8; 5] = [0x01, 0x04, 0x01, 0x08, 0x00];
+
+// Bytes that are refused as a run of numbers, the place and the reason.
+const REFUSED_RUNS: [(&[u8], u64, Why); 6] = [
+    (&[], 0, Why::Short),
+    (&[0x02], 0, Why::BadTag),
+    (&[0x01], 1, Why::Short),
+    (&[0x01, 0x04], 2, Why::Short),
+    (&[0x01, 0x04, 0x02], 2, Why::BadTag),
+    (&[0x01, 0x04, 0x01, 0x01, 0x00], 3, Why::NotShortest),
+];
+
+#[test]
+fn a_run_is_read_and_written(rt: HostRuntime) -> Result<(), Fail> {
+    let mut cursor = Cursor::new(&RUN, 0);
+    let numbers: List<u16> = RunOf::<Own>::read(rt.alloc(), &mut cursor)?;
+    assert_eq!(rt; (numbers.as_slice(), cursor.at()), ([1, 2].as_slice(), 5));
+    let mut pen = Pen::new(rt.alloc());
+    RunOf::<Own>::write(&numbers, &mut pen)?;
+    assert_eq!(rt; pen.finish().as_slice(), RUN.as_slice());
+    Ok(())
+}
+
+#[test]
+fn runs_are_refused_where_they_should(rt: HostRuntime) {
+    for (bytes, at, why) in REFUSED_RUNS {
+        let mut cursor = Cursor::new(bytes, 0);
+        let read: Result<List<u16>, ReadFault> = RunOf::<Own>::read(rt.alloc(), &mut cursor);
+        let fault = match read {
+            Err(ReadFault::Wire(fault)) => Some(fault),
+            _ => None,
+        };
+        assert_eq!(rt; (fault, cursor.at()), (Some(WireFault { at, why }), 0));
+    }
+}
+
+#[test]
+fn truth_values_are_read_and_written(rt: HostRuntime) -> Result<(), Fail> {
+    let flags = read_whole::<(bool, bool)>(rt.alloc(), &[0x01, 0x00])?;
+    assert_eq!(rt; flags, (true, false));
+    let mut pen = Pen::new(rt.alloc());
+    flags.write(&mut pen)?;
+    assert_eq!(rt; pen.finish().as_slice(), [0x01, 0x00].as_slice());
+    Ok(())
+}
+
 #[test]
 fn the_laws_can_be_called() {
     laws::values_are_read_back::<Sample>();
@@ -60,5 +108,6 @@ fn the_laws_can_be_called() {
     laws::byte_strings_keep_the_laws(2);
     laws::tags_keep_the_laws(2);
     laws::lengths_keep_the_laws(2);
+    laws::runs_keep_the_laws::<Sample>();
     laws::value_bytes_are_the_fewest(1);
 }

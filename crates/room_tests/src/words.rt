@@ -6,12 +6,15 @@ use std::test::Fail;
 
 /// Words behind the program's name, parted by blanks, and the text of their command, which is empty
 /// where they have none.
-const WORDS: [(&str, &str); 51] = [
+const WORDS: [(&str, &str); 54] = [
     ("replay", "replay"),
     ("check", "check"),
     ("pack", "pack"),
     ("show", "show"),
+    ("checkpoint", "checkpoint"),
+    ("resume", "resume"),
     ("pools", "pools"),
+    ("resume --rounds 3", ""),
     ("pools --rounds 3", ""),
     ("replay x", ""),
     ("replay --", ""),
@@ -73,6 +76,8 @@ fn told(alloc: Global, command: &Option<Command>) -> Result<String, Fail> {
         Some(Command::Check) => format!(in alloc; "check")?,
         Some(Command::Pack) => format!(in alloc; "pack")?,
         Some(Command::Show) => format!(in alloc; "show")?,
+        Some(Command::Checkpoint) => format!(in alloc; "checkpoint")?,
+        Some(Command::Resume) => format!(in alloc; "resume")?,
         Some(Command::Pools) => format!(in alloc; "pools")?,
         Some(Command::Mine { miner, rounds }) => {
             let name = match miner {

@@ -9,8 +9,10 @@ use Rattle.npos_cli.specs.Ahead.{first_place}
 use Rattle.npos_cli.specs.Status.{status_of}
 use Rattle.npos_cli.specs.Report.{ReplayOwes}
 use Rattle.npos_cli.specs.Pools.{pool_machine}
-use Rattle.npos_cli.specs.Pooling.{GoesOn, pool_spot}
-use Rattle.npos_cli.proofs.PoolLaws.{refused_pool, faulty_pool, pool_starts, replayed_pool}
+use Rattle.npos_cli.specs.Going.{GoesOn}
+use Rattle.npos_cli.specs.Pooling.{pool_spot}
+use Rattle.npos_cli.proofs.GoingLaws.{refused_input, replayed_input}
+use Rattle.npos_cli.proofs.PoolLaws.{pool_laws, pool_turn_laws, faulty_pool, pool_starts}
 use Rattle.npos_cli.proofs.pooling.pools_answer.Goals as goal
 
 -- the genesis is refused
@@ -18,7 +20,7 @@ pub returns-in-Err-Wire : goal.returns-in-Err-Wire
 returns-in-Err-Wire c =
     let is : IsFault pool_genesis_form (first_place c.args.bytes.now) c.in-Err-Wire.fault c.read.new.cursor = search rules in
     let told : c.faulty.result.text.items ≡ fault_line c.in-Err-Wire.fault.at c.in-Err-Wire.fault.why = search rules in
-    refused_pool c.args.bytes.now c.faulty.result.text.items c.read.new.cursor c.in-Err-Wire.fault _ is told c.faulty.ensures.status
+    refused_input pool_machine pool_laws pool_turn_laws c.args.bytes.now c.faulty.result.text.items c.read.new.cursor c.in-Err-Wire.fault _ is told c.faulty.ensures.status
 
 -- the genesis has a fault
 pub returns-in-Err : goal.returns-in-Err
@@ -40,10 +42,10 @@ pub returns-then-branch : goal.returns-then-branch
 returns-then-branch c =
     let is : IsRead pool_genesis_form (first_place c.args.bytes.now) c.in-Ok.genesis c.read.new.cursor = search rules in
     let start = pool_spot c.read.new.cursor 0 c.in-Ok-start.pool.state in
-    let goes : GoesOn start c.new-text.result.items c.take_items.new.text.items true =
-    subst (λ (faulty : Bool). GoesOn start c.new-text.result.items c.take_items.new.text.items faulty) c.if-branch.true c.in_ok-take_items.ensures in
+    let goes : GoesOn pool_machine start c.new-text.result.items c.take_items.new.text.items true =
+    subst (λ (faulty : Bool). GoesOn pool_machine start c.new-text.result.items c.take_items.new.text.items faulty) c.if-branch.true c.in_ok-take_items.ensures in
     subst (λ (text : List ℕ). ReplayOwes pool_machine c.args.bytes.now text (status_of c.faulty-then-branch.result.ending)) (sym c.faulty-then-branch.ensures.text)
-    (replayed_pool c.args.bytes.now c.new-text.result.items c.take_items.new.text.items start true _
+    (replayed_input pool_machine pool_laws pool_turn_laws c.args.bytes.now c.new-text.result.items c.take_items.new.text.items start true _
     (pool_starts c.args.bytes.now c.read.new.cursor c.in-Ok.genesis c.in-Ok-start.pool.state is c.in-Ok-start.ensures.ok.0 (ap (λ (life : Life). life.state) c.in-Ok-start.ensures.ok.1))
     c.new-text.ensures.items goes c.faulty-then-branch.ensures.status)
 
@@ -52,7 +54,7 @@ pub returns : goal.returns
 returns c =
     let is : IsRead pool_genesis_form (first_place c.args.bytes.now) c.in-Ok.genesis c.read.new.cursor = search rules in
     let start = pool_spot c.read.new.cursor 0 c.in-Ok-start.pool.state in
-    let goes : GoesOn start c.new-text.result.items c.take_items.new.text.items false = search rules in
-    replayed_pool c.args.bytes.now c.new-text.result.items c.take_items.new.text.items start false _
+    let goes : GoesOn pool_machine start c.new-text.result.items c.take_items.new.text.items false = search rules in
+    replayed_input pool_machine pool_laws pool_turn_laws c.args.bytes.now c.new-text.result.items c.take_items.new.text.items start false _
     (pool_starts c.args.bytes.now c.read.new.cursor c.in-Ok.genesis c.in-Ok-start.pool.state is c.in-Ok-start.ensures.ok.0 (ap (λ (life : Life). life.state) c.in-Ok-start.ensures.ok.1))
     c.new-text.ensures.items goes refl

@@ -1,11 +1,15 @@
 use Rattle.std.proofs.Common.{map, string_bytes, true, false}
 use Rattle.npos_base.specs.Outside.{Rose}
-use Rattle.npos_cli.proofs.PromiseLaws.{usage_due, usage_comes, comes_owed, usage_front_of, done_of, bad_of, comes_of, front_of}
+use Rattle.npos_cli.specs.Words.{job_of}
+use Rattle.npos_cli.proofs.PromiseLaws.{usage_due, usage_comes, comes_owed, reads_nothing, usage_front_of, done_of, bad_of, comes_of, front_of}
 use Rattle.npos_cli.proofs.promises.run_by_status.Goals as goal
 
 pub returns-clause-usage_front : goal.returns-clause-usage_front
 returns-clause-usage_front g c = usage_front_of (map string_bytes c.args.words.now) (g.S.Source.left c.args.source.now) (g.K.Sink.told c.args.sink.now)
     (g.K.Sink.told c.run.new.sink) c.run.ensures.front
+
+pub returns-clause-nothing_read : goal.returns-clause-nothing_read
+returns-clause-nothing_read g c = λ unformed. c.run.ensures.unread (reads_nothing (job_of (map string_bytes c.args.words.now)) unformed)
 
 pub returns-clause-done : goal.returns-clause-done
 returns-clause-done g c = λ asked is. done_of (map string_bytes c.args.words.now) asked (g.S.Source.left c.args.source.now) (g.S.Source.left c.run.new.source)

@@ -1,5 +1,8 @@
 use Rattle.std.proofs.Common.{◌≡◌, ◌+◌, ◌-◌, ◌^◌, ◌<◌, ◌≤◌, ℕ, List, Option, false, length}
 use Rattle.npos_base.specs.Outside.{Told}
+use Rattle.npos_runtime.specs.Savable.{IsSavable}
+use Rattle.npos_cli.specs.declared.output.Output.TheVariants.{Checkpoint}
+use Rattle.npos_cli.specs.Outputs.{machine_of}
 use Rattle.npos_cli.specs.Turning.{spot, IsNear}
 use Rattle.npos_cli.specs.Streaming.{Course}
 use Rattle.npos_cli.proofs.TurnLaws.{one_if_open}
@@ -9,13 +12,15 @@ use Rattle.npos_cli.proofs.replaying.take_all.Given as goal
 abbrev pub invariant-pieces : goal.invariant-pieces
 invariant-pieces g l = record {
   unspent : l.runtime.spent ≡ false;
+  savable : IsSavable l.runtime.state;
   some : 0 < length l.piece;
   one_piece : length l.piece ≤ 65536;
   near : IsNear (spot l.reader l.runtime.state);
   reads : g.S.Source.faults l.source ≡ g.S.Source.faults l.fn.source;
   writes : g.K.Sink.faults l.sink ≡ g.K.Sink.faults l.fn.sink;
-  course : (left : Option (List ℕ)) (old : Option Told) → Course left (g.S.Source.left l.fn.source) old (g.K.Sink.told l.fn.sink) false (spot l.fn.reader l.fn.runtime.state)
-      → Course left (g.S.Source.left l.source) old (g.K.Sink.told l.sink) l.ended (spot l.reader l.runtime.state);
+  quiet : l.fn.output ≡ Checkpoint → l.sink ≡ l.fn.sink;
+  course : (left : Option (List ℕ)) (old : Option Told) → Course (machine_of l.fn.output) left (g.S.Source.left l.fn.source) old (g.K.Sink.told l.fn.sink) false (spot l.fn.reader l.fn.runtime.state)
+      → Course (machine_of l.fn.output) left (g.S.Source.left l.source) old (g.K.Sink.told l.sink) l.ended (spot l.reader l.runtime.state);
 }
 
 abbrev pub decreases-pieces : goal.decreases-pieces

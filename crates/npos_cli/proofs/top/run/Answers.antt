@@ -4,7 +4,7 @@ use Rattle.npos_cli.specs.Status.{end_of}
 use Rattle.npos_cli.specs.Words.{job_of}
 use Rattle.npos_cli.specs.Ran.{traffic}
 use Rattle.npos_cli.proofs.EndLaws.{answered, read_failed, read_fails, write_failed, write_fails, not_flushed, halted_reading, halted_writing, starved, drained, accepted, passes, nothing_written, never_starves}
-use Rattle.npos_cli.proofs.StreamLaws.{stream_done, pool_done}
+use Rattle.npos_cli.proofs.StreamLaws.{stream_done, checkpoint_done, resume_done, pool_done}
 use Rattle.npos_cli.proofs.PromiseLaws.{promised}
 use Rattle.npos_cli.proofs.BookLaws.{books_told}
 use Rattle.npos_cli.proofs.SeatLaws.{told_sound}
@@ -92,6 +92,26 @@ returns-clause-whole g c =
     rw c.end_of.ensures (λ replays stream no_read no_write.
     stream_done (job_of (map string_bytes c.args.words.now)) t.left t.told t.told_now t.read_faults t.read_faults_now t.write_faults t.write_faults_now
     (end_of end) replays stream no_read no_write (answered (job_of (map string_bytes c.args.words.now)) t end ran)
+    (read_failed (job_of (map string_bytes c.args.words.now)) t end ran) (write_failed (job_of (map string_bytes c.args.words.now)) t end ran))
+
+pub returns-clause-whole_checkpoint : goal.returns-clause-whole_checkpoint
+returns-clause-whole_checkpoint g c =
+    let t = (traffic g.S.Source.left g.K.Sink.told g.S.Source.faults g.K.Sink.faults c.args.source.now c.run_words.new.source c.args.sink.now c.run_words.new.sink) in
+    let ran = c.run_words.ensures.ran in
+    let end = c.run_words.result in
+    rw c.end_of.ensures (λ asks stream no_read no_write.
+    checkpoint_done (job_of (map string_bytes c.args.words.now)) t.left t.told t.told_now t.read_faults t.read_faults_now t.write_faults t.write_faults_now
+    (end_of end) asks stream no_read no_write (answered (job_of (map string_bytes c.args.words.now)) t end ran)
+    (read_failed (job_of (map string_bytes c.args.words.now)) t end ran) (write_failed (job_of (map string_bytes c.args.words.now)) t end ran))
+
+pub returns-clause-whole_resume : goal.returns-clause-whole_resume
+returns-clause-whole_resume g c =
+    let t = (traffic g.S.Source.left g.K.Sink.told g.S.Source.faults g.K.Sink.faults c.args.source.now c.run_words.new.source c.args.sink.now c.run_words.new.sink) in
+    let ran = c.run_words.ensures.ran in
+    let end = c.run_words.result in
+    rw c.end_of.ensures (λ asks stream no_read no_write.
+    resume_done (job_of (map string_bytes c.args.words.now)) t.left t.told t.told_now t.read_faults t.read_faults_now t.write_faults t.write_faults_now
+    (end_of end) asks stream no_read no_write (answered (job_of (map string_bytes c.args.words.now)) t end ran)
     (read_failed (job_of (map string_bytes c.args.words.now)) t end ran) (write_failed (job_of (map string_bytes c.args.words.now)) t end ran))
 
 pub returns-clause-whole_pool : goal.returns-clause-whole_pool
