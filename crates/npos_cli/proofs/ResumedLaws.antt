@@ -5,7 +5,7 @@ use Rattle.block_wire.specs.declared.block.Block.{Block}
 use Rattle.npos_runtime.specs.declared.chain.Chain.{Chain}
 use Rattle.npos_runtime.specs.Deposits.{DepositsGoOnLaw}
 use Rattle.npos_runtime.specs.DeferredLaws.{QueuedLaw, AppliedLaw, TakenInAllLaw}
-use Rattle.npos_runtime.specs.EraLaws.{chain_at, SlashLaw, OnceLaw}
+use Rattle.npos_runtime.specs.EraLaws.{chain_at, PaidOnLaw, ToldOnLaw, SlashLaw, OnceOnLaw, DuesOnLaw}
 use Rattle.npos_runtime.specs.History.{CanTake}
 use Rattle.npos_runtime.specs.Laws.{IsSound, SeatedSoundLaw, NoneCrowdedOutLaw}
 use Rattle.npos_runtime.specs.Outcome.{Election}
@@ -75,11 +75,16 @@ pub deposits_go_on : RestoredLaw → DepositsGoOnLaw → (bytes : List ℕ) → 
 deposits_go_on restored law bytes start place text starts reaches =
     law start.state reaches.blocks (can_take restored bytes start starts place text reaches) (savable_start restored bytes start starts).sound.queue
 
-pub eras_go_on : RestoredLaw → SlashLaw → OnceLaw → QueuedLaw → AppliedLaw → TakenInAllLaw → (bytes : List ℕ) → ResumedErasAreKept bytes
-eras_go_on restored slash once queued applied in_all bytes start place text starts reaches =
+pub eras_go_on : RestoredLaw → OnceOnLaw → PaidOnLaw → ToldOnLaw → DuesOnLaw → SlashLaw → QueuedLaw → AppliedLaw → TakenInAllLaw
+    → (bytes : List ℕ) → ResumedErasAreKept bytes
+eras_go_on restored once paid told dues slash queued applied in_all bytes start place text starts reaches =
     let can = can_take restored bytes start starts place text reaches in
+    let waits = (savable_start restored bytes start starts).sound.waiting in
     record {
-      once = once start.state reaches.blocks can;
+      once = once start.state reaches.blocks can waits;
+      rewards = λ era. paid start.state reaches.blocks era can;
+      payouts = λ calls. told start.state reaches.blocks calls can;
+      dues = λ era who. dues start.state reaches.blocks era who can waits;
       slashes = λ calls. slash start.state reaches.blocks calls can;
       queued = λ calls. (queued (chain_at start.state reaches.blocks calls)).0;
       cancelled = λ calls. (queued (chain_at start.state reaches.blocks calls)).1;

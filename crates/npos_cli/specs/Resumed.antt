@@ -6,14 +6,15 @@ use Rattle.npos_base.specs.declared.account.AccountId.{AccountId}
 use Rattle.block_wire.specs.declared.block.Block.{Block}
 use Rattle.block_wire.specs.declared.call.Call.{Call}
 use Rattle.stake_ledger.specs.Ledger.{IsBalanced}
+use Rattle.chain_params.specs.Rules.{era_reward_of}
 use Rattle.npos_runtime.specs.declared.chain.Chain.{Chain}
 use Rattle.npos_runtime.specs.Outcome.{Election}
-use Rattle.npos_runtime.specs.Step.{after_blocks, seated_by}
+use Rattle.npos_runtime.specs.Step.{after_blocks}
 use Rattle.npos_runtime.specs.Deposits.{DepositsGoOn}
 use Rattle.npos_runtime.specs.Laws.{IsSound}
 use Rattle.npos_runtime.specs.Seatings.{SeatsHold}
 use Rattle.npos_runtime.specs.Offers.{IsNoneCrowdedOut}
-use Rattle.npos_runtime.specs.EraLaws.{chain_at, over_blocks, taken_by, due_by, TakesWhatIsDue}
+use Rattle.npos_runtime.specs.EraLaws.{chain_at, over_blocks, paid_by, PaysAsTold, taken_by, due_by, TakesWhatIsDue, elected_for, stake_behind, elections_from}
 use Rattle.npos_runtime.specs.DeferredLaws.{QueuesWhatIsDue, CancelsOneSlash, AppliesWhatIsDue, applied_for, waiting_due}
 use Rattle.npos_cli.specs.Replay.{Spot, Starts, Reaches, Outcome, IsReplay}
 use Rattle.npos_cli.specs.Checkpoints.{resume_machine}
@@ -53,8 +54,16 @@ ResumedDepositsAreKept bytes = HoldsOn bytes DepositsGoOn
 -- ## Eras
 
 pub record ErasGoOn (chain : Chain) (blocks : List Block) : Type 0 where
-  -- no two elections that are seated are of one era
-  pub once : IsDistinct (λ first second. first.round == second.round) (seated_by chain blocks)
+  -- no two elections are of one era, of who waited in the checkpoint and of those that are seated since
+  pub once : IsDistinct (λ first second. first.round == second.round) (elections_from chain blocks)
+  -- all that these blocks pay of an era is at most its reward
+  pub rewards : (era : ℕ) → over_blocks (paid_by era) chain blocks ≤ era_reward_of chain.params
+  -- each payout that is accepted is minted as it is told
+  pub payouts : (calls : List Call) → PaysAsTold (chain_at chain blocks calls)
+  -- All that is due from an account for an era which begins behind the checkpoint is at most its stake in
+  -- the election of that era.
+  pub dues : (era : ℕ) (who : AccountId) → chain.eras.current < era
+      → over_blocks (due_by era who) chain blocks ≤ stake_behind who (elected_for era (elections_from chain blocks))
   -- where slashes do not wait, what is due is taken, but no more than is bonded
   pub slashes : (calls : List Call) → TakesWhatIsDue (chain_at chain blocks calls)
   -- where they wait, each is queued, and is cancelled or applied when it is due

@@ -16,9 +16,9 @@ ghost use Rattle.npos_cli.specs.Laws.{OwesOnce, OwesAlways, PacksBack, IsReplaye
 pub use bundle_reports::laws::a_fill_is_sealed;
 use npos_runtime::laws::{
     a_saved_state_has_no_fault, a_state_without_a_fault_is_kept, chains_can_be_saved,
-    deposits_are_settled, deposits_go_on, each_round_is_decided_once, equal_states_go_on_alike,
-    every_round_ends_as_it_began, every_seated_committee_is_sound,
-    nothing_valid_is_crowded_out_for_free, payouts_are_within_the_reward,
+    deposits_are_settled, deposits_go_on, dues_go_on, each_round_is_decided_once,
+    equal_states_go_on_alike, every_round_ends_as_it_began, every_seated_committee_is_sound,
+    nothing_valid_is_crowded_out_for_free, payouts_are_within_the_reward, payouts_go_on,
     slashes_are_within_the_stake, slashes_that_wait_take_what_is_due,
 };
 use stake_pools::laws::{
@@ -214,14 +214,18 @@ pub fn resumed_replays_settle_deposits()
     deposits_go_on();
 }
 
-/// Each round is decided once. A slash takes the lesser of what is due and what is bonded, at once or
-/// when it was waited for, unless it is cancelled; and no more is taken for an era than waited for it
-/// in the checkpoint and was made due for it since then.
+/// Whatever blocks follow a checkpoint, what they pay of an era is at most its reward, and each payout
+/// is minted as it is told. What they make due from an account for an era that begins behind the
+/// checkpoint is at most the stake with which it voted in the one election of that era. A slash takes
+/// the lesser of what is due and what is bonded, at once or when it was waited for, unless it is
+/// cancelled; and no more is taken for an era than waited for it in the checkpoint and was made due
+/// for it since then.
 pub fn resumed_replays_keep_the_bounds_of_slashes()
     ensures { (bytes : List ℕ) → ResumedErasAreKept bytes }
 {
     a_state_without_a_fault_is_kept();
-    each_round_is_decided_once();
+    payouts_go_on();
+    dues_go_on();
     slashes_are_within_the_stake();
     slashes_that_wait_take_what_is_due();
 }

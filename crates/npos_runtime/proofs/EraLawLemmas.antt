@@ -33,7 +33,7 @@ use Rattle.chain_params.specs.Rules.{era_reward_of}
 use Rattle.npos_runtime.specs.Offices.{payout_now, all_minted, slashed_once, slashes, slashing_rule, deferring_rule}
 use Rattle.npos_runtime.specs.CallRule.{CallRule}
 use Rattle.npos_runtime.specs.Calls.{rule_of, rule_for}
-use Rattle.npos_runtime.specs.Step.{before_calls, call_after, call_outcome, step, after_blocks, seated_by}
+use Rattle.npos_runtime.specs.Step.{before_calls, call_after, call_outcome, step, after_blocks}
 use Rattle.npos_runtime.specs.Genesis.{params_of, genesis_chain}
 use Rattle.npos_runtime.specs.Live.{IsLive, IsBetweenBlocks, AreInCourse}
 use Rattle.npos_runtime.specs.Sound.{IsSoundWaiting}
