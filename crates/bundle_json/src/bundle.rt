@@ -8,8 +8,8 @@ ghost use Rattle.bundle_json.specs.Text.{Appends, bundle_in_text};
 ghost use Rattle.block_wire.specs.Bundles.{bundle_form};
 
 use crate::fault::JsonFault;
-use crate::item::{list_in, write_list};
-use crate::parts::{u32_in, with_keys};
+use crate::item::{list_from, list_in, write_list};
+use crate::parts::{taken, u32_in, with_keys};
 use crate::work::{work_in, write_work};
 use block_wire::Bundle;
 use json::Writer;
@@ -59,18 +59,19 @@ pub fn bundle_from_json(alloc: Global, text: &[u8]) -> Result<Bundle, JsonFault>
         Err(error) if error.is_memory() => return Err(JsonFault::NoMemory),
         Err(_) => return Err(JsonFault::Json),
     };
-    match bundle_in(alloc, &value) {
+    match bundle_in(alloc, value) {
         Ok(Some(bundle)) => Ok(bundle),
         Ok(None) => Err(JsonFault::Shape),
         Err(NoMemory) => Err(JsonFault::NoMemory),
     }
 }
 
-// The bundle that the value stands for, or none.
-fn bundle_in(alloc: Global, value: &Value) -> Result<Option<Bundle>, NoMemory>
-    ensures { IfOk result (λ bundle. bundle ≡ bundle_of (view value.now)) }
+// The bundle that the value stands for, or none. The voters are most of it, and are read last: they
+// go as they are read.
+fn bundle_in(alloc: Global, value: Value) -> Result<Option<Bundle>, NoMemory>
+    ensures { IfOk result (λ bundle. bundle ≡ bundle_of (view value)) }
 {
-    let Some(object) = with_keys(value, 4) else {
+    let Some(object) = with_keys(&value, 4) else {
         return Ok(None);
     };
     let Some(seats) = object.get("seats").and_then(u32_in) else {
@@ -82,16 +83,16 @@ fn bundle_in(alloc: Global, value: &Value) -> Result<Option<Bundle>, NoMemory>
     let Some(targets) = list_in(alloc, targets, MOST_TARGETS)? else {
         return Ok(None);
     };
-    let Some(voters) = object.get("voters") else {
-        return Ok(None);
-    };
-    let Some(voters) = list_in(alloc, voters, MOST_VOTERS)? else {
-        return Ok(None);
-    };
     let Some(work) = object.get("work") else {
         return Ok(None);
     };
     let Some(work) = work_in(alloc, work)? else {
+        return Ok(None);
+    };
+    let Some(voters) = taken(value, "voters") else {
+        return Ok(None);
+    };
+    let Some(voters) = list_from(alloc, voters, MOST_VOTERS)? else {
         return Ok(None);
     };
     Ok(Some(Bundle {

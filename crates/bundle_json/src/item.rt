@@ -95,6 +95,39 @@ fn each<T: Item>(alloc: Global, items: &[Value]) -> Result<Option<List<T>>, NoMe
     Ok(Some(List::from_vec(found)))
 }
 
+/// The items of an array of at most so many, as `list_in` reads them. Each goes once it is read:
+/// so what it stands for has the room of those before it.
+#[tactic(auto, using(crate::proofs::Lists::length_items))]
+pub(crate) fn list_from<T: Item>(
+    alloc: Global,
+    value: Value,
+    most: usize,
+) -> Result<Option<List<T>>, NoMemory>
+    ensures { IfOk result (λ list. list ≡ list_in T.read most (view value)) }
+{
+    let Value::Array(items) = value else {
+        return Ok(None);
+    };
+    if items.len() > most {
+        return Ok(None);
+    }
+    each_from(alloc, items)
+}
+
+// Each item as what it stands for, or none where one stands for nothing.
+fn each_from<T: Item>(alloc: Global, items: Vec<Value>) -> Result<Option<List<T>>, NoMemory>
+    ensures { IfOk result (λ list. list ≡ each T.read (items_view items.items)) }
+{
+    let mut found = Vec::with_capacity(alloc, items.len())?;
+    for item in items {
+        let Some(value) = T::from_json(alloc, &item)? else {
+            return Ok(None);
+        };
+        found.push(value)?;
+    }
+    Ok(Some(List::from_vec(found)))
+}
+
 impl Item for u16 {
     ghost use Rattle.bundle_json.specs.Json.{whole_json};
     ghost use Rattle.bundle_json.specs.Shape.{whole_in};

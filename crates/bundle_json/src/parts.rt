@@ -1,6 +1,7 @@
 //! The parts of a bundle in JSON that take no memory: numbers, texts, and what arrays and objects
 //! have.
 ghost use Rattle.std.specs.Prelude.{◌≡◌, option_map};
+ghost use Rattle.serde_json.specs.Find.{get};
 ghost use Rattle.serde_json.specs.View.{view};
 ghost use Rattle.bundle_json.specs.Shape.{whole_in, figure_in, account_in, with_items, with_keys, edge_in, claim_in};
 
@@ -76,6 +77,16 @@ pub(crate) fn with_keys(value: &Value, count: usize) -> Option<&Value>
         Some(value)
     } else {
         None
+    }
+}
+
+/// The value that an object has under the key, taken out of it.
+pub(crate) fn taken(value: Value, key: &str) -> Option<Value>
+    ensures { option_map view result ≡ get key.now (view value) }
+{
+    match value {
+        Value::Object(mut members) => members.remove(key),
+        _ => None,
     }
 }
 
