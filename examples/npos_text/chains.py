@@ -115,7 +115,7 @@ class Chain:
         self.bags: Dict[int, List[str]] = {}
         # of a state, that of its last block
         due = int(words.get('due', ['1'])[0])
-        self.era = (due - 2) // self.era_blocks if self.has_rounds and due > 1 else 0
+        self.era = (due - 2) // self.era_blocks if self.era_blocks and due > 1 else 0
         for line in reading.lines:
             if line.words[0] in ('row', 'role'):
                 self.take(*line.words)
