@@ -41,9 +41,15 @@ def checked(read: Callable[[str], int]) -> Callable[[str], int]:
     return value
 
 
+def say(name: str, sentence: str) -> None:
+    """Says one sentence on standard error, where that is open."""
+    if sys.stderr:
+        print(f'{name}: {" ".join(sentence.split())}', file=sys.stderr)
+
+
 def refuse(name: str, sentence: str) -> NoReturn:
-    """Says one sentence on standard error and ends with the status of bad input."""
-    print(f'{name}: {" ".join(sentence.split())}', file=sys.stderr)
+    """Says one sentence and ends with the status of bad input."""
+    say(name, sentence)
     sys.exit(REFUSED)
 
 

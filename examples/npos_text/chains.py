@@ -115,7 +115,7 @@ class Chain:
         self.bags: Dict[int, List[str]] = {}
         # of a state, that of its last block
         due = int(words.get('due', ['1'])[0])
-        self.era = (due - 2) // self.era_blocks if self.has_rounds and due > 1 else 0
+        self.era = (due - 2) // self.era_blocks if self.era_blocks and due > 1 else 0
         for line in reading.lines:
             if line.words[0] in ('row', 'role'):
                 self.take(*line.words)
@@ -271,10 +271,16 @@ class Round(NamedTuple):
     seated: List[List[str]]
 
 
-def open_round(reading: Reading, chain: Chain) -> List[Round]:
+def is_refused(reading: Reading, lines: List[str]) -> bool:
+    """Whether a state is none: what was written says so, or its bytes end, or are damaged, before its blocks begin."""
+    is_cut = reading.fault is not None and reading.next not in ('', 'block', 'call', 'nothing')
+    return is_cut or any(line.startswith('fault 0 checkpoint ') for line in lines)
+
+
+def open_round(reading: Reading, chain: Chain, lines: List[str]) -> List[Round]:
     """The round that is open in a state, if one is."""
     names = [line.words[0] for line in reading.lines]
-    if 'round' not in names:
+    if 'round' not in names or is_refused(reading, lines):
         return []
     election = Election(chain.seats)
     for line in reading.lines[names.index('round') + 1:]:
@@ -290,7 +296,7 @@ def open_round(reading: Reading, chain: Chain) -> List[Round]:
 def rounds_of(reading: Reading, lines: List[str]) -> List[Round]:
     """The rounds that have a snapshot. What was written and what the stream makes of it have to agree."""
     chain = Chain(reading)
-    rounds = open_round(reading, chain)
+    rounds = open_round(reading, chain, lines)
     for line in told(reading, lines):
         word = line.words[0]
         if word == 'snapshot':

@@ -60,7 +60,7 @@ FAULTS: Dict[str, str] = {
 # what each line looks like, where N is a number and H an account
 LINES: List[str] = [
     'block N', 'era N', 'snapshot N targets N voters N total N', 'void N (few|poor)', 'forfeit N N verdict W', 'return N N',
-    'reward N N', 'seat N (signed N|fill)', '(member|paid|slashed) H N', 'call N (ok|refused ([1-9]|[123][0-9]|4[0-3]))', 'deferred N N', 'apply N',
+    'reward N N', 'seat N (signed N|fill)', '(member|paid|slashed) H N', 'call N (ok|refused (?!34)([1-9]|[123][0-9]|4[0-3]))', 'deferred N N', 'apply N',
     'end free N active N unlocking N deposits N minted N burned N issuance N', 'pool points N active N pot N credits N',
     'fault N (short|notshortest|toowide|badtag|toomany|trailing|nosolution|json|shape|long)', 'fault N number due N found N',
     'fault 0 genesis ([1-9]|1[01]) N', 'fault 0 checkpoint ([1-9]|10|12) N', 'fault 0 checkpoint 11 W',

@@ -7,7 +7,7 @@ import pathlib
 import shlex
 import subprocess
 import sys
-from typing import Callable, List
+from typing import Callable, List, NoReturn, Optional
 
 from .reasons import report
 from .scale import Fault
@@ -15,10 +15,16 @@ from .scale import Fault
 TOP = pathlib.Path(__file__).resolve().parent.parent.parent
 
 
-def parser(description: str) -> argparse.ArgumentParser:
+class Words(argparse.ArgumentParser):
+    """Reads the words of a script; wrong ones are refused in one sentence, as all input is."""
+
+    def error(self, message: str) -> NoReturn:
+        raise Fault(f'{message}; --help tells how it is used')
+
+
+def parser(description: Optional[str]) -> Words:
     """A parser of words that shows the description as it stands and takes no shortened options."""
-    return argparse.ArgumentParser(
-        description=description, formatter_class=argparse.RawDescriptionHelpFormatter, allow_abbrev=False)
+    return Words(description=description, formatter_class=argparse.RawDescriptionHelpFormatter, allow_abbrev=False)
 
 
 def whole(least: int, most: int) -> Callable[[str], int]:
@@ -32,6 +38,8 @@ def whole(least: int, most: int) -> Callable[[str], int]:
 
 def bytes_in() -> bytes:
     """All of standard input."""
+    if sys.stdin is None:
+        raise Fault('standard input is closed')
     return sys.stdin.buffer.read()
 
 
@@ -55,9 +63,17 @@ def bytes_out(data: bytes) -> None:
     sys.stdout.buffer.flush()
 
 
+def command_of(text: str) -> List[str]:
+    """The words of a command, as the shell reads them."""
+    try:
+        return shlex.split(text)
+    except ValueError as error:
+        raise Fault(f'there stands {text}, and a command was expected: {error}') from None
+
+
 def program() -> List[str]:
     """The command of the program: NPOS_PROGRAM, or the wrapper at the top."""
-    return shlex.split(os.environ.get('NPOS_PROGRAM', '')) or [str(TOP / 'npos')]
+    return command_of(os.environ.get('NPOS_PROGRAM', '')) or [str(TOP / 'npos')]
 
 
 def replayed(stream: bytes, verb: str = 'replay') -> List[str]:
@@ -65,13 +81,15 @@ def replayed(stream: bytes, verb: str = 'replay') -> List[str]:
     done = subprocess.run(program() + [verb], input=stream, stdout=subprocess.PIPE)
     if done.returncode not in (0, 3):
         raise Fault(f'npos {verb} ended with status {done.returncode}, and 0 or 3 was expected')
-    return report(done.stdout.decode())
+    return report(text_of(done.stdout))
 
 
 def run(main: Callable[[], int]) -> None:
     """Runs a script and ends with its status; what it cannot use is told in one sentence, with status 2."""
     name = pathlib.Path(sys.argv[0]).name
     try:
+        if sys.stdout is None:
+            raise Fault('standard output is closed')
         status = main()
         sys.stdout.flush()
         sys.exit(status)
@@ -85,5 +103,6 @@ def run(main: Callable[[], int]) -> None:
         sentence = f'{error.filename or "standard input or output"}: {error.strerror}'
     except KeyboardInterrupt:
         sys.exit(130)
-    print(f'{name}: {sentence}', file=sys.stderr)
+    if sys.stderr:
+        print(f'{name}: {sentence}', file=sys.stderr)
     sys.exit(2)

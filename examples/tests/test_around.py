@@ -194,6 +194,20 @@ class Origins(Folder):
         self.assertTrue(done.stdout.startswith(b'room/src/lib.rt:5: Err(_) => Err(NoMemory),\n'))
 
 
+class Reading(Folder):
+    """The list of pages to read is the one that `bench/pages` makes of the specs."""
+
+    def test_the_page_has_the_list(self) -> None:
+        done = run(TOP / 'bench/pages', '--check')
+        self.assertEqual((done.returncode, done.stderr.decode()), (0, ''))
+
+    def test_one_sentence(self) -> None:
+        for name, word in [('pages', '--check'), ('origins', '--all')]:
+            done = run(TOP / 'bench' / name, '--unknown')
+            self.assertEqual((done.returncode, done.stdout), (2, b''))
+            self.assertRegex(done.stderr.decode(), rf'^{name}: there stands --unknown, and [^\n]*{word}[^\n]*\n$')
+
+
 class Bench(Folder):
     def test_it_compares(self) -> None:
         done = run(TOP / 'bench/run', '--rounds', '1', 'bonds', '10', 'true', 'true')

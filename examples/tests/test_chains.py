@@ -267,3 +267,9 @@ class Faults(Scripts):
         self.assertEqual(rounds_of(stream_of(encode(GENESIS + 'cut 40')), ['fault 39 short']), [])
         with self.assertRaises(Fault):
             stream_of(encode(ELECTION + 'nothing'))
+
+    def test_a_state_that_is_refused_has_no_round(self) -> None:
+        text = (EXAMPLES / 'checkpoint/open.state').read_text()
+        self.assertEqual(len(rounds_of(stream_of(encode(text)), [])), 1)
+        self.assertEqual(rounds_of(stream_of(encode(text.replace('era_blocks 6', 'era_blocks 0'))), ['fault 0 checkpoint 2 4']), [])
+        self.assertEqual(rounds_of(stream_of(encode(text)[:-1]), ['fault 500 short']), [])

@@ -1,8 +1,11 @@
 """Texts and their bytes: worked bytes, what encode refuses, what decode says of damaged bytes, and both ways of all examples."""
 import pathlib
+import shlex
+import subprocess
+import sys
 from typing import Tuple
 
-from support import EXAMPLES, TOP, Scripts, account, run
+from support import EXAMPLES, TOP, Scripts, account, environment, run
 
 from npos_text import Fault, Reader, Reading, Refusal, compact, encode
 
@@ -237,5 +240,12 @@ class Words(Scripts):
                 self.assertEqual((helped.returncode, helped.stderr), (0, b''))
                 unknown = run(path, '--unknown')
                 self.assertEqual((unknown.returncode, unknown.stdout), (2, b''))
-                self.assertIn(b'usage: ', unknown.stderr)
-                self.assertNotIn(b'Traceback', unknown.stderr)
+                said = unknown.stderr.decode()
+                self.assertTrue(said.startswith(f'{path.name}: ') and said.endswith('; --help tells how it is used\n'), said)
+                self.assertEqual(said.count('\n'), 1, said)
+
+    def test_closed_streams(self) -> None:
+        for closing, words, what in [('<&-', 'encode', 'input'), ('>&-', 'generate --seed 1 --voters 9 --seats 2', 'output')]:
+            command = f'{shlex.join([sys.executable, str(EXAMPLES)])}/{words} {closing}'
+            done = subprocess.run(['sh', '-c', command], stderr=subprocess.PIPE, env=environment())
+            self.assertEqual((done.returncode, done.stderr.decode()), (2, f'{words.split()[0]}: standard {what} is closed\n'))
