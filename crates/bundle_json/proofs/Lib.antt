@@ -1,4 +1,5 @@
 pub mod Lists
+pub mod Members
 pub mod Appending
 pub mod Figures
 pub mod Bytes

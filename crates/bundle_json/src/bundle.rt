@@ -9,7 +9,7 @@ ghost use Rattle.block_wire.specs.Bundles.{bundle_form};
 
 use crate::fault::JsonFault;
 use crate::item::{list_from, list_in, write_list};
-use crate::parts::{taken, u32_in, with_keys};
+use crate::parts::{split, u32_in, with_keys};
 use crate::work::{work_in, write_work};
 use block_wire::Bundle;
 use json::Writer;
@@ -66,8 +66,8 @@ pub fn bundle_from_json(alloc: Global, text: &[u8]) -> Result<Bundle, JsonFault>
     }
 }
 
-// The bundle that the value stands for, or none. The voters are most of it, and are read last: they
-// go as they are read.
+// The bundle that the value stands for, or none. The voters are most of it: they go as they are
+// read, and what is read behind them has their room.
 fn bundle_in(alloc: Global, value: Value) -> Result<Option<Bundle>, NoMemory>
     ensures { IfOk result (λ bundle. bundle ≡ bundle_of (view value)) }
 {
@@ -83,16 +83,17 @@ fn bundle_in(alloc: Global, value: Value) -> Result<Option<Bundle>, NoMemory>
     let Some(targets) = list_in(alloc, targets, MOST_TARGETS)? else {
         return Ok(None);
     };
-    let Some(work) = object.get("work") else {
-        return Ok(None);
-    };
-    let Some(work) = work_in(alloc, work)? else {
-        return Ok(None);
-    };
-    let Some(voters) = taken(value, "voters") else {
+    let (voters, others) = split(value, "voters");
+    let Some(voters) = voters else {
         return Ok(None);
     };
     let Some(voters) = list_from(alloc, voters, MOST_VOTERS)? else {
+        return Ok(None);
+    };
+    let Some(work) = others.get("work") else {
+        return Ok(None);
+    };
+    let Some(work) = work_in(alloc, work)? else {
         return Ok(None);
     };
     Ok(Some(Bundle {

@@ -118,7 +118,7 @@ pub(crate) fn list_from<T: Item>(
 fn each_from<T: Item>(alloc: Global, items: Vec<Value>) -> Result<Option<List<T>>, NoMemory>
     ensures { IfOk result (λ list. list ≡ each T.read (items_view items.items)) }
 {
-    let mut found = Vec::with_capacity(alloc, items.len())?;
+    let mut found = Vec::new(alloc);
     for item in items {
         let Some(value) = T::from_json(alloc, &item)? else {
             return Ok(None);

@@ -1,6 +1,6 @@
 //! The parts of a bundle in JSON that take no memory: numbers, texts, and what arrays and objects
 //! have.
-ghost use Rattle.std.specs.Prelude.{◌≡◌, option_map};
+ghost use Rattle.std.specs.Prelude.{◌≡◌, ◌≢◌, ℕ, List, option_map};
 ghost use Rattle.serde_json.specs.Find.{get};
 ghost use Rattle.serde_json.specs.View.{view};
 ghost use Rattle.bundle_json.specs.Shape.{whole_in, figure_in, account_in, with_items, with_keys, edge_in, claim_in};
@@ -80,13 +80,18 @@ pub(crate) fn with_keys(value: &Value, count: usize) -> Option<&Value>
     }
 }
 
-/// The value that an object has under the key, taken out of it.
-pub(crate) fn taken(value: Value, key: &str) -> Option<Value>
-    ensures { option_map view result ≡ get key.now (view value) }
+/// The value that an object has under the key, and the object without it.
+pub(crate) fn split(object: Value, key: &str) -> (Option<Value>, Value)
+    ensures found { option_map view result.0 ≡ get key.now (view object) }
+    ensures others { (other : List ℕ) → other ≢ key.now
+        → get other (view result.1) ≡ get other (view object) }
 {
-    match value {
-        Value::Object(mut members) => members.remove(key),
-        _ => None,
+    match object {
+        Value::Object(mut members) => {
+            let found = members.remove(key);
+            (found, Value::Object(members))
+        }
+        other => (None, other),
     }
 }
 
