@@ -167,8 +167,8 @@ fn goes_on_everywhere(alloc: Global, stream: &Stream) -> Result<bool, Fail> {
 
 #[test]
 fn streams_go_on_behind_every_block(rt: HostRuntime) -> Result<(), Fail> {
-    for stream in STREAMS {
-        assert!(rt; goes_on_everywhere(rt.alloc(), &stream)?);
+    for stream in &STREAMS {
+        assert!(rt; goes_on_everywhere(rt.alloc(), stream)?);
     }
     Ok(())
 }

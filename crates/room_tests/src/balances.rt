@@ -22,7 +22,7 @@ struct Case {
 
 /// The worked election, in which one voter fills up what the other cannot; then one whose members
 /// are not all nominated; then a voter of 24 members with ties.
-const CASES: [Case; 4] = [
+static CASES: [Case; 4] = [
     Case {
         voters: &[(60, &[0, 1]), (40, &[0])],
         members: &[0, 1],

@@ -5,7 +5,7 @@ use std::test::Fail;
 
 /// A tie that goes to the lowest, the least total, a pick that finds less than the price of a seat,
 /// and picks that draw it whole.
-const CASES: [Case; 4] = [
+static CASES: [Case; 4] = [
     Case {
         targets: 3,
         voters: &[(70, &[0, 1]), (30, &[2])],

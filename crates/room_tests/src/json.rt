@@ -6,7 +6,7 @@ use std::alloc::Global;
 use std::test::Fail;
 
 // Bundles in SCALE, and what they are shown as.
-const SHOWN: [(&[u8], &[u8]); 3] = [
+static SHOWN: [(&[u8], &[u8]); 3] = [
     // one seat, target 1, voter 2 with a stake of 5 for [0], no work
     (
         &[
@@ -38,7 +38,7 @@ const SHOWN: [(&[u8], &[u8]); 3] = [
 ];
 
 // Texts that are refused.
-const REFUSED: [(&[u8], JsonFault); 17] = [
+static REFUSED: [(&[u8], JsonFault); 17] = [
     (b"{", JsonFault::Json),
     (b"", JsonFault::Json),
     // a number that no float holds
@@ -114,7 +114,7 @@ fn read(alloc: Global, text: &[u8]) -> Result<List<u8>, JsonFault> {
 
 #[test]
 fn bundles_and_their_texts(rt: HostRuntime) -> Result<(), Fail> {
-    for (bytes, text) in SHOWN {
+    for &(bytes, text) in &SHOWN {
         let bundle = read_whole::<Bundle>(rt.alloc(), bytes)?;
         assert_eq!(rt; bundle_to_json(rt.alloc(), &bundle)?.as_slice(), text);
         assert_eq!(rt; read(rt.alloc(), text)?.as_slice(), bytes);
@@ -124,7 +124,7 @@ fn bundles_and_their_texts(rt: HostRuntime) -> Result<(), Fail> {
 
 #[test]
 fn other_texts_are_refused(rt: HostRuntime) {
-    for (text, fault) in REFUSED {
+    for &(text, fault) in &REFUSED {
         assert_eq!(rt; read(rt.alloc(), text).err(), Some(fault));
     }
 }

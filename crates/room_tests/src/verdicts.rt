@@ -20,7 +20,7 @@ struct Case {
 
 /// One for each fault, then what is left at the price of a seat, one unit below it, and a
 /// proportional committee with weights too poor to show it.
-const CASES: [Case; 12] = [
+static CASES: [Case; 12] = [
     Case {
         stakes: [60, 40],
         votes: [&[0], &[1]],
