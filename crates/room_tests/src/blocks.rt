@@ -1,5 +1,5 @@
 use block_wire::{Block, Bundle, CallKind, Endowment, Genesis, Next, Params, StreamReader, laws};
-use npos_base::{AccountId, List};
+use npos_base::{AccountId, List, NoMemory};
 use scale_wire::fault::{ReadFault, Why, WireFault};
 use scale_wire::{Pen, Wire, read_whole};
 use std::alloc::Global;
@@ -160,6 +160,33 @@ fn a_block_of_two_transfers(rt: HostRuntime) -> Result<(), Fail> {
             (1, account(1), Some((account(2), value)))
         );
     }
+    Ok(())
+}
+
+/// A block with so many withdrawals of account 1, as the stream has it.
+fn withdrawals(alloc: Global, count: u64) -> Result<List<u8>, NoMemory> {
+    let mut pen = Pen::new(alloc);
+    pen.put_bytes(&[0x01, 0x04])?;
+    pen.put_compact(count)?;
+    for _ in 0..count {
+        pen.put_account(account(1))?;
+        pen.put_u8(5)?;
+    }
+    Ok(pen.finish())
+}
+
+#[test]
+fn a_block_has_64_calls(rt: HostRuntime) -> Result<(), Fail> {
+    let most = withdrawals(rt.alloc(), 64)?;
+    let again = rewritten::<Option<Block>>(rt.alloc(), most.as_slice())?;
+    assert_eq!(rt; again.as_slice(), most.as_slice());
+    let more = withdrawals(rt.alloc(), 65)?;
+    let fault = match read_whole::<Option<Block>>(rt.alloc(), more.as_slice()) {
+        Err(ReadFault::Wire(fault)) => Some(fault),
+        _ => None,
+    };
+    let why = Why::TooMany;
+    assert_eq!(rt; fault, Some(WireFault { at: 2, why }));
     Ok(())
 }
 

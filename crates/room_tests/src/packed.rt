@@ -59,6 +59,20 @@ fn judged(
     Ok((verdict, weights.committee().len(), weights.edges().len()))
 }
 
+/// The same of bytes that are a solution, which is expanded.
+fn expanded(
+    alloc: Global,
+    checker: &mut Checker,
+    bytes: &[u8],
+) -> Result<Option<(Verdict, usize, usize)>, Fail> {
+    let mut weights = Weights::with_room(alloc, checker.snapshot())?;
+    let Ok(solution) = Solution::decode(alloc, bytes) else {
+        return Ok(None);
+    };
+    let verdict = checker.expand(&solution, &mut weights);
+    Ok(Some((verdict, weights.committee().len(), weights.edges().len())))
+}
+
 /// The right entries of both voters.
 const RIGHT: [u8; 5] = [0x08, 0x00, 0x00, 0x04, 0x04];
 
@@ -173,6 +187,9 @@ fn the_first_fault_of_bytes_is_the_verdict(rt: HostRuntime) -> Result<(), Fail> 
         let size = if verdict == Verdict::Yes { 2 } else { 0 };
         let found = judged(rt.alloc(), &mut checker, &bytes, &right_claim)?;
         assert_eq!(rt; found, (verdict, size, size));
+        let opened = expanded(rt.alloc(), &mut checker, &bytes)?;
+        let is_solution = !matches!(verdict, Verdict::Undecodable { .. });
+        assert_eq!(rt; opened, is_solution.then_some(found));
         // What was refused leaves nothing in the checker.
         let after = judged(rt.alloc(), &mut checker, &right, &right_claim)?;
         assert_eq!(rt; after, (Verdict::Yes, 2, 2));
