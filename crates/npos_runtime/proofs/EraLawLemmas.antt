@@ -1,14 +1,12 @@
 -- What eras come to over blocks: payouts within the reward, and slashes within the stake.
-use Rattle.std.proofs.Common.{◌≡◌, ◌≢◌, ◌^◌, ℕ, zero, suc, ◌+◌, ◌-◌, ◌<◌, ◌≤◌, min, Bool, true, false, cond, not, nat_eq, nat_lt, ◌==◌, List, [], ◌∷◌, ◌++◌, length, slice_get, unwrap_or, Option, Some, None, refl, ap, sym, subst, ◌∙◌, arith, if◌then◌else◌}
+use Rattle.std.proofs.Common.{◌≡◌, ◌≢◌, ◌^◌, ℕ, zero, suc, ◌+◌, ◌-◌, ◌<◌, ◌≤◌, min, Bool, true, false, cond, not, nat_eq, nat_lt, ◌==◌, List, [], ◌∷◌, length, slice_get, unwrap_or, Option, Some, None, refl, ap, sym, subst, ◌∙◌, arith, if◌then◌else◌}
 use Rattle.std.proofs.lemmas.Bool.Decides.{nat_tests}
 use Rattle.std.proofs.lemmas.List.Sums.{sum_by-cons}
-use Rattle.std.proofs.lemmas.List.Elements.{All-nil}
 use Rattle.npos_base.specs.declared.account.AccountId.{AccountId}
 use Rattle.npos_base.specs.Account.{same_account}
 use Rattle.npos_base.proofs.AccountOrder.{same_exact, same_itself}
 use Rattle.block_wire.specs.declared.genesis.Params.{Params}
 use Rattle.block_wire.specs.declared.genesis.Genesis.{Genesis}
-use Rattle.block_wire.specs.declared.genesis.Genesis.TheVariants as geneses
 use Rattle.block_wire.specs.declared.call.Call.{Call}
 use Rattle.block_wire.specs.declared.block.Block.{Block}
 use Rattle.stake_ledger.specs.declared.chunks.Chunk.{Chunk}
@@ -23,33 +21,34 @@ use Rattle.quota_fill.specs.Laws.{EveryFillPasses}
 use Rattle.era_book.specs.declared.exposure.Backer.{Backer}
 use Rattle.era_book.specs.declared.exposure.Exposure.{Exposure}
 use Rattle.era_book.specs.Exposures.{amount_sum, exposed_for}
-use Rattle.era_book.specs.Calls.{slash_in}
+use Rattle.era_book.specs.Calls.{payout_refusal, slash_in}
 use Rattle.era_book.specs.Eras.{first_era}
-use Rattle.era_book.specs.Events.{Event, Paid, AreAccepted, after_all, given_by, pays, makes_due, exposures_of}
-use Rattle.era_book.proofs.EventLemmas.{accepted_append, after_append, given_append}
-use Rattle.era_book.proofs.LawLemmas.{reward_law, due_law}
+use Rattle.era_book.specs.Events.{Event, Paid, AreAccepted, after_all, given_by, pays, makes_due, begun, exposures_of}
+use Rattle.era_book.proofs.EventLemmas.{accepted_append, after_append}
+use Rattle.era_book.proofs.LawLemmas.{due_law}
 use Rattle.npos_runtime.specs.declared.chain.Chain.{Chain}
 use Rattle.block_receipts.specs.declared.refusal.Refusal.{Refusal}
 use Rattle.chain_params.specs.Faults.{AreSound as AreSoundParams}
-use Rattle.chain_params.specs.Rules.{era_of, era_reward_of}
-use Rattle.npos_runtime.specs.Outcome.{Election}
+use Rattle.chain_params.specs.Rules.{era_reward_of}
 use Rattle.npos_runtime.specs.Offices.{payout_now, all_minted, slashed_once, slashes, slashing_rule, deferring_rule}
 use Rattle.npos_runtime.specs.CallRule.{CallRule}
 use Rattle.npos_runtime.specs.Calls.{rule_of, rule_for}
 use Rattle.npos_runtime.specs.Step.{before_calls, call_after, call_outcome, step, after_blocks, seated_by}
 use Rattle.npos_runtime.specs.Genesis.{params_of, genesis_chain}
-use Rattle.npos_runtime.specs.Live.{IsLive, IsBetweenBlocks}
+use Rattle.npos_runtime.specs.Live.{IsLive, IsBetweenBlocks, AreInCourse}
+use Rattle.npos_runtime.specs.Sound.{IsSoundWaiting}
 use Rattle.npos_runtime.specs.History.{CanTake, IsHistory}
-use Rattle.npos_runtime.specs.EraLaws.{event_of, events_at, events_in, events_by, HistoryLaw, over_calls, over_blocks, paid_for, paid_by, paid_in, PaidWithinRewardLaw, chain_at, PaidAsToldLaw, bonded, IsTaken, AreTaken, SlashLaw, taken_for, taken_by, due_by, due_in, TakenLaw, elected_for, stake_behind, DueWithinStakeLaw}
+use Rattle.npos_runtime.specs.EraLaws.{event_of, events_at, events_in, events_by, HistoryLaw, over_calls, over_blocks, paid_for, paid_by, PaidOnLaw, PaidWithinRewardLaw, chain_at, ToldOnLaw, PaidAsToldLaw, bonded, IsTaken, AreTaken, SlashLaw, taken_for, taken_by, due_by, due_in, TakenLaw, elected_for, stake_behind, awaited_for, elections_from, DuesOnLaw, DueWithinStakeLaw}
 use Rattle.npos_runtime.proofs.RuleLemmas.{FollowsEvents}
 use Rattle.npos_runtime.proofs.OfficeCallLemmas.{slashed_live, told_payout, payout_free}
 use Rattle.npos_runtime.proofs.CallTable.{lawful_call}
 use Rattle.npos_runtime.proofs.WaitingLemmas.{sound_waiting}
-use Rattle.npos_runtime.proofs.LiveLemmas.{can_before, live_before, live_calls, live_blocks, due_step}
-use Rattle.npos_runtime.proofs.BeginLemmas.{live_begun, start_law}
+use Rattle.npos_runtime.proofs.CourseLemmas.{paid_on, due_on}
+use Rattle.npos_runtime.proofs.LiveLemmas.{can_before, can_calls, live_before, live_calls, live_blocks, due_step}
+use Rattle.npos_runtime.proofs.BeginLemmas.{start_law}
 use Rattle.npos_runtime.proofs.OfficeLemmas.{payout_sums}
-use Rattle.chain_params.proofs.PhaseLemmas.{era_first}
 use Rattle.npos_runtime.proofs.HistoryLemmas.{accepted_block, eras_block, sum_blocks}
+use Rattle.npos_runtime.proofs.AwaitedLemmas.{awaited_between}
 use Rattle.npos_runtime.proofs.StoryLemmas.{IsStory, story_blocks, plain_begun}
 use Rattle.npos_runtime.proofs.TimeLemmas.{between_step, between_blocks}
 
@@ -171,10 +170,6 @@ slash_law chain blocks calls can who era validator fraction none free =
     (if b then slashing_rule now era validator fraction else deferring_rule now era validator fraction).done.book) (sym at_once)
     (taken_each (slash_in now.eras era validator fraction) now (live_at chain blocks calls can))
 
-no_exposure : (who : AccountId) (era : ℕ) → exposed_for who (unwrap_or (slice_get ([] ∷ []) era) []) ≡ 0
-no_exposure who zero = refl
-no_exposure who (suc era) = refl
-
 -- ## From any chain on
 
 eras_blocks : (chain : Chain) (blocks : List Block) → after_all (events_by chain blocks) chain.eras ≡ (after_blocks chain blocks).eras
@@ -201,129 +196,105 @@ accepted_blocks chain (block ∷ more) rests fit =
 pub history_law : HistoryLaw
 history_law chain blocks can = (accepted_blocks chain blocks can.between can.fit, eras_blocks chain blocks)
 
-accepted_from : (genesis : Genesis) (blocks : List Block) → IsHistory genesis blocks
-    → AreAccepted (events_by (genesis_chain genesis) blocks) first_era
-accepted_from genesis blocks history = (history_law (genesis_chain genesis) blocks (start_law genesis blocks history)).0
+-- the eras are in course in the midst of a block
+course_at : (chain : Chain) (blocks : List Block) (calls : List Call) → CanTake chain blocks → AreInCourse (chain_at chain blocks calls).eras
+course_at chain blocks calls can =
+    let last : Chain = after_blocks chain blocks in
+    let rests : IsBetweenBlocks last = between_blocks chain blocks can.between can.fit in
+    let sound = sound_waiting last.waiting rests.elected rests.live.waiting in
+    (can_calls 0 calls (before_calls last) (can_before last rests.live rests.era sound rests.slashes)).order
 
--- ## From the genesis on
+-- ## Payouts
+
+pub paid_on_law : PaidOnLaw
+paid_on_law chain blocks era can =
+    let reward : ℕ = era_reward_of chain.params in
+    let events : List Event = events_by chain blocks in
+    let sum : over_blocks (paid_by era) chain blocks ≡ given_by (pays era reward) events chain.eras =
+    sum_blocks chain.params (paid_by era) (pays era reward) (paid_call era chain.params) (λ exposures eras. refl) (λ eras. refl) chain blocks refl in
+    omega (arith, sum, paid_on era reward events chain.eras (accepted_blocks chain blocks can.between can.fit) can.between.slashes.order)
+
+pub rewards_law : PaidWithinRewardLaw
+rewards_law genesis blocks era history = paid_on_law (genesis_chain genesis) blocks era (start_law genesis blocks history)
+
+minted_all : (lines_of : List Backer) (book : Ledger) → (all_minted lines_of book).minted ≡ book.minted + amount_sum lines_of
+minted_all [] book = omega arith
+minted_all (line ∷ more) book = omega (arith, minted_all more (minted_free line.who line.amount book), sum_by-cons (λ (l : Backer). l.amount) line more)
+
+-- one payout alone
+payout_within : (chain : Chain) (era : ℕ) (validator : AccountId) → AreInCourse chain.eras → payout_refusal chain.eras era validator ≡ None
+    → (payout_now chain era validator).total ≤ era_reward_of chain.params
+payout_within chain era validator course free =
+    let reward : ℕ = era_reward_of chain.params in
+    let total : ℕ = (payout_now chain era validator).total in
+    let itself : nat_eq era era ≡ true = grind (arith, nat_tests) in
+    let own : cond (nat_eq era era) total 0 ≡ total = ap (λ b. cond b total 0) itself in
+    omega (arith, own, paid_on era reward (Paid era validator ∷ []) chain.eras (free, tt) course)
+
+pub told_on_law : ToldOnLaw
+unfolding rule_of
+told_on_law first blocks calls can who era validator free =
+    let chain : Chain = chain_at first blocks calls in
+    record {
+      told = told_payout chain era validator;
+      minted = minted_all (payout_now chain era validator).lines chain.book
+          ∙ ap (λ n. chain.book.minted + n) (sym (payout_sums chain.eras era validator (era_reward_of chain.params)));
+      within = payout_within chain era validator (course_at first blocks calls can) (payout_free chain era validator free);
+    }
+
+pub payout_law : PaidAsToldLaw
+payout_law genesis blocks calls history = told_on_law (genesis_chain genesis) blocks calls (start_law genesis blocks history)
+
+-- ## Dues
 
 module _ (packed : PackedYesIsAccepting) (plain : PlainYesIsPassing) (fill : EveryFillPasses) where
-  -- the story of a genesis with params
-  full_story : (genesis : Genesis) (params : Params) (blocks : List Block) → params_of genesis ≡ Some params → IsHistory genesis blocks
-      → IsStory params (after_blocks (genesis_chain genesis) blocks) (seated_by (genesis_chain genesis) blocks) (events_by (genesis_chain genesis) blocks)
-  full_story genesis params blocks are history =
-      let first : Chain = genesis_chain genesis in
-      let live : IsLive first = live_begun genesis history.faultless in
-      story_blocks params packed plain fill (subst AreSoundParams are live.params) first blocks [] [] live history.fit (record {
-        between = record {
-          params_are = are;
-          timely = tt;
-          waits = tt;
-          latest = All-nil (λ (e : Election). e.round ≤ era_of (Some params) 1 + 1);
-          earlier = λ before. All-nil (λ (e : Election). e.round ≤ era_of (Some params) 1);
-        };
-        current = sym (era_first (params_of genesis));
-        count = refl;
-        covered = λ who k. omega (arith, no_exposure who k);
-      })
+  -- what is exposed in an era that begins behind a chain is within the stakes of its election
+  covered_on : (chain : Chain) (blocks : List Block) (who : AccountId) (k : ℕ) → CanTake chain blocks → IsSoundWaiting chain chain.waiting
+      → exposed_for who (unwrap_or (slice_get (begun (events_by chain blocks)) k) []) ≤ stake_behind who (elected_for (chain.eras.current + 1 + k) (elections_from chain blocks))
+  covered_on chain blocks who k can waits = at chain.params refl where
+    at : (params : Option Params) → chain.params ≡ params
+        → exposed_for who (unwrap_or (slice_get (begun (events_by chain blocks)) k) []) ≤ stake_behind who (elected_for (chain.eras.current + 1 + k) (elections_from chain blocks))
+    at None none =
+        let nobody : exposed_for who (unwrap_or (slice_get (begun (events_by chain blocks)) k) []) ≡ 0 =
+        ap (λ (es : List (List Exposure)). exposed_for who (unwrap_or (slice_get es k) [])) (plain_begun chain blocks none) in
+        omega (arith, nobody)
+    at (Some params) are =
+        let sound = subst AreSoundParams are can.between.live.params in
+        let start : IsStory params chain.eras.current chain (awaited_for (chain.eras.current + 1) chain.waiting) [] = record {
+          between = awaited_between params sound chain are can.between waits;
+          current = can.between.era;
+          count = omega arith;
+          covered = λ other later. omega arith;
+        } in
+        (story_blocks params packed plain fill sound chain.eras.current chain blocks (awaited_for (chain.eras.current + 1) chain.waiting) []
+        can.between.live can.fit start).covered who k
 
-  pub rewards_law : PaidWithinRewardLaw
-  rewards_law genesis blocks era history =
-      let params : Option Params = params_of genesis in
-      let sum : paid_in era genesis blocks ≡ given_by (pays era (era_reward_of params)) (events_by (genesis_chain genesis) blocks) first_era =
-      sum_blocks params (paid_by era) (pays era (era_reward_of params)) (paid_call era params) (λ exposures eras. refl) (λ eras. refl)
-      (genesis_chain genesis) blocks refl in
+  pub dues_on_law : DuesOnLaw
+  dues_on_law chain blocks era who can waits ahead =
+      let events : List Event = events_by chain blocks in
+      let sum : over_blocks (due_by era who) chain blocks ≡ given_by (makes_due era who) events chain.eras =
+      sum_blocks chain.params (due_by era who) (makes_due era who) (λ index call other is. refl) (λ exposures eras. refl) (λ eras. refl) chain blocks refl in
+      let place : chain.eras.current + 1 + (era - (chain.eras.current + 1)) ≡ era = omega (arith, ahead) in
       omega (
         arith,
         sum,
-        reward_law era (era_reward_of params) (events_by (genesis_chain genesis) blocks)
-            (accepted_from genesis blocks history),
+        due_on era who events chain.eras (accepted_blocks chain blocks can.between can.fit) can.between.slashes.order ahead,
+        covered_on chain blocks who (era - (chain.eras.current + 1)) can waits,
+        ap (λ n. stake_behind who (elected_for n (elections_from chain blocks))) place,
       )
 
-  covered_from : (genesis : Genesis) (blocks : List Block) (era : ℕ) (who : AccountId) → IsHistory genesis blocks
-      → exposed_for who (exposures_of era (events_by (genesis_chain genesis) blocks)) ≤ stake_behind who (elected_for era (seated_by (genesis_chain genesis) blocks))
-  covered_from (geneses.Plain endowments) blocks era who history =
-      let none : exposed_for who (exposures_of era (events_by (genesis_chain (geneses.Plain endowments)) blocks)) ≡ 0 =
-      ap (λ (es : List (List Exposure)). exposed_for who (unwrap_or (slice_get ([] ∷ es) era) [])) (plain_begun (genesis_chain (geneses.Plain endowments)) blocks refl) ∙ no_exposure who era in
-      omega (arith, none)
-  covered_from (geneses.Full endowments params) blocks era who history =
-      (full_story (geneses.Full endowments params) params blocks refl history).covered who era
-  covered_from (geneses.Deferred endowments params defer_eras) blocks era who history =
-      (full_story (geneses.Deferred endowments params defer_eras) params blocks refl history).covered who era
+  -- nobody is exposed in the first era
+  none_first : (genesis : Genesis) (blocks : List Block) (who : AccountId) → IsHistory genesis blocks → due_in 0 who genesis blocks ≡ 0
+  none_first genesis blocks who history =
+      let first : Chain = genesis_chain genesis in
+      let can : CanTake first blocks = start_law genesis blocks history in
+      let events : List Event = events_by first blocks in
+      let sum : due_in 0 who genesis blocks ≡ given_by (makes_due 0 who) events first_era =
+      sum_blocks (params_of genesis) (due_by 0 who) (makes_due 0 who) (λ index call chain is. refl) (λ exposures eras. refl) (λ eras. refl) first blocks refl in
+      let none : exposed_for who (exposures_of 0 events) ≡ 0 = refl in
+      omega (arith, sum, none, due_law 0 who events (accepted_blocks first blocks can.between can.fit))
 
   pub dues_law : DueWithinStakeLaw
-  dues_law genesis blocks era who history =
-      let events : List Event = events_by (genesis_chain genesis) blocks in
-      let sum : due_in era who genesis blocks ≡ given_by (makes_due era who) events first_era =
-      sum_blocks (params_of genesis) (due_by era who) (makes_due era who) (λ index call chain is. refl) (λ exposures eras. refl) (λ eras. refl)
-      (genesis_chain genesis) blocks refl in
-      omega (arith, sum, due_law era who events (accepted_from genesis blocks history), covered_from genesis blocks era who history)
-
-  -- ## One payout
-
-  -- the block up to these calls
-  abbrev cut : List Call → Block
-  cut calls = record { number = 0; calls = calls }
-
-  accepted_block_from : (genesis : Genesis) (blocks : List Block) (calls : List Call) → IsHistory genesis blocks
-      → AreAccepted (events_by (genesis_chain genesis) blocks ++ events_in (after_blocks (genesis_chain genesis) blocks) (cut calls)) first_era
-  accepted_block_from genesis blocks calls history =
-      let first : Chain = genesis_chain genesis in
-      let last : Chain = after_blocks first blocks in
-      accepted_append (events_by first blocks) (events_in last (cut calls)) first_era (accepted_from genesis blocks history)
-      (subst (AreAccepted (events_in last (cut calls))) (sym (eras_blocks first blocks))
-      (accepted_next last (cut calls) (between_blocks first blocks (start_law genesis blocks history).between history.fit)))
-
-  minted_all : (lines_of : List Backer) (book : Ledger) → (all_minted lines_of book).minted ≡ book.minted + amount_sum lines_of
-  minted_all [] book = omega arith
-  minted_all (line ∷ more) book = omega (arith, minted_all more (minted_free line.who line.amount book), sum_by-cons (λ (l : Backer). l.amount) line more)
-
-  pub payout_law : PaidAsToldLaw
-  unfolding rule_of
-  payout_law genesis blocks calls history who era validator free = record {
-    told = told_payout chain era validator;
-    minted = minted_all (payout_now chain era validator).lines chain.book
-        ∙ ap (λ n. chain.book.minted + n) (sym (payout_sums chain.eras era validator (era_reward_of chain.params)));
-    within = within;
-  } where
-    first : Chain
-    first = genesis_chain genesis
-
-    before : Chain
-    before = after_blocks (genesis_chain genesis) blocks
-
-    chain : Chain
-    chain = chain_at (genesis_chain genesis) blocks calls
-
-    reward : ℕ
-    reward = era_reward_of (chain_at (genesis_chain genesis) blocks calls).params
-
-    events : List Event
-    events = events_by (genesis_chain genesis) blocks ++ events_in (after_blocks (genesis_chain genesis) blocks) (cut calls)
-
-    eras_are : after_all events first_era ≡ chain.eras
-    eras_are =
-        after_append (events_by first blocks) (events_in before (cut calls)) first_era
-        ∙ ap (after_all (events_in before (cut calls))) (eras_blocks first blocks)
-        ∙ eras_block before (cut calls)
-
-    accepted : AreAccepted (events ++ Paid era validator ∷ []) first_era
-    accepted =
-        accepted_append events (Paid era validator ∷ []) first_era (accepted_block_from genesis blocks calls history)
-        (subst (AreAccepted (Paid era validator ∷ [])) (sym eras_are) (payout_free chain era validator free, tt))
-
-    itself : (n : ℕ) → cond (nat_eq era era) n 0 ≡ n
-    itself n = let same : nat_eq era era ≡ true = grind (arith, nat_tests) in ap (λ b. cond b n 0) same
-
-    last : given_by (pays era reward) (Paid era validator ∷ []) chain.eras ≡ (payout_now chain era validator).total
-    last = omega (arith, itself (payout_now chain era validator).total)
-
-    within : (payout_now chain era validator).total ≤ era_reward_of chain.params
-    within =
-        omega (
-          arith,
-          reward_law era reward (events ++ Paid era validator ∷ []) accepted,
-          given_append (pays era reward) events (Paid era validator ∷ []) first_era,
-          ap (given_by (pays era reward) (Paid era validator ∷ [])) eras_are,
-          last,
-        )
+  dues_law genesis blocks zero who history = omega (arith, none_first genesis blocks who history)
+  dues_law genesis blocks (suc era) who history =
+      dues_on_law (genesis_chain genesis) blocks (suc era) who (start_law genesis blocks history) tt (omega arith)

@@ -51,6 +51,7 @@ pub mod SeatingsLemmas
 pub mod HistoryLemmas
 pub mod ElectedLemmas
 pub mod SeatedLemmas
+pub mod AwaitedLemmas
 pub mod StoryLemmas
 pub mod OnceLemmas
 pub mod EraLawLemmas

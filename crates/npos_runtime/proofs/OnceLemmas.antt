@@ -1,5 +1,5 @@
 -- Each round is decided once: what blocks seat from any chain on has rising rounds.
-use Rattle.std.proofs.Common.{◌≡◌, ◌⊎◌, inl, inr, ℕ, ◌+◌, ◌≤◌, ◌<◌, ◌^◌, Bool, true, false, nat_lt, ◌==◌, List, [], ◌∷◌, ◌++◌, length, Option, Some, None, refl, sym, ◌∙◌, ap, subst, arith, if◌then◌else◌}
+use Rattle.std.proofs.Common.{◌≡◌, ◌⊎◌, inl, inr, ℕ, ◌+◌, ◌-◌, ◌≤◌, ◌<◌, ◌^◌, Bool, true, false, nat_lt, ◌==◌, List, [], ◌∷◌, ◌++◌, length, Option, Some, None, refl, sym, ◌∙◌, ap, subst, arith, if◌then◌else◌}
 use Rattle.std.specs.List.{IsDistinct, AllByRecursion}
 use Rattle.std.proofs.lemmas.Bool.Decides.{nat_tests}
 use Rattle.block_wire.specs.declared.genesis.Params.{Params}
@@ -14,7 +14,11 @@ use Rattle.npos_runtime.specs.Deciding.{decision_of}
 use Rattle.npos_runtime.specs.Outcome.{Election, Outcome, quiet}
 use Rattle.npos_runtime.specs.Step.{step, seated_by}
 use Rattle.npos_runtime.specs.Live.{IsBetweenBlocks, IsInTime}
-use Rattle.npos_runtime.specs.EraLaws.{OnceLaw}
+use Rattle.npos_runtime.specs.Committee.{Committee}
+use Rattle.npos_runtime.specs.History.{CanTake}
+use Rattle.npos_runtime.specs.Sound.{IsDecided, IsSoundWaiting}
+use Rattle.npos_runtime.specs.EraLaws.{OnceLaw, awaited_for, OnceOnLaw}
+use Rattle.npos_runtime.proofs.AwaitedLemmas.{IsPast, current_is, decided_is}
 use Rattle.npos_runtime.proofs.LiveLemmas.{due_step, params_step}
 use Rattle.npos_runtime.proofs.LawLemmas.{undecided, seats_step, decides}
 use Rattle.npos_runtime.proofs.SeatedLemmas.{same_round}
@@ -184,3 +188,39 @@ once_law chain blocks can = at chain.params refl where
   at : (params : Option Params) → chain.params ≡ params → IsDistinct same_round (seated_by chain blocks)
   at None none = subst (λ (elections : List Election). IsDistinct same_round elections) (sym (plain_seated chain blocks none)) tt
   at (Some params) are = (rounds_rise params (subst AreSound are can.between.live.params) chain blocks can.between are can.fit).1
+
+-- ## Who waits
+
+-- whatever is decided behind who waits is of a later era
+later : (params : Params) (sound : params_fault params ≡ None) (due current : ℕ) → IsPast params sound (due - 1) due → current ≡ era_of (Some params) (due - 1)
+    → current + 1 + 1 ≤ next_round params sound due
+later params sound due current past is = at (nat_lt (last_place params sound) (place_of params due)) refl where
+  at : (b : Bool) → nat_lt (last_place params sound) (place_of params due) ≡ b → current + 1 + 1 ≤ next_round params sound due
+  at true e =
+      let over : last_place params sound < place_of params due = grind (arith, nat_tests) in
+      omega (arith, late params sound due over, past.0, is)
+  at false e =
+      let within : place_of params due ≤ last_place params sound = grind (arith, nat_tests) in
+      omega (arith, early params sound due within, past.1 (omega (arith, within)), is)
+
+module _ (chain : Chain) (blocks : List Block) (can : CanTake chain blocks) where
+  abbrev all_once : Option Committee → Type 0
+  all_once waiting = IsDistinct same_round (awaited_for (chain.eras.current + 1) waiting ++ seated_by chain blocks)
+
+  once_on : (params : Option Params) → chain.params ≡ params → (waiting : Option Committee) → IsSoundWaiting chain waiting → all_once waiting
+  unfolding IsDistinct
+  once_on params are None waits = once_law chain blocks can
+  once_on None are (Some committee) waits = absurd (subst (λ (ps : Option Params). IsDecided ps chain.due) are waits.decided)
+  once_on (Some params) are (Some committee) waits =
+      let sound = subst AreSound are can.between.live.params in
+      let past = decided_is params sound chain are can.between committee waits in
+      let rest = rounds_rise params sound chain blocks can.between are can.fit in
+      let behind : chain.eras.current + 1 + 1 ≤ next_round params sound chain.due =
+      later params sound chain.due chain.eras.current past (current_is params sound chain are can.between) in (
+        apart_from (chain.eras.current + 1) (record { round = chain.eras.current + 1; snapshot = committee.snapshot; weights = committee.weights }) refl
+            (seated_by chain blocks) (from_less (chain.eras.current + 1 + 1) (next_round params sound chain.due) behind (seated_by chain blocks) rest.0),
+        rest.1,
+      )
+
+pub once_on_law : OnceOnLaw
+once_on_law chain blocks can waits = once_on chain blocks can chain.params refl chain.waiting waits

@@ -50,7 +50,7 @@ none_later era (e ∷ es) within =
     let apart : (e.round == era + 1) ≡ false = grind (arith, nat_tests) in
     ap (λ b. cond b (Some e) (elected_for (era + 1) es)) apart ∙ none_later era es (All-tail (λ (election : Election). election.round ≤ era) e es within)
 
-found_last : (era : ℕ) (seated : List Election) (election : Election) → All (λ other. other.round ≤ era) seated → election.round ≡ era + 1
+pub found_last : (era : ℕ) (seated : List Election) (election : Election) → All (λ other. other.round ≤ era) seated → election.round ≡ era + 1
     → elected_for (era + 1) (seated ++ election ∷ []) ≡ Some election
 found_last era seated election within is =
     let same : (election.round == era + 1) ≡ true = grind (arith, nat_tests) in
@@ -89,7 +89,7 @@ module _ (params : Params) where
   end_place = params.offset + params.signed
 
   -- an open round is the current one, from one place of its era to before another
-  abbrev IsTimely : ℕ → ℕ → ℕ → Option Round → Type 0
+  abbrev pub IsTimely : ℕ → ℕ → ℕ → Option Round → Type 0
   IsTimely low high due (Some (rounds.Open number snapshot commissions)) = (number ≡ era due + 1) × (low ≤ place due) × (place due < high)
   IsTimely low high due (Some (rounds.Void number)) = Unit {0}
   IsTimely low high due None = Unit {0}

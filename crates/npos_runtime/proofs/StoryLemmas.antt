@@ -1,4 +1,4 @@
--- The eras, the elections and the events of blocks together, from a genesis on.
+-- The eras, the elections and the events of blocks together, from any chain on.
 use Rattle.std.proofs.Common.{◌≡◌, ℕ, zero, suc, ◌+◌, ◌-◌, ◌≤◌, ◌^◌, ◌==◌, List, [], ◌∷◌, ◌++◌, length, slice_get, unwrap_or, Option, Some, None, refl, ap, sym, subst, ◌∙◌, arith, if◌then◌else◌}
 use Rattle.std.specs.Option.{option_or}
 use Rattle.std.proofs.lemmas.List.{append-nil, append_assoc, length-append}
@@ -47,19 +47,17 @@ later_stake who era seated more =
       at None = omega arith
       at (Some election) = omega arith
 
--- nobody is exposed in an era beyond the stake with which it voted for it
-abbrev pub IsCovered : List (List Exposure) → List Election → Type 0
-IsCovered begun seated = (who : AccountId) (k : ℕ) → exposed_for who (unwrap_or (slice_get ([] ∷ begun) k) []) ≤ stake_behind who (elected_for k seated)
+-- nobody is exposed in an era that begins behind the first one beyond the stake with which it voted for it
+abbrev pub IsCovered : ℕ → List (List Exposure) → List Election → Type 0
+IsCovered first begun seated = (who : AccountId) (k : ℕ) → exposed_for who (unwrap_or (slice_get begun k) []) ≤ stake_behind who (elected_for (first + 1 + k) seated)
 
-covered_later : (begun : List (List Exposure)) (seated more : List Election) → IsCovered begun seated → IsCovered begun (seated ++ more)
-covered_later begun seated more covered who k = omega (arith, covered who k, later_stake who k seated more)
+covered_later : (first : ℕ) (begun : List (List Exposure)) (seated more : List Election) → IsCovered first begun seated → IsCovered first begun (seated ++ more)
+covered_later first begun seated more covered who k = omega (arith, covered who k, later_stake who (first + 1 + k) seated more)
 
-covered_start : (begun : List (List Exposure)) (seated : List Election) (exposures : List Exposure) → IsCovered begun seated
-    → ((who : AccountId) → exposed_for who exposures ≤ stake_behind who (elected_for (length begun + 1) seated)) → IsCovered (begun ++ exposures ∷ []) seated
-covered_start begun seated exposures covered here who =
-    each_place (λ k es. exposed_for who es ≤ stake_behind who (elected_for k seated)) [] ([] ∷ begun) exposures (covered who) (at_end (suc (length begun)) (omega arith)) where
-      at_end : (k : ℕ) → k ≡ length begun + 1 → exposed_for who exposures ≤ stake_behind who (elected_for k seated)
-      at_end k is = subst (λ n. exposed_for who exposures ≤ stake_behind who (elected_for n seated)) (sym is) (here who)
+covered_start : (first : ℕ) (begun : List (List Exposure)) (seated : List Election) (exposures : List Exposure) → IsCovered first begun seated
+    → ((who : AccountId) → exposed_for who exposures ≤ stake_behind who (elected_for (first + 1 + length begun) seated)) → IsCovered first (begun ++ exposures ∷ []) seated
+covered_start first begun seated exposures covered here who =
+    each_place (λ k es. exposed_for who es ≤ stake_behind who (elected_for (first + 1 + k) seated)) [] begun exposures (covered who) (here who)
 
 -- slashes that are taken begin no era
 no_begin : (count : ℕ) → begun (takings count) ≡ []
@@ -69,58 +67,60 @@ no_begin (suc more) = no_begin more
 -- ## One block after the other
 
 module _ (params : Params) where
-  -- a chain before a block, the elections that were seated, and the events that led there
-  pub record IsStory (chain : Chain) (seated : List Election) (events : List Event) : Type 0 where
+  -- a chain before a block, the elections since the first era, and the events that led there from it
+  pub record IsStory (first : ℕ) (chain : Chain) (seated : List Election) (events : List Event) : Type 0 where
     pub between : IsBetween params chain seated
     pub current : chain.eras.current ≡ era_of chain.params (chain.due - 1)
-    pub count : length (begun events) ≡ chain.eras.current
-    pub covered : IsCovered (begun events) seated
+    pub count : first + length (begun events) ≡ chain.eras.current
+    pub covered : IsCovered first (begun events) seated
 
-  module _ (packed : PackedYesIsAccepting) (plain : PlainYesIsPassing) (fill : EveryFillPasses) (sound : params_fault params ≡ None) where
+  module _ (packed : PackedYesIsAccepting) (plain : PlainYesIsPassing) (fill : EveryFillPasses) (sound : params_fault params ≡ None) (first : ℕ) where
     -- the eras that began up to the end of the block
     begun_after : (chain : Chain) (block : Block) (events : List Event)
         → begun (events ++ events_in chain block) ≡ begun events ++ begun (started_by chain.waiting chain.eras.queue (begun_era chain.params chain.due))
     begun_after chain block events = begun_append events (events_in chain block) ∙ ap (λ (es : List (List Exposure)). begun events ++ es) (begun_block chain block)
 
-    started_count : (waiting : Option Committee) (eras : Eras) (slashes : List DeferredSlash) (era : Option ℕ) (begun_before : List (List Exposure)) → length begun_before ≡ eras.current
-        → length (begun_before ++ begun (started_by waiting slashes era)) ≡ (eras_after eras waiting era).current
-    started_count waiting eras slashes None begun_before is = ap length (append-nil begun_before) ∙ is
+    started_count : (waiting : Option Committee) (eras : Eras) (slashes : List DeferredSlash) (era : Option ℕ) (begun_before : List (List Exposure)) → first + length begun_before ≡ eras.current
+        → first + length (begun_before ++ begun (started_by waiting slashes era)) ≡ (eras_after eras waiting era).current
+    started_count waiting eras slashes None begun_before is = omega (arith, ap length (append-nil begun_before), is)
     started_count waiting eras slashes (Some era) begun_before is =
         omega (arith, length-append begun_before (exposed waiting ∷ begun (takings (length slashes))), ap length (no_begin (length slashes)), is)
 
-    started_covered : (waiting : Option Committee) (slashes : List DeferredSlash) (era : Option ℕ) (begun_before : List (List Exposure)) (seated : List Election) → IsCovered begun_before seated
-        → ((who : AccountId) → exposed_for who (exposed waiting) ≤ stake_behind who (elected_for (length begun_before + 1) seated))
-        → IsCovered (begun_before ++ begun (started_by waiting slashes era)) seated
-    started_covered waiting slashes None begun_before seated covered here = subst (λ (es : List (List Exposure)). IsCovered es seated) (sym (append-nil begun_before)) covered
+    started_covered : (waiting : Option Committee) (slashes : List DeferredSlash) (era : Option ℕ) (begun_before : List (List Exposure)) (seated : List Election) → IsCovered first begun_before seated
+        → ((who : AccountId) → exposed_for who (exposed waiting) ≤ stake_behind who (elected_for (first + 1 + length begun_before) seated))
+        → IsCovered first (begun_before ++ begun (started_by waiting slashes era)) seated
+    started_covered waiting slashes None begun_before seated covered here = subst (λ (es : List (List Exposure)). IsCovered first es seated) (sym (append-nil begun_before)) covered
     started_covered waiting slashes (Some era) begun_before seated covered here =
-        subst (λ (es : List (List Exposure)). IsCovered (begun_before ++ exposed waiting ∷ es) seated) (sym (no_begin (length slashes)))
-        (covered_start begun_before seated (exposed waiting) covered here)
+        subst (λ (es : List (List Exposure)). IsCovered first (begun_before ++ exposed waiting ∷ es) seated) (sym (no_begin (length slashes)))
+        (covered_start first begun_before seated (exposed waiting) covered here)
 
-    story_step : (chain : Chain) (block : Block) (seated : List Election) (events : List Event) → IsLive chain → IsStory chain seated events
-        → IsStory (step chain block).state (seated ++ (step chain block).seated) (events ++ events_in chain block)
+    story_step : (chain : Chain) (block : Block) (seated : List Election) (events : List Event) → IsLive chain → IsStory first chain seated events
+        → IsStory first (step chain block).state (seated ++ (step chain block).seated) (events ++ events_in chain block)
     story_step chain block seated events live h =
         let starts : Option ℕ = begun_era chain.params chain.due in
-        let wait : (who : AccountId) → exposed_for who (exposed chain.waiting) ≤ stake_behind who (elected_for (length (begun events) + 1) seated) =
-        λ who. subst (λ n. exposed_for who (exposed chain.waiting) ≤ stake_behind who (elected_for (n + 1) seated)) (sym h.count)
+        let next : chain.eras.current + 1 ≡ first + 1 + length (begun events) = omega (arith, h.count) in
+        let wait : (who : AccountId) → exposed_for who (exposed chain.waiting) ≤ stake_behind who (elected_for (first + 1 + length (begun events)) seated) =
+        λ who. subst (λ n. exposed_for who (exposed chain.waiting) ≤ stake_behind who (elected_for n seated)) next
         (waiting_within chain.waiting (elected_for (chain.eras.current + 1) seated) who h.between.waits live.waiting) in
         record {
           between = seated_step params packed plain fill chain block seated sound live h.current h.between;
           current = era_step chain block live h.current;
-          count = ap length (begun_after chain block events)
+          count = ap (λ (es : List (List Exposure)). first + length es) (begun_after chain block events)
               ∙ started_count chain.waiting chain.eras chain.eras.queue starts (begun events) h.count
               ∙ sym ((fixed_calls 0 block.calls (before_calls chain)).era ∙ ap (λ (eras : Eras). eras.current) (eras_before chain));
-          covered = subst (λ (es : List (List Exposure)). IsCovered es (seated ++ (step chain block).seated)) (sym (begun_after chain block events))
-              (covered_later (begun events ++ begun (started_by chain.waiting chain.eras.queue starts)) seated (step chain block).seated (started_covered chain.waiting chain.eras.queue starts (begun events) seated h.covered wait));
+          covered = subst (λ (es : List (List Exposure)). IsCovered first es (seated ++ (step chain block).seated)) (sym (begun_after chain block events))
+              (covered_later first (begun events ++ begun (started_by chain.waiting chain.eras.queue starts)) seated (step chain block).seated
+              (started_covered chain.waiting chain.eras.queue starts (begun events) seated h.covered wait));
         }
 
-    pub story_blocks : (chain : Chain) (blocks : List Block) (seated : List Election) (events : List Event) → IsLive chain → chain.due + length blocks ≤ 2 ^ 32 → IsStory chain seated events
-        → IsStory (after_blocks chain blocks) (seated ++ seated_by chain blocks) (events ++ events_by chain blocks)
+    pub story_blocks : (chain : Chain) (blocks : List Block) (seated : List Election) (events : List Event) → IsLive chain → chain.due + length blocks ≤ 2 ^ 32 → IsStory first chain seated events
+        → IsStory first (after_blocks chain blocks) (seated ++ seated_by chain blocks) (events ++ events_by chain blocks)
     story_blocks chain [] seated events live fit h =
-        subst (λ (elections : List Election). IsStory chain elections (events ++ [])) (sym (append-nil seated)) (subst (λ (es : List Event). IsStory chain seated es) (sym (append-nil events)) h)
+        subst (λ (elections : List Election). IsStory first chain elections (events ++ [])) (sym (append-nil seated)) (subst (λ (es : List Event). IsStory first chain seated es) (sym (append-nil events)) h)
     story_blocks chain (block ∷ more) seated events live fit h =
         let next : Chain = (step chain block).state in
-        subst (λ (elections : List Election). IsStory (after_blocks next more) elections (events ++ (events_in chain block ++ events_by next more))) (append_assoc seated (step chain block).seated (seated_by next more))
-        (subst (λ (es : List Event). IsStory (after_blocks next more) ((seated ++ (step chain block).seated) ++ seated_by next more) es) (append_assoc events (events_in chain block) (events_by next more))
+        subst (λ (elections : List Election). IsStory first (after_blocks next more) elections (events ++ (events_in chain block ++ events_by next more))) (append_assoc seated (step chain block).seated (seated_by next more))
+        (subst (λ (es : List Event). IsStory first (after_blocks next more) ((seated ++ (step chain block).seated) ++ seated_by next more) es) (append_assoc events (events_in chain block) (events_by next more))
         (story_blocks next more (seated ++ (step chain block).seated) (events ++ events_in chain block) (live_step chain block live (omega (arith, fit))) (omega (arith, fit, due_step chain block))
         (story_step chain block seated events live h)))
 

@@ -1,6 +1,6 @@
 -- What eras come to over blocks: what is paid of an era's reward, and what is due and taken from
 -- those who stood behind its validators.
-use Rattle.std.specs.Prelude.{◌≡◌, ◌≢◌, ℕ, zero, suc, ◌+◌, ◌≤◌, min, ◌==◌, if◌then◌else◌, List, [], ◌∷◌, ◌++◌, length, sum_by, filter, find, Option, Some, None}
+use Rattle.std.specs.Prelude.{◌≡◌, ◌≢◌, ℕ, zero, suc, ◌+◌, ◌<◌, ◌≤◌, min, ◌==◌, if◌then◌else◌, List, [], ◌∷◌, ◌++◌, length, sum_by, filter, find, Option, Some, None}
 use Rattle.std.specs.List.{IsDistinct}
 use Rattle.npos_base.specs.declared.account.AccountId.{AccountId}
 use Rattle.npos_base.specs.Account.{same_account}
@@ -30,6 +30,7 @@ use Rattle.npos_runtime.specs.Calls.{rule_for, refusal_of, done_of, told_of}
 use Rattle.npos_runtime.specs.Offices.{payout_now, slash_told}
 use Rattle.npos_runtime.specs.Step.{before_calls, call_outcome, calls_outcome, step, after_blocks, seated_by}
 use Rattle.npos_runtime.specs.History.{CanTake, IsHistory}
+use Rattle.npos_runtime.specs.Sound.{IsSoundWaiting}
 
 -- ## What happens to the eras
 
@@ -104,6 +105,11 @@ abbrev pub paid_by : ℕ → ℕ → Call → Chain → ℕ
 paid_by era index call chain =
     paid_for era (events_at call chain) (call_outcome index call chain).lines
 
+-- From any chain on: all that these blocks pay of an era, over all its validators, is at most its reward.
+abbrev pub PaidOnLaw : Type 0
+PaidOnLaw = (chain : Chain) (blocks : List Block) (era : ℕ) → CanTake chain blocks
+    → over_blocks (paid_by era) chain blocks ≤ era_reward_of chain.params
+
 -- what blocks tell to be paid of the reward of an era, over all its validators
 abbrev pub paid_in : ℕ → Genesis → List Block → ℕ
 paid_in era genesis blocks = over_blocks (paid_by era) (genesis_chain genesis) blocks
@@ -130,6 +136,10 @@ pub record IsPaidOut (chain : Chain) (who : AccountId) (era : ℕ) (validator : 
 abbrev pub PaysAsTold : Chain → Type 0
 PaysAsTold chain = (who : AccountId) (era : ℕ) (validator : AccountId)
     → refusal_of chain who (kinds.Payout era validator) ≡ None → IsPaidOut chain who era validator
+
+abbrev pub ToldOnLaw : Type 0
+ToldOnLaw = (chain : Chain) (blocks : List Block) (calls : List Call) → CanTake chain blocks
+    → PaysAsTold (chain_at chain blocks calls)
 
 abbrev pub PaidAsToldLaw : Type 0
 PaidAsToldLaw = (genesis : Genesis) (blocks : List Block) (calls : List Call)
@@ -225,6 +235,32 @@ stake_in snapshot who =
 abbrev pub stake_behind : AccountId → Option Election → ℕ
 stake_behind who None = 0
 stake_behind who (Some election) = stake_in election.snapshot who
+
+-- the election of the committee that waits for an era
+abbrev pub awaited_for : ℕ → Option Committee → List Election
+awaited_for era None = []
+awaited_for era (Some committee) =
+    record { round = era; snapshot = committee.snapshot; weights = committee.weights } ∷ []
+
+-- the elections of eras that begin behind a chain: that of the committee which waits in it, for the
+-- next era, and those that these blocks seat
+abbrev pub elections_from : Chain → List Block → List Election
+elections_from chain blocks =
+    awaited_for (chain.eras.current + 1) chain.waiting ++ seated_by chain blocks
+
+-- each era that begins behind a chain has at most one of them
+abbrev pub OnceOnLaw : Type 0
+OnceOnLaw = (chain : Chain) (blocks : List Block) → CanTake chain blocks
+    → IsSoundWaiting chain chain.waiting
+    → IsDistinct (λ first second. first.round == second.round) (elections_from chain blocks)
+
+-- From any chain on: all that these blocks make due from an account for an era that begins behind the
+-- chain is at most its stake in the election of that era.
+abbrev pub DuesOnLaw : Type 0
+DuesOnLaw = (chain : Chain) (blocks : List Block) (era : ℕ) (who : AccountId) → CanTake chain blocks
+    → IsSoundWaiting chain chain.waiting → chain.eras.current < era
+    → over_blocks (due_by era who) chain blocks
+    ≤ stake_behind who (elected_for era (elections_from chain blocks))
 
 -- All that is due from an account for an era is at most its stake in the election of that era.
 abbrev pub DueWithinStakeLaw : Type 0

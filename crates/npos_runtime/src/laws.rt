@@ -8,7 +8,7 @@ ghost use Rattle.npos_runtime.specs.History.{StartLaw};
 ghost use Rattle.npos_runtime.specs.Deposits.{DepositsLaw, DepositsGoOnLaw};
 ghost use Rattle.npos_runtime.specs.Seatings.{SeatingsLaw};
 ghost use Rattle.npos_runtime.specs.Laws.{SoundStepLaw, SeatedSoundLaw, SeatsLaw, HeldLaw, SettledLaw, FateLaw, NoneCrowdedOutLaw};
-ghost use Rattle.npos_runtime.specs.EraLaws.{HistoryLaw, PaidWithinRewardLaw, PaidAsToldLaw, SlashLaw, TakenLaw, OnceLaw, DueWithinStakeLaw};
+ghost use Rattle.npos_runtime.specs.EraLaws.{HistoryLaw, PaidOnLaw, PaidWithinRewardLaw, ToldOnLaw, PaidAsToldLaw, SlashLaw, TakenLaw, OnceLaw, OnceOnLaw, DuesOnLaw, DueWithinStakeLaw};
 ghost use Rattle.npos_runtime.specs.DeferredLaws.{QueuedLaw, AppliedLaw, TakenInAllLaw};
 ghost use Rattle.npos_runtime.specs.KeptLaws.{AlikeStepLaw, AlikeLaw, SameKeptLaw, ToldLaw, ResumeLaw, RestoreLaw, CheckpointLaw};
 ghost use Rattle.npos_runtime.specs.SoundLaws.{BooksStaySound, RolesStaySound, ErasStaySound, RoundStaysSound, SubmissionsStaySound, WaitingStaysSound, SlashesStaySound, StartsSound, KeepsSoundLaw, StaysSoundLaw, NoCauseLaw};
@@ -110,11 +110,14 @@ pub fn eras_follow_the_blocks()
 pub fn payouts_are_within_the_reward()
     ensures each { PaidAsToldLaw }
     ensures together { PaidWithinRewardLaw }
-{
-    a_packed_yes_is_a_plain_yes();
-    a_plain_yes_is_passing();
-    every_fill_passes();
-}
+{}
+
+/// The same from any chain on, though nothing is known of what was paid before: each payout is minted
+/// as it is told, and all that an era pays from then on is at most its reward.
+pub fn payouts_go_on()
+    ensures each { ToldOnLaw }
+    ensures together { PaidOnLaw }
+{}
 
 /// A slash takes the lesser of what is due and what the account has bonded, and no more. All that
 /// is due from an account for an era, over all validators and all reports, is at most the stake
@@ -123,6 +126,18 @@ pub fn slashes_are_within_the_stake()
     ensures each { SlashLaw }
     ensures taken { TakenLaw }
     ensures due { DueWithinStakeLaw }
+{
+    a_packed_yes_is_a_plain_yes();
+    a_plain_yes_is_passing();
+    every_fill_passes();
+}
+
+/// The same from any sound chain on, of the eras that begin behind it. Each has one election at most:
+/// that of the committee which waits in the chain, or one that is seated since. All that is due from
+/// an account for such an era is at most the stake with which it voted in that election.
+pub fn dues_go_on()
+    ensures once { OnceOnLaw }
+    ensures due { DuesOnLaw }
 {
     a_packed_yes_is_a_plain_yes();
     a_plain_yes_is_passing();

@@ -1,5 +1,6 @@
 -- What a line holds once a part of it was written over.
-use Rattle.std.proofs.Common.{◌≡◌, ◌-◌, ◌+◌, ◌≤◌, ℕ, List, ◌++◌, take, drop, length, arith, ap, length-take, length-drop, length-take-le, drop_at, drop-drop, ◌∙◌}
+use Rattle.std.proofs.Common.{◌≡◌, ◌-◌, ◌+◌, ◌≤◌, ℕ, List, [], ◌++◌, take, drop, length, arith, ap, ap₂, length-append, length-take, length-drop, length-take-le, take_at, drop_at, drop-drop, append-nil, ◌∙◌}
+use Rattle.std.proofs.lemmas.List.{drop_all}
 use borrow.Rule.Slice.PartMut.{put_mid}
 
 -- from the part on: the part, and what stood behind it
@@ -20,3 +21,14 @@ before count place line behind within = omega (
   length-take (place - (place - count)) (drop (place - count) line),
   length-drop (place - count) line,
 )
+
+-- what stands behind a part, written over to the end
+pub over_the_rest : (from : ℕ) (part rest behind : List ℕ) → length part ≡ from
+    → put_mid from (length (part ++ rest) - from) (part ++ rest) behind ≡ part ++ behind
+over_the_rest from part rest behind size =
+    let count = length (part ++ rest) - from in
+    let nothing : drop count (drop from (part ++ rest)) ≡ [] =
+    ap (λ l. drop count l) (drop_at part rest from size)
+    ∙ drop_all count rest (omega (arith, size, length-append part rest)) in
+    ap₂ (λ l m. l ++ (behind ++ m)) (take_at part rest from size) nothing
+    ∙ ap (λ l. part ++ l) (append-nil behind)

@@ -1,6 +1,7 @@
 //! Lines of text: what their pieces are, and how they are told.
 #![tactic(auto)]
 
+mod accounts;
 mod pieces;
 mod whole;
 

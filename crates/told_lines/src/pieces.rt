@@ -3,7 +3,7 @@ ghost use Rattle.std.specs.Prelude.{◌≡◌, ◌++◌, flat_map, OnOk};
 ghost use Rattle.told_lines.specs.Texts.{account_text, number_text};
 ghost use Rattle.told_lines.specs.Pieces.{piece_text};
 
-use hex::encode_to_slice;
+use crate::accounts::write_account;
 use itoa::Buffer;
 use npos_base::{AccountId, NoMemory};
 
@@ -25,7 +25,7 @@ fn tell_account(text: &mut Vec<u8>, who: AccountId) -> Result<(), NoMemory>
     ensures { OnOk result (text.new.items ≡ text.old.items ++ account_text who) }
 {
     let mut digits = [0; 64];
-    encode_to_slice(who.to_bytes(), &mut digits).unwrap();
+    write_account(&mut digits, who);
     text.extend_from_slice(&digits)?;
     Ok(())
 }

@@ -2,7 +2,7 @@
 ghost use Rattle.std.specs.Prelude.{◌≡◌, ◌++◌, OnOk};
 ghost use Rattle.told_lines.specs.Texts.{amount_line, ok_line};
 
-use hex::encode_to_slice;
+use crate::accounts::write_account;
 use itoa::write_digits;
 use npos_base::{AccountId, NoMemory};
 
@@ -21,7 +21,7 @@ pub fn tell_amount(
     let blank = write_digits(amount, &mut ending, 85) - 1;
     ending[blank] = b' ';
     let start = blank - 64;
-    encode_to_slice(who.to_bytes(), &mut ending[start..blank]).unwrap();
+    write_account(&mut ending[start..blank], who);
     text.extend_from_slice(words.as_bytes())?;
     text.extend_from_slice(&ending[start..])?;
     Ok(())

@@ -2,7 +2,7 @@ use Rattle.npos_runtime.proofs.EraLawLemmas.{payout_law, rewards_law}
 use Rattle.npos_runtime.proofs.laws.payouts_are_within_the_reward.Goals as goal
 
 pub returns-clause-each : goal.returns-clause-each
-returns-clause-each c = payout_law c.a_packed_yes_is_a_plain_yes.ensures c.a_plain_yes_is_passing.ensures c.every_fill_passes.ensures
+returns-clause-each c = payout_law
 
 pub returns-clause-together : goal.returns-clause-together
-returns-clause-together c = rewards_law c.a_packed_yes_is_a_plain_yes.ensures c.a_plain_yes_is_passing.ensures c.every_fill_passes.ensures
+returns-clause-together c = rewards_law
