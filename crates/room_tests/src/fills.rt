@@ -48,8 +48,11 @@ fn fills_are_those_of_the_worked_elections(rt: HostRuntime) -> Result<(), Fail> 
 /// first target and the others have 3 for the second.
 fn crowd(alloc: Global) -> Result<Snapshot, NoMemory> {
     let mut builder = SnapshotBuilder::new(alloc);
-    for n in 0..2 {
-        let account = AccountId { hi: 0, lo: n };
+    for n in 0..2u16 {
+        let account = AccountId {
+            hi: 0,
+            lo: u128::from(n),
+        };
         builder.add_target(account).map_err(|_| NoMemory)?;
     }
     for n in 0..16_384u16 {
