@@ -1,5 +1,6 @@
 //! The worked round and the worked bags, each with a genesis of its own: read and written in pieces of
-//! any size, cut anywhere, and where each write fails. The texts are the rules', by hand.
+//! any size, cut anywhere, and where each write fails. The texts were made
+//! by another program.
 use crate::outside::{Outside, Ran, calm, delivered, run_over};
 use crate::stream_calls::Kind::{Bond, Claim, PutInFront, Rebag, Validate};
 use crate::stream_calls::{Call, put_block, put_endowed_genesis};
