@@ -22,7 +22,7 @@ struct Later {
 
 const REPORTED: &str = "call 4 ok\n";
 
-const ROWS: [Later; 5] = [
+static ROWS: [Later; 5] = [
     // where slashes wait no era, they are taken at once
     Later {
         defer: 0,
@@ -183,8 +183,8 @@ fn before_report() -> &'static [u8] {
 
 #[test]
 fn slashes_wait_as_long_as_the_genesis_says(rt: HostRuntime) -> Result<(), Fail> {
-    for row in ROWS {
-        let (written, status) = replay(rt.alloc(), stream_of(rt.alloc(), &row)?)?;
+    for row in &ROWS {
+        let (written, status) = replay(rt.alloc(), stream_of(rt.alloc(), row)?)?;
         let front = before_report();
         let written = written.as_slice();
         let rest = row.text.as_bytes();

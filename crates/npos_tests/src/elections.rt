@@ -1,7 +1,7 @@
 //! Worked bundles, whose verdicts and committees were computed by hand or by another program,
 //! through the top call.
-use npos_base::{AccountId, List, MemorySink, MemorySource, NoMemory};
-use npos_cli::run;
+use crate::outside::{calm, run_over};
+use npos_base::{AccountId, List, NoMemory};
 use scale_wire::Pen;
 use std::alloc::Global;
 use std::test::Fail;
@@ -17,7 +17,7 @@ const ONE: Voters = &[(10, &[0, 1])];
 
 /// Bundles with two seats: how many targets, the voters, the claimed score, the front of a solution
 /// and how many zeros follow it; and then the status and the line.
-const PACKED: [(u64, Voters, (u64, u64, u128), &[u8], u32, u8, &str); 16] = [
+static PACKED: [(u64, Voters, (u64, u64, u128), &[u8], u32, u8, &str); 18] = [
     (
         3,
         APART,
@@ -106,6 +106,24 @@ const PACKED: [(u64, Voters, (u64, u64, u128), &[u8], u32, u8, &str); 16] = [
         3,
         APART,
         (40, 100, 5200),
+        &[0, 4, 0, 0, 4, 0],
+        14,
+        1,
+        "verdict 5 0\n",
+    ),
+    (
+        3,
+        APART,
+        (40, 100, 5200),
+        &[4, 0, 4],
+        15,
+        1,
+        "verdict 6 0 1\n",
+    ),
+    (
+        3,
+        APART,
+        (40, 100, 5200),
         &[4, 0, 0],
         15,
         1,
@@ -161,7 +179,7 @@ const PACKED: [(u64, Voters, (u64, u64, u128), &[u8], u32, u8, &str); 16] = [
 ];
 
 /// Bundles with two seats and other work, spelled out.
-const SPELLED: [(u64, Voters, &[u8], u8, &str); 7] = [
+static SPELLED: [(u64, Voters, &[u8], u8, &str); 7] = [
     (3, APART, &[0], 3, "fault 169 nosolution\n"),
     (3, APART, &[3], 3, "fault 169 badtag\n"),
     (3, APART, &[0, 0], 3, "fault 170 trailing\n"),
@@ -244,7 +262,7 @@ const SEVENTEEN: Voters = &[
 /// many and an unknown vote. Then weights that pack, a support that is rounded as it is packed,
 /// members whom nobody nominates, a solution that is no Yes, and one with
 /// entries of each length.
-const MINED: [(&str, u64, u64, Voters, &[u8], u8, &str); 11] = [
+static MINED: [(&str, u64, u64, Voters, &[u8], u8, &str); 11] = [
     (
         "fill",
         2,
@@ -252,7 +270,7 @@ const MINED: [(&str, u64, u64, Voters, &[u8], u8, &str); 11] = [
         &[(70, &[0, 1]), (30, &[2])],
         &[0],
         0,
-        "member 0000000000000000000000000000000000000000000000000000000000000000 50\nmember 0000000000000000000000000000000000000000000000000000000000000002 30\nscore 30 80 3400\nverdict 0\n",
+        "member 0000000000000000000000000000000000000000000000000000000000000001 50\nmember 0000000000000000000000000000000000000000000000000000000000000003 30\nscore 30 80 3400\nverdict 0\n",
     ),
     (
         "fill",
@@ -261,7 +279,7 @@ const MINED: [(&str, u64, u64, Voters, &[u8], u8, &str); 11] = [
         &[(3, &[0, 1]), (1, &[2])],
         &[2, 0, 4, 8, 0, 4],
         0,
-        "member 0000000000000000000000000000000000000000000000000000000000000000 2\nmember 0000000000000000000000000000000000000000000000000000000000000001 1\nscore 1 3 5\nverdict 0\n",
+        "member 0000000000000000000000000000000000000000000000000000000000000001 2\nmember 0000000000000000000000000000000000000000000000000000000000000002 1\nscore 1 3 5\nverdict 0\n",
     ),
     (
         "fill",
@@ -289,7 +307,7 @@ const MINED: [(&str, u64, u64, Voters, &[u8], u8, &str); 11] = [
         APART,
         &[0],
         0,
-        "member 0000000000000000000000000000000000000000000000000000000000000000 60\nmember 0000000000000000000000000000000000000000000000000000000000000001 40\nscore 40 100 5200\nsolution 0800000404000000000000000000000000000000\nverdict 0\n",
+        "member 0000000000000000000000000000000000000000000000000000000000000001 60\nmember 0000000000000000000000000000000000000000000000000000000000000002 40\nscore 40 100 5200\nsolution 0800000404000000000000000000000000000000\nverdict 0\n",
     ),
     (
         "mms",
@@ -298,7 +316,7 @@ const MINED: [(&str, u64, u64, Voters, &[u8], u8, &str); 11] = [
         BOTH,
         &[0],
         0,
-        "member 0000000000000000000000000000000000000000000000000000000000000000 49\nmember 0000000000000000000000000000000000000000000000000000000000000001 51\nscore 49 100 5002\nsolution 040400040000a9aa040000000000000000000000000000\nverdict 0\n",
+        "member 0000000000000000000000000000000000000000000000000000000000000001 49\nmember 0000000000000000000000000000000000000000000000000000000000000002 51\nscore 49 100 5002\nsolution 040400040000a9aa040000000000000000000000000000\nverdict 0\n",
     ),
     ("seq", 2, 2, &[(60, &[0]), (40, &[0])], &[0], 1, "lost 1\n"),
     ("mms", 2, 2, &[(60, &[0]), (40, &[0])], &[0], 1, "lost 1\n"),
@@ -309,7 +327,7 @@ const MINED: [(&str, u64, u64, Voters, &[u8], u8, &str); 11] = [
         SPLIT,
         &[0],
         1,
-        "member 0000000000000000000000000000000000000000000000000000000000000002 8\nmember 0000000000000000000000000000000000000000000000000000000000000003 2\nmember 0000000000000000000000000000000000000000000000000000000000000004 2\nscore 2 12 72\nsolution 1c00080c0810081408180c20082408041c0cfeff0100100000000000000000000000000000\nverdict 10 0 4\n",
+        "member 0000000000000000000000000000000000000000000000000000000000000003 8\nmember 0000000000000000000000000000000000000000000000000000000000000004 2\nmember 0000000000000000000000000000000000000000000000000000000000000005 2\nscore 2 12 72\nsolution 1c00080c0810081408180c20082408041c0cfeff0100100000000000000000000000000000\nverdict 10 0 4\n",
     ),
     (
         "seq",
@@ -318,43 +336,42 @@ const MINED: [(&str, u64, u64, Voters, &[u8], u8, &str); 11] = [
         SEVENTEEN,
         &[0],
         0,
-        "member 0000000000000000000000000000000000000000000000000000000000000000 16164393\nmember 0000000000000000000000000000000000000000000000000000000000000001 12808341\nmember 0000000000000000000000000000000000000000000000000000000000000002 12577821\nmember 0000000000000000000000000000000000000000000000000000000000000003 12221129\nmember 0000000000000000000000000000000000000000000000000000000000000004 11722527\nmember 0000000000000000000000000000000000000000000000000000000000000005 10408343\nmember 0000000000000000000000000000000000000000000000000000000000000006 10412891\nmember 0000000000000000000000000000000000000000000000000000000000000007 9805891\nmember 0000000000000000000000000000000000000000000000000000000000000008 9231236\nmember 0000000000000000000000000000000000000000000000000000000000000009 8684690\nmember 000000000000000000000000000000000000000000000000000000000000000a 8163120\nmember 000000000000000000000000000000000000000000000000000000000000000b 7661389\nmember 000000000000000000000000000000000000000000000000000000000000000c 7179648\nmember 000000000000000000000000000000000000000000000000000000000000000d 6718827\nmember 000000000000000000000000000000000000000000000000000000000000000e 6291651\nmember 000000000000000000000000000000000000000000000000000000000000000f 5948103\nmember 0000000000000000000000000000000000000000000000000000000000000010 1000000000000000\nscore 5948103 1000000156000000 1000000000000001640861567218312\nsolution 0800004440040400fa360300040408005a6b02000401c908040c00a69b01000401c908a1cb0c04100041c60401c908a1cb0cb1cf10041400d5a60425a90859ab0cc9ae1091b3140418003d8c042d8e0809900ce99210f19614698818041c000d7804b579084d7b0cc57d10398114c57418bd8b1c042000116804856908e56a0c096d1005701439651825791cc57f20042400fd5a043d5c08715d0c515f10ed61147d5818e9691cb16f20257724042800ed4f0409510819520cbd5310095614bd4d18095d1c216220ad6824297128042c0059460451470841480cb14910b54b146d4418e1511c5d56201d5c24956328716d2c043000c93d04a53e08753f0cbd4010814214193c18ed471cdd4b20e9502479572825602ce56b30043400ed3504ad360861370c7d3810093a14713418c53e1c3542209d4624554c28e5532c295e30a56c34083800652e04092f08a52f0c993010f13114212d1801361cf53820c13c24ad412831482c015130795d342970384004452708c9270c952810b12914694c18152d1c8d2f20b93224d53628453c2ca14330094e34a55d3859773c043c00bd2604452708c9270c952810b12914ad2518152d1c8d2f20b93224d53628453c2ca14330094e34a55d3859773c\nverdict 0\n",
+        "member 0000000000000000000000000000000000000000000000000000000000000001 16164393\nmember 0000000000000000000000000000000000000000000000000000000000000002 12808341\nmember 0000000000000000000000000000000000000000000000000000000000000003 12577821\nmember 0000000000000000000000000000000000000000000000000000000000000004 12221129\nmember 0000000000000000000000000000000000000000000000000000000000000005 11722527\nmember 0000000000000000000000000000000000000000000000000000000000000006 10408343\nmember 0000000000000000000000000000000000000000000000000000000000000007 10412891\nmember 0000000000000000000000000000000000000000000000000000000000000008 9805891\nmember 0000000000000000000000000000000000000000000000000000000000000009 9231236\nmember 000000000000000000000000000000000000000000000000000000000000000a 8684690\nmember 000000000000000000000000000000000000000000000000000000000000000b 8163120\nmember 000000000000000000000000000000000000000000000000000000000000000c 7661389\nmember 000000000000000000000000000000000000000000000000000000000000000d 7179648\nmember 000000000000000000000000000000000000000000000000000000000000000e 6718827\nmember 000000000000000000000000000000000000000000000000000000000000000f 6291651\nmember 0000000000000000000000000000000000000000000000000000000000000010 5948103\nmember 0000000000000000000000000000000000000000000000000000000000000011 1000000000000000\nscore 5948103 1000000156000000 1000000000000001640861567218312\nsolution 0800004440040400fa360300040408005a6b02000401c908040c00a69b01000401c908a1cb0c04100041c60401c908a1cb0cb1cf10041400d5a60425a90859ab0cc9ae1091b3140418003d8c042d8e0809900ce99210f19614698818041c000d7804b579084d7b0cc57d10398114c57418bd8b1c042000116804856908e56a0c096d1005701439651825791cc57f20042400fd5a043d5c08715d0c515f10ed61147d5818e9691cb16f20257724042800ed4f0409510819520cbd5310095614bd4d18095d1c216220ad6824297128042c0059460451470841480cb14910b54b146d4418e1511c5d56201d5c24956328716d2c043000c93d04a53e08753f0cbd4010814214193c18ed471cdd4b20e9502479572825602ce56b30043400ed3504ad360861370c7d3810093a14713418c53e1c3542209d4624554c28e5532c295e30a56c34083800652e04092f08a52f0c993010f13114212d1801361cf53820c13c24ad412831482c015130795d342970384004452708c9270c952810b12914694c18152d1c8d2f20b93224d53628453c2ca14330094e34a55d3859773c043c00bd2604452708c9270c952810b12914ad2518152d1c8d2f20b93224d53628453c2ca14330094e34a55d3859773c\nverdict 0\n",
     ),
 ];
 
 /// Words that ask PHRAGMMS for rounds, which level an election of three seats further and further,
 /// and the text.
-const ROUNDS: [(&[&str], &str); 3] = [
+static ROUNDS: [(&[&str], &str); 3] = [
     (
-        &["npos", "mine", "--rounds", "1", "--miner", "mms"],
-        "member 0000000000000000000000000000000000000000000000000000000000000001 35\nmember 0000000000000000000000000000000000000000000000000000000000000002 17\nmember 0000000000000000000000000000000000000000000000000000000000000003 19\nscore 17 71 1875\nsolution 0008000416ca03000c04088a2e02000c0000000000000000000000000000\nverdict 0\n",
+        &["npos", "mine", "--rounds=1", "--miner", "mms"],
+        "member 0000000000000000000000000000000000000000000000000000000000000002 35\nmember 0000000000000000000000000000000000000000000000000000000000000003 17\nmember 0000000000000000000000000000000000000000000000000000000000000004 19\nscore 17 71 1875\nsolution 0008000416ca03000c04088a2e02000c0000000000000000000000000000\nverdict 0\n",
     ),
     (
-        &["npos", "mine", "--rounds=3", "--miner=mms"],
-        "member 0000000000000000000000000000000000000000000000000000000000000001 24\nmember 0000000000000000000000000000000000000000000000000000000000000002 22\nmember 0000000000000000000000000000000000000000000000000000000000000003 25\nscore 22 71 1685\nsolution 00080004aea102000c0408aec902000c0000000000000000000000000000\nverdict 0\n",
+        &["npos", "mine", "--rounds", "3", "--miner=mms"],
+        "member 0000000000000000000000000000000000000000000000000000000000000002 24\nmember 0000000000000000000000000000000000000000000000000000000000000003 22\nmember 0000000000000000000000000000000000000000000000000000000000000004 25\nscore 22 71 1685\nsolution 00080004aea102000c0408aec902000c0000000000000000000000000000\nverdict 0\n",
     ),
     (
         &["npos", "mine", "--miner", "mms"],
-        "member 0000000000000000000000000000000000000000000000000000000000000001 23\nmember 0000000000000000000000000000000000000000000000000000000000000002 23\nmember 0000000000000000000000000000000000000000000000000000000000000003 25\nscore 23 71 1683\nsolution 00080004ba8602000c0408b6e802000c0000000000000000000000000000\nverdict 0\n",
+        "member 0000000000000000000000000000000000000000000000000000000000000002 23\nmember 0000000000000000000000000000000000000000000000000000000000000003 23\nmember 0000000000000000000000000000000000000000000000000000000000000004 25\nscore 23 71 1683\nsolution 00080004ba8602000c0408b6e802000c0000000000000000000000000000\nverdict 0\n",
     ),
 ];
 
-/// Appends a bundle up to its work.
+fn put_numbered(pen: &mut Pen, number: u128) -> Result<(), NoMemory> {
+    pen.put_account(AccountId { hi: 0, lo: number })
+}
+
+/// Appends a bundle up to its work. Its targets are the accounts from 1 on, and its voters those behind
+/// them.
 fn put_election(pen: &mut Pen, seats: u64, targets: u64, voters: Voters) -> Result<(), NoMemory> {
     pen.put_compact(seats)?;
     pen.put_compact(targets)?;
     for target in 0..targets {
-        pen.put_account(AccountId {
-            hi: 0,
-            lo: u128::from(target),
-        })?;
+        put_numbered(pen, u128::from(target) + 1)?;
     }
     pen.put_compact(voters.len() as u64)?;
     for (place, (stake, votes)) in voters.iter().enumerate() {
-        pen.put_account(AccountId {
-            hi: 1,
-            lo: place as u128,
-        })?;
+        put_numbered(pen, u128::from(targets) + 1 + place as u128)?;
         pen.put_compact(*stake)?;
         pen.put_compact(votes.len() as u64)?;
         for vote in *votes {
@@ -389,19 +406,8 @@ fn report(
     asked: &[&str],
     bytes: List<u8>,
 ) -> Result<(Vec<u8>, u8, usize), NoMemory> {
-    let mut words = Vec::new(alloc);
-    for word in asked {
-        words.push(String::from_str(alloc, word)?)?;
-    }
-    let mut source = MemorySource::new(bytes, 4096, List::new(alloc));
-    let mut sink = MemorySink::new(alloc, 4096, List::new(alloc));
-    sink.reserve(4096)?;
-    let status = run(alloc, words.as_slice(), &mut source, &mut sink).number();
-    Ok((
-        Vec::from_slice(alloc, sink.written())?,
-        status,
-        source.left().len(),
-    ))
+    let ran = run_over(alloc, asked, bytes, calm(4096))?;
+    Ok((ran.written, ran.status, ran.left))
 }
 
 /// The words of a check.
@@ -409,7 +415,7 @@ const CHECK: [&str; 2] = ["npos", "check"];
 
 #[test]
 fn packed_work_gets_its_verdict(rt: HostRuntime) -> Result<(), Fail> {
-    for (targets, voters, claim, front, zeros, status, line) in PACKED {
+    for &(targets, voters, claim, front, zeros, status, line) in &PACKED {
         let mut pen = Pen::new(rt.alloc());
         put_election(&mut pen, 2, targets, voters)?;
         put_packed(&mut pen, claim, front, zeros)?;
@@ -422,7 +428,7 @@ fn packed_work_gets_its_verdict(rt: HostRuntime) -> Result<(), Fail> {
 
 #[test]
 fn spelled_work_gets_its_verdict_or_its_fault(rt: HostRuntime) -> Result<(), Fail> {
-    for (targets, voters, work, status, line) in SPELLED {
+    for &(targets, voters, work, status, line) in &SPELLED {
         let mut pen = Pen::new(rt.alloc());
         put_election(&mut pen, 2, targets, voters)?;
         pen.put_bytes(work)?;
@@ -435,7 +441,7 @@ fn spelled_work_gets_its_verdict_or_its_fault(rt: HostRuntime) -> Result<(), Fai
 
 #[test]
 fn elections_are_mined_or_get_their_fault(rt: HostRuntime) -> Result<(), Fail> {
-    for (miner, seats, targets, voters, work, status, lines) in MINED {
+    for &(miner, seats, targets, voters, work, status, lines) in &MINED {
         let mut pen = Pen::new(rt.alloc());
         put_election(&mut pen, seats, targets, voters)?;
         pen.put_bytes(work)?;
@@ -449,7 +455,7 @@ fn elections_are_mined_or_get_their_fault(rt: HostRuntime) -> Result<(), Fail> {
 
 #[test]
 fn the_rounds_are_those_that_were_asked_for(rt: HostRuntime) -> Result<(), Fail> {
-    for (words, lines) in ROUNDS {
+    for &(words, lines) in &ROUNDS {
         let mut pen = Pen::new(rt.alloc());
         put_election(&mut pen, 3, 4, &[(38, &[1, 3]), (33, &[2, 3])])?;
         pen.put_bytes(&[0])?;
@@ -460,11 +466,21 @@ fn the_rounds_are_those_that_were_asked_for(rt: HostRuntime) -> Result<(), Fail>
     Ok(())
 }
 
+/// So many zeros, the line and how many bytes are left: as many as a bundle has at most, one too many,
+/// and more.
+static ZEROS: [(usize, &str, usize); 3] = [
+    (16_777_216, "fault 4 trailing\n", 0),
+    (16_777_217, "fault 16777216 long\n", 0),
+    (16_777_220, "fault 16777216 long\n", 3),
+];
+
 #[test]
 fn a_bundle_that_is_too_long_is_not_read_on(rt: HostRuntime) -> Result<(), Fail> {
-    let bytes = Vec::from_elem(rt.alloc(), 0, 16_777_220)?;
-    let (text, ended, left) = report(rt.alloc(), &CHECK, List::from_vec(bytes))?;
-    assert_eq!(rt; text.as_slice(), b"fault 16777216 long\n".as_slice());
-    assert_eq!(rt; (ended, left), (3, 3));
+    for &(count, line, rest) in &ZEROS {
+        let bytes = Vec::from_elem(rt.alloc(), 0, count)?;
+        let (text, ended, left) = report(rt.alloc(), &CHECK, List::from_vec(bytes))?;
+        assert_eq!(rt; text.as_slice(), line.as_bytes());
+        assert_eq!(rt; (ended, left), (3, rest));
+    }
     Ok(())
 }

@@ -11,6 +11,8 @@ mod elections;
 #[cfg(test)]
 mod ordinary;
 #[cfg(test)]
+mod outside;
+#[cfg(test)]
 mod refusals;
 #[cfg(test)]
 mod replays;
@@ -26,3 +28,5 @@ mod stream_calls;
 mod stream_rows;
 #[cfg(test)]
 mod streams;
+#[cfg(test)]
+mod worked;

@@ -7,7 +7,7 @@ use crate::stream_calls::Kind::{
 
 /// An ordinary run: five validators and twelve nominators elect a committee by the better of two
 /// submissions; its first era is paid and slashed in the second.
-pub const ORDINARY: [&[Call]; 13] = [
+pub static ORDINARY: [&[Call]; 13] = [
     &[
         Call(1, Bond(100)),
         Call(1, Validate(100_000_000)),
@@ -124,7 +124,7 @@ pub const ORDINARY_NUMBERS: [u64; 14] = [3, 6, 2, 2, 2, 10, 2, 100, 500, 4, 1000
 
 /// The calls of a run whose eras are kept as long as they may be, by the number of their block, and
 /// the lines from the 85th era on. There are three blocks an era, and one seat.
-pub const KEPT: [(u64, &[Call]); 5] = [
+pub static KEPT: [(u64, &[Call]); 5] = [
     (1, &[Call(1, Bond(60)), Call(1, Validate(0))]),
     (4, &[Call(9, Points(&[(1, 3)]))]),
     (253, &[Call(2, Payout(0, 1))]),

@@ -44,7 +44,7 @@ const BY_ERAS: [EraRefusal; 6] = [
 ];
 
 /// What a runtime refuses of its own, with the numbers.
-const BY_RUNTIME: [(Refusal, u32); 8] = [
+static BY_RUNTIME: [(Refusal, u32); 8] = [
     (Refusal::Era(EraRefusal::BadFraction), 15),
     (Refusal::NotBetter, 20),
     (Refusal::NotRoot, 27),
@@ -66,7 +66,7 @@ fn refusals_have_their_numbers(rt: HostRuntime) -> Result<(), Fail> {
     for i in 0..BY_ERAS.len() {
         assert_eq!(rt; Refusal::Era(BY_ERAS[i]).code(), i as u32 + 21);
     }
-    for (refusal, number) in BY_RUNTIME {
+    for &(refusal, number) in &BY_RUNTIME {
         assert_eq!(rt; refusal.code(), number);
     }
     Ok(())

@@ -1,10 +1,10 @@
 //! Worked streams over an outside in memory. They show besides that runs succeed where there is
 //! memory, which no contract promises.
-use npos_base::{List, MemorySink, MemorySource, NoMemory};
-use npos_cli::{laws, run};
+use crate::outside::{Outside, calm, delivered, put_parts, replay_parts, run_over};
+use npos_base::{List, NoMemory};
+use npos_cli::laws;
 use scale_wire::Pen;
 use std::alloc::Global;
-use std::process::Abort;
 use std::test::Fail;
 
 // The bytes of the accounts 1 and 9.
@@ -53,7 +53,7 @@ const TRANSFERS_TEXT: &str =
 
 // Streams, as parts that stand one behind the other, and what they write. The last two bond 100,
 // unbond 30 twice and withdraw; then the very last rebonds 70.
-const SOUND: [(&[&[u8]], &str); 4] = [
+static SOUND: [(&[&[u8]], &str); 4] = [
     (
         &[&PLAIN, &[0x00]],
         "end free 100 active 0 unlocking 0 deposits 0 minted 0 burned 0 issuance 100\n",
@@ -96,7 +96,7 @@ const SOUND: [(&[&[u8]], &str); 4] = [
 ];
 
 // Damaged streams, and what they write.
-const DAMAGED: [(&[&[u8]], &str); 7] = [
+static DAMAGED: [(&[&[u8]], &str); 7] = [
     (&[], "fault 0 short\n"),
     (
         &[&[0x00, 0x08], &ONE, &[0x91, 0x01, 0, 0, 0, 0]],
@@ -118,24 +118,6 @@ const DAMAGED: [(&[&[u8]], &str); 7] = [
     ),
 ];
 
-/// How many bytes a read gives and a write takes, and the numbers of the reads and writes that
-/// fail.
-#[derive(Clone, Copy)]
-struct Outside {
-    piece: usize,
-    reads: &'static [u64],
-    writes: &'static [u64],
-}
-
-/// An outside that never fails, with pieces of this size.
-fn calm(piece: usize) -> Outside {
-    Outside {
-        piece,
-        reads: &[],
-        writes: &[],
-    }
-}
-
 // The two transfers, and two blocks without calls.
 const BLOCKS: [&[u8]; 4] = [
     &PLAIN,
@@ -147,7 +129,7 @@ const BLOCKS: [&[u8]; 4] = [
 // Outsides that fail over those blocks: the size of a piece and the numbers of the reads, and of
 // the writes and the flush, that fail; and then the status, what is written and how many bytes are
 // left.
-const FAILING: [(usize, &[u64], &[u64], u8, &str, usize); 12] = [
+static FAILING: [(usize, &[u64], &[u64], u8, &str, usize); 12] = [
     (70, &[0], &[], 4, "", 211),
     (70, &[1], &[], 4, "", 141),
     (70, &[2], &[], 4, "", 71),
@@ -172,70 +154,9 @@ const THIRD_BLOCK: &str = "block 1\ncall 0 ok\ncall 1 refused 1\nblock 2\nblock 
 const WHOLE: &str =
     "block 1\ncall 0 ok\ncall 1 refused 1\nblock 2\nblock 3\nend free 100 active 0 unlocking 0 deposits 0 minted 0 burned 0 issuance 100\n";
 
-/// What a run came to.
-#[derive(Drop)]
-struct Ran {
-    status: u8,
-    written: Vec<u8>,
-    flushed: usize,
-    left: usize,
-}
-
-fn words_of(alloc: Global, words: &[&str]) -> Result<Vec<String>, NoMemory> {
-    let mut owned = Vec::new(alloc);
-    for word in words {
-        owned.push(String::from_str(alloc, word)?)?;
-    }
-    Ok(owned)
-}
-
-fn put_parts(pen: &mut Pen, parts: &[&[u8]]) -> Result<(), NoMemory> {
-    for part in parts {
-        pen.put_bytes(part)?;
-    }
-    Ok(())
-}
-
-/// Runs the words over these bytes.
-fn run_over(
-    alloc: Global,
-    words: &[&str],
-    bytes: List<u8>,
-    outside: Outside,
-) -> Result<Ran, NoMemory> {
-    let words = words_of(alloc, words)?;
-    let reads = List::from_vec(Vec::from_slice(alloc, outside.reads)?);
-    let writes = List::from_vec(Vec::from_slice(alloc, outside.writes)?);
-    let piece = outside.piece.max(1);
-    let mut source = MemorySource::new(bytes, piece, reads);
-    let mut sink = MemorySink::new(alloc, piece, writes);
-    sink.reserve(65_536)?;
-    let status = run(alloc, words.as_slice(), &mut source, &mut sink).number();
-    Ok(Ran {
-        status,
-        written: Vec::from_slice(alloc, sink.written())?,
-        flushed: sink.flushed(),
-        left: source.left().len(),
-    })
-}
-
-/// Replays the parts of a stream.
-fn replay_parts(alloc: Global, parts: &[&[u8]], outside: Outside) -> Result<Ran, NoMemory> {
-    let mut pen = Pen::new(alloc);
-    put_parts(&mut pen, parts)?;
-    run_over(alloc, &["npos", "replay"], pen.finish(), outside)
-}
-
-/// The text was written whole, and all of it was flushed.
-fn delivered(rt: &impl Abort, ran: &Ran, status: u8, text: &str) {
-    assert_eq!(rt; ran.written.as_slice(), text.as_bytes());
-    assert_eq!(rt; ran.flushed, text.len());
-    assert_eq!(rt; ran.status, status);
-}
-
 #[test]
 fn sound_streams_end_with_the_end_line(rt: HostRuntime) -> Result<(), Fail> {
-    for (parts, text) in SOUND {
+    for &(parts, text) in &SOUND {
         for piece in [1, 7, 65_536] {
             delivered(&rt, &replay_parts(rt.alloc(), parts, calm(piece))?, 0, text);
         }
@@ -245,7 +166,7 @@ fn sound_streams_end_with_the_end_line(rt: HostRuntime) -> Result<(), Fail> {
 
 #[test]
 fn damaged_streams_end_with_a_fault_line(rt: HostRuntime) -> Result<(), Fail> {
-    for (parts, text) in DAMAGED {
+    for &(parts, text) in &DAMAGED {
         for piece in [1, 7, 65_536] {
             delivered(&rt, &replay_parts(rt.alloc(), parts, calm(piece))?, 3, text);
         }
@@ -255,7 +176,7 @@ fn damaged_streams_end_with_a_fault_line(rt: HostRuntime) -> Result<(), Fail> {
 
 #[test]
 fn a_failed_read_or_write_ends_the_run(rt: HostRuntime) -> Result<(), Fail> {
-    for (piece, reads, writes, status, text, left) in FAILING {
+    for &(piece, reads, writes, status, text, left) in &FAILING {
         let outside = Outside {
             piece,
             reads,
@@ -264,6 +185,30 @@ fn a_failed_read_or_write_ends_the_run(rt: HostRuntime) -> Result<(), Fail> {
         let ran = replay_parts(rt.alloc(), &BLOCKS, outside)?;
         assert_eq!(rt; ran.written.as_slice(), text.as_bytes());
         assert_eq!(rt; (ran.status, ran.left), (status, left));
+    }
+    Ok(())
+}
+
+/// Whether the transfers end with a front of their text where this read of one byte fails, and nothing
+/// behind it is read.
+fn ends_with_read(alloc: Global, number: u64) -> Result<bool, NoMemory> {
+    let reads = [number];
+    let outside = Outside {
+        piece: 1,
+        reads: &reads,
+        writes: &[],
+    };
+    let ran = replay_parts(alloc, &TRANSFERS, outside)?;
+    let is_front = TRANSFERS_TEXT
+        .as_bytes()
+        .starts_with(ran.written.as_slice());
+    Ok(is_front && ran.status == 4 && Some(ran.left) == 205usize.checked_sub(number as usize))
+}
+
+#[test]
+fn each_read_of_the_transfers_fails_in_turn(rt: HostRuntime) -> Result<(), Fail> {
+    for number in 0..206 {
+        assert!(rt; ends_with_read(rt.alloc(), number)?);
     }
     Ok(())
 }
@@ -278,7 +223,7 @@ fn a_fault_ends_the_reading(rt: HostRuntime) -> Result<(), Fail> {
 }
 
 // Words that ask for nothing.
-const FORMLESS: [&[&str]; 7] = [
+static FORMLESS: [&[&str]; 7] = [
     &["npos"],
     &["npos", "elect"],
     &["npos", "replay", "replay"],
@@ -290,7 +235,7 @@ const FORMLESS: [&[&str]; 7] = [
 
 #[test]
 fn words_without_a_form_owe_the_usage_line(rt: HostRuntime) -> Result<(), Fail> {
-    for words in FORMLESS {
+    for &words in &FORMLESS {
         let bytes = List::from_vec(Vec::from_slice(rt.alloc(), &PLAIN)?);
         let ran = run_over(rt.alloc(), words, bytes, calm(4096))?;
         delivered(
@@ -322,7 +267,7 @@ const POOL: [&[u8]; 7] = [
 ];
 
 // Accounts and what they ask of the pool, each behind the tag 1, and what is written of it.
-const POOLED: [(&[(&[u8; 32], &[u8])], &str); 2] = [
+static POOLED: [(&[(&[u8; 32], &[u8])], &str); 2] = [
     (
         &[
             (&ONE, &[0x00, 0xf0]), // joins with 60
@@ -378,7 +323,7 @@ fn pool_input(alloc: Global, items: &[(&[u8; 32], &[u8])]) -> Result<List<u8>, N
 
 #[test]
 fn pools_are_gone_through(rt: HostRuntime) -> Result<(), Fail> {
-    for (items, text) in POOLED {
+    for &(items, text) in &POOLED {
         let bytes = pool_input(rt.alloc(), items)?;
         let ran = run_over(rt.alloc(), &["npos", "pools"], bytes, calm(7))?;
         delivered(&rt, &ran, 0, text);

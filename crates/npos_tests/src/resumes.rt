@@ -150,7 +150,7 @@ fn told_behind(alloc: Global, stream: &Stream, count: usize) -> Result<Vec<u8>, 
 /// Whether that is the end of the stream's text, from the next block on.
 fn goes_on(alloc: Global, stream: &Stream, count: usize) -> Result<bool, Fail> {
     let text = told_behind(alloc, stream, count)?;
-    let first = format!(in alloc; "block {}\n", count + 1)?;
+    let first = format!(in alloc; "block {}\n", count.saturating_add(1))?;
     let is_next = text.as_slice().starts_with(first.as_bytes());
     Ok(is_next && stream.text.as_bytes().ends_with(text.as_slice()))
 }
@@ -167,8 +167,8 @@ fn goes_on_everywhere(alloc: Global, stream: &Stream) -> Result<bool, Fail> {
 
 #[test]
 fn streams_go_on_behind_every_block(rt: HostRuntime) -> Result<(), Fail> {
-    for stream in STREAMS {
-        assert!(rt; goes_on_everywhere(rt.alloc(), &stream)?);
+    for stream in &STREAMS {
+        assert!(rt; goes_on_everywhere(rt.alloc(), stream)?);
     }
     Ok(())
 }

@@ -1,11 +1,11 @@
 //! Bundles in one form and the other, and generated elections, through the top call.
-use npos_base::{List, MemorySink, MemorySource, NoMemory};
-use npos_cli::run;
+use crate::outside::{calm, run_over};
+use npos_base::{List, NoMemory};
 use std::alloc::Global;
 use std::test::Fail;
 
 // Bundles in SCALE, and the line that each is shown as.
-const SHOWN: [(&[u8], &str); 2] = [
+static SHOWN: [(&[u8], &str); 2] = [
     (
         &[
             0x04, 0x04, // one seat, one target
@@ -40,7 +40,7 @@ const SHOWN: [(&[u8], &str); 2] = [
 ];
 
 // Inputs that are refused, and the line.
-const REFUSED: [(&str, &[u8], &str); 6] = [
+static REFUSED: [(&str, &[u8], &str); 6] = [
     ("pack", b"{", "fault 0 json\n"),
     ("pack", b"\xff", "fault 0 json\n"),
     ("pack", b"{}", "fault 0 shape\n"),
@@ -50,7 +50,7 @@ const REFUSED: [(&str, &[u8], &str); 6] = [
 ];
 
 // Seed, voters and seats of generated elections, and what is written of them.
-const DEMOS: [([&str; 3], &str); 3] = [
+static DEMOS: [([&str; 3], &str); 4] = [
     (
         ["--seed=7", "--voters=2000", "--seats=32"],
         "demo targets 128 voters 2000 total 2989752419\nfill score 25873683 2533760683 217241973097621563 verdict 0\nseq score 64642732 2708088316 232654365039395356 verdict 0\n",
@@ -63,28 +63,25 @@ const DEMOS: [([&str; 3], &str); 3] = [
         ["--seed=0", "--voters=3", "--seats=512"],
         "demo targets 2048 voters 3 total 5445227\nfill score 0 329685 3506199975 verdict 0\nseq lost 0\n",
     ),
+    // as many voters and seats as there may be
+    (
+        ["--seed=7", "--voters=16384", "--seats=512"],
+        "demo targets 2048 voters 16384 total 24527241308\nfill score 14693700 21236548727 934327912430928695 verdict 0\nseq score 34745101 22422806676 994749366823126750 verdict 0\n",
+    ),
 ];
 
 // What these words write for these bytes, and the status.
 fn answered(alloc: Global, said: &[&str], bytes: &[u8]) -> Result<(Vec<u8>, u8), NoMemory> {
-    let mut words = Vec::new(alloc);
-    words.push(String::from_str(alloc, "npos")?)?;
-    for word in said {
-        words.push(String::from_str(alloc, word)?)?;
-    }
     let bytes = List::from_vec(Vec::from_slice(alloc, bytes)?);
-    let mut source = MemorySource::new(bytes, 4096, List::new(alloc));
-    let mut sink = MemorySink::new(alloc, 4096, List::new(alloc));
-    sink.reserve(4096)?;
-    let status = run(alloc, words.as_slice(), &mut source, &mut sink).number();
-    Ok((Vec::from_slice(alloc, sink.written())?, status))
+    let ran = run_over(alloc, said, bytes, calm(4096))?;
+    Ok((ran.written, ran.status))
 }
 
 #[test]
 fn bundles_are_shown_and_packed(rt: HostRuntime) -> Result<(), Fail> {
-    for (bytes, line) in SHOWN {
-        let (text, shown) = answered(rt.alloc(), &["show"], bytes)?;
-        let (back, packed) = answered(rt.alloc(), &["pack"], text.as_slice())?;
+    for &(bytes, line) in &SHOWN {
+        let (text, shown) = answered(rt.alloc(), &["npos", "show"], bytes)?;
+        let (back, packed) = answered(rt.alloc(), &["npos", "pack"], text.as_slice())?;
         assert_eq!(rt; text.as_slice(), line.as_bytes());
         assert_eq!(rt; back.as_slice(), bytes);
         assert_eq!(rt; (shown, packed), (0, 0));
@@ -94,8 +91,8 @@ fn bundles_are_shown_and_packed(rt: HostRuntime) -> Result<(), Fail> {
 
 #[test]
 fn what_is_no_bundle_is_refused(rt: HostRuntime) -> Result<(), Fail> {
-    for (verb, bytes, line) in REFUSED {
-        let (text, status) = answered(rt.alloc(), &[verb], bytes)?;
+    for &(verb, bytes, line) in &REFUSED {
+        let (text, status) = answered(rt.alloc(), &["npos", verb], bytes)?;
         assert_eq!(rt; text.as_slice(), line.as_bytes());
         assert_eq!(rt; status, 3);
     }
@@ -104,9 +101,9 @@ fn what_is_no_bundle_is_refused(rt: HostRuntime) -> Result<(), Fail> {
 
 #[test]
 fn generated_elections_are_reported_on(rt: HostRuntime) -> Result<(), Fail> {
-    for (options, text) in DEMOS {
+    for &(options, text) in &DEMOS {
         let [first, second, third] = options;
-        let words = ["demo", first, second, third];
+        let words = ["npos", "demo", first, second, third];
         let (once, status) = answered(rt.alloc(), &words, b"")?;
         let (again, _) = answered(rt.alloc(), &words, b"")?;
         assert_eq!(rt; once.as_slice(), text.as_bytes());

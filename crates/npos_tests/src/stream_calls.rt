@@ -1,7 +1,7 @@
 //! How the streams of tests are written: calls by name, and their bytes.
 use crate::stream_calls::Kind::{
-    Bond, BondExtra, CancelSlash, Chill, Nominate, Offence, Payout, Points, PutInFront, Rebag,
-    Rebond, Submit, Unbond, Validate, Withdraw,
+    Bond, BondExtra, CancelSlash, Chill, Claim, Nominate, Offence, Payout, Points, PutInFront,
+    Rebag, Rebond, Submit, Unbond, Validate, Withdraw,
 };
 use npos_base::{AccountId, List, NoMemory};
 use scale_wire::Pen;
@@ -24,6 +24,9 @@ pub enum Kind {
     Chill,
     Rebag(u64),
     PutInFront(u64),
+    /// A submission for round 1 that claims this least support, the sum 100 and the squares 5,200, and
+    /// whose two voters elect the first and the second target.
+    Claim(u64),
     /// The claim is the least support, the sum and the squares. Of the solution it is told which
     /// target each voter elects, and how many zeros stand behind it.
     Submit {
@@ -131,6 +134,7 @@ fn put_kind(pen: &mut Pen, kind: &Kind) -> Result<(), NoMemory> {
         Chill => pen.put_u8(8),
         Rebag(who) => put_named(pen, 9, who),
         PutInFront(lighter) => put_named(pen, 10, lighter),
+        Claim(minimal) => put_submission(pen, 1, [minimal, 100, 5200], 0, &[0, 1]),
         Submit {
             round,
             claim,
@@ -227,6 +231,23 @@ pub fn put_blocks(pen: &mut Pen, blocks: &[&[Call]]) -> Result<(), NoMemory> {
         put_block(pen, place as u64 + 1, calls)?;
     }
     pen.put_u8(0)
+}
+
+/// A genesis whose root is the account 9: accounts with what each is endowed with, and the numbers
+/// behind the root.
+pub fn put_endowed_genesis(
+    pen: &mut Pen,
+    endowments: &[(u64, u64)],
+    numbers: &[u64],
+) -> Result<(), NoMemory> {
+    pen.put_u8(1)?;
+    pen.put_compact(endowments.len() as u64)?;
+    for &(number, value) in endowments {
+        put_account(pen, number)?;
+        pen.put_compact(value)?;
+    }
+    put_account(pen, 9)?;
+    put_numbers(pen, numbers)
 }
 
 pub fn put_stream_genesis(pen: &mut Pen, stream: &Stream) -> Result<(), NoMemory> {

@@ -1,8 +1,8 @@
 //! The rows of worked streams: calls, and what a replay of them writes. The texts were made by
 //! another program.
 use crate::stream_calls::Kind::{
-    Bond, BondExtra, Chill, Nominate, Offence, Payout, Points, PutInFront, Rebag, Rebond, Submit,
-    Unbond, Validate, Withdraw,
+    Bond, BondExtra, Chill, Claim, Nominate, Offence, Payout, Points, PutInFront, Rebag, Rebond,
+    Submit, Unbond, Validate, Withdraw,
 };
 use crate::stream_calls::{Call, Stream};
 
@@ -18,8 +18,8 @@ pub const BONDS: [Call; 6] = [
 
 /// Streams, each with what a replay of it writes. There are five accounts and two seats, eras of six
 /// blocks with the snapshot in the third, one era of bonding, and the thresholds 50 and 80.
-pub const STREAMS: [Stream; 18] = [
-    // a chunk is not free before its era
+pub static STREAMS: [Stream; 18] = [
+    // a chunk is not free before its era, and a void round takes no submission
     Stream {
         endowment: 100,
         least_bond: 10,
@@ -28,11 +28,11 @@ pub const STREAMS: [Stream; 18] = [
             &[Call(1, Bond(60)), Call(1, Unbond(20))],
             &[],
             &[],
-            &[],
+            &[Call(2, Claim(40))],
             &[],
             &[Call(1, Withdraw)],
         ],
-        text: "block 1\ncall 0 ok\ncall 1 ok\nblock 2\nblock 3\nvoid 1 few\nblock 4\nblock 5\n\
+        text: "block 1\ncall 0 ok\ncall 1 ok\nblock 2\nblock 3\nvoid 1 few\nblock 4\ncall 0 refused 28\nblock 5\n\
 block 6\ncall 0 ok\n\
 end free 440 active 40 unlocking 20 deposits 0 minted 0 burned 0 issuance 500\n",
     },
@@ -206,51 +206,11 @@ end free 415 active 85 unlocking 0 deposits 0 minted 0 burned 0 issuance 500\n",
             &BONDS,
             &[],
             &[
-                Call(
-                    4,
-                    Submit {
-                        round: 1,
-                        claim: [40, 100, 5200],
-                        zeros: 0,
-                        elects: &[0, 1],
-                    },
-                ),
-                Call(
-                    4,
-                    Submit {
-                        round: 1,
-                        claim: [39, 100, 5200],
-                        zeros: 0,
-                        elects: &[0, 1],
-                    },
-                ),
-                Call(
-                    5,
-                    Submit {
-                        round: 1,
-                        claim: [38, 100, 5200],
-                        zeros: 0,
-                        elects: &[0, 1],
-                    },
-                ),
-                Call(
-                    5,
-                    Submit {
-                        round: 1,
-                        claim: [38, 100, 5200],
-                        zeros: 0,
-                        elects: &[0, 1],
-                    },
-                ),
-                Call(
-                    5,
-                    Submit {
-                        round: 1,
-                        claim: [41, 100, 5200],
-                        zeros: 0,
-                        elects: &[0, 1],
-                    },
-                ),
+                Call(4, Claim(40)),
+                Call(4, Claim(39)),
+                Call(5, Claim(38)),
+                Call(5, Claim(38)),
+                Call(5, Claim(41)),
             ],
             &[],
             &[],
@@ -268,21 +228,7 @@ end free 363 active 130 unlocking 0 deposits 0 minted 5 burned 12 issuance 493\n
         endowment: 100,
         least_bond: 10,
         places: 3,
-        blocks: &[
-            &BONDS,
-            &[],
-            &[Call(
-                5,
-                Submit {
-                    round: 1,
-                    claim: [41, 100, 5200],
-                    zeros: 0,
-                    elects: &[0, 1],
-                },
-            )],
-            &[],
-            &[],
-        ],
+        blocks: &[&BONDS, &[], &[Call(5, Claim(41))], &[], &[]],
         text: "block 1\ncall 0 ok\ncall 1 ok\ncall 2 ok\ncall 3 ok\ncall 4 ok\ncall 5 ok\nblock 2\n\
 block 3\nsnapshot 1 targets 3 voters 3 total 130\ncall 0 ok\nblock 4\n\
 block 5\nforfeit 1 12 verdict 9 40 100 5200\nseat 1 fill\nmember 0000000000000000000000000000000000000000000000000000000000000001 60\n\
@@ -297,15 +243,7 @@ end free 358 active 130 unlocking 0 deposits 0 minted 0 burned 12 issuance 488\n
         places: 3,
         blocks: &[
             &BONDS,
-            &[Call(
-                4,
-                Submit {
-                    round: 1,
-                    claim: [40, 100, 5200],
-                    zeros: 0,
-                    elects: &[0, 1],
-                },
-            )],
+            &[Call(4, Claim(40))],
             &[
                 Call(
                     4,
@@ -325,107 +263,19 @@ end free 358 active 130 unlocking 0 deposits 0 minted 0 burned 12 issuance 488\n
                         elects: &[0, 1],
                     },
                 ),
-                Call(
-                    1,
-                    Submit {
-                        round: 1,
-                        claim: [40, 100, 5200],
-                        zeros: 0,
-                        elects: &[0, 1],
-                    },
-                ),
-                Call(
-                    2,
-                    Submit {
-                        round: 1,
-                        claim: [40, 100, 5200],
-                        zeros: 0,
-                        elects: &[0, 1],
-                    },
-                ),
-                Call(
-                    4,
-                    Submit {
-                        round: 1,
-                        claim: [40, 100, 5200],
-                        zeros: 0,
-                        elects: &[0, 1],
-                    },
-                ),
-                Call(
-                    4,
-                    Submit {
-                        round: 1,
-                        claim: [40, 100, 5200],
-                        zeros: 0,
-                        elects: &[0, 1],
-                    },
-                ),
-                Call(
-                    5,
-                    Submit {
-                        round: 1,
-                        claim: [40, 100, 5200],
-                        zeros: 0,
-                        elects: &[0, 1],
-                    },
-                ),
-                Call(
-                    5,
-                    Submit {
-                        round: 1,
-                        claim: [40, 100, 5200],
-                        zeros: 0,
-                        elects: &[0, 1],
-                    },
-                ),
-                Call(
-                    5,
-                    Submit {
-                        round: 1,
-                        claim: [41, 100, 5200],
-                        zeros: 0,
-                        elects: &[0, 1],
-                    },
-                ),
-                Call(
-                    4,
-                    Submit {
-                        round: 1,
-                        claim: [42, 100, 5200],
-                        zeros: 0,
-                        elects: &[0, 1],
-                    },
-                ),
+                Call(1, Claim(40)),
+                Call(2, Claim(40)),
+                Call(4, Claim(40)),
+                Call(4, Claim(40)),
+                Call(5, Claim(40)),
+                Call(5, Claim(40)),
+                Call(5, Claim(41)),
+                Call(4, Claim(42)),
             ],
-            &[Call(
-                4,
-                Submit {
-                    round: 1,
-                    claim: [41, 100, 5200],
-                    zeros: 0,
-                    elects: &[0, 1],
-                },
-            )],
-            &[Call(
-                4,
-                Submit {
-                    round: 1,
-                    claim: [43, 100, 5200],
-                    zeros: 0,
-                    elects: &[0, 1],
-                },
-            )],
+            &[Call(4, Claim(41))],
+            &[Call(4, Claim(43))],
             &[],
-            &[Call(
-                4,
-                Submit {
-                    round: 1,
-                    claim: [43, 100, 5200],
-                    zeros: 0,
-                    elects: &[0, 1],
-                },
-            )],
+            &[Call(4, Claim(43))],
         ],
         text: "block 1\ncall 0 ok\ncall 1 ok\ncall 2 ok\ncall 3 ok\ncall 4 ok\ncall 5 ok\n\
 block 2\ncall 0 refused 28\n\
@@ -452,42 +302,10 @@ end free 334 active 130 unlocking 0 deposits 0 minted 0 burned 36 issuance 464\n
             ],
             &[],
             &[
-                Call(
-                    1,
-                    Submit {
-                        round: 1,
-                        claim: [40, 100, 5200],
-                        zeros: 0,
-                        elects: &[0, 1],
-                    },
-                ),
-                Call(
-                    2,
-                    Submit {
-                        round: 1,
-                        claim: [40, 100, 5200],
-                        zeros: 0,
-                        elects: &[0, 1],
-                    },
-                ),
-                Call(
-                    4,
-                    Submit {
-                        round: 1,
-                        claim: [40, 100, 5200],
-                        zeros: 0,
-                        elects: &[0, 1],
-                    },
-                ),
-                Call(
-                    4,
-                    Submit {
-                        round: 1,
-                        claim: [40, 100, 5200],
-                        zeros: 0,
-                        elects: &[0, 1],
-                    },
-                ),
+                Call(1, Claim(40)),
+                Call(2, Claim(40)),
+                Call(4, Claim(40)),
+                Call(4, Claim(40)),
             ],
             &[],
             &[],
@@ -535,177 +353,25 @@ end free 410 active 90 unlocking 0 deposits 0 minted 0 burned 0 issuance 500\n",
             &BONDS,
             &[],
             &[
-                Call(
-                    4,
-                    Submit {
-                        round: 1,
-                        claim: [40, 100, 5200],
-                        zeros: 0,
-                        elects: &[0, 1],
-                    },
-                ),
-                Call(
-                    4,
-                    Submit {
-                        round: 1,
-                        claim: [40, 100, 5200],
-                        zeros: 0,
-                        elects: &[0, 1],
-                    },
-                ),
-                Call(
-                    4,
-                    Submit {
-                        round: 1,
-                        claim: [40, 100, 5200],
-                        zeros: 0,
-                        elects: &[0, 1],
-                    },
-                ),
-                Call(
-                    4,
-                    Submit {
-                        round: 1,
-                        claim: [40, 100, 5200],
-                        zeros: 0,
-                        elects: &[0, 1],
-                    },
-                ),
-                Call(
-                    4,
-                    Submit {
-                        round: 1,
-                        claim: [40, 100, 5200],
-                        zeros: 0,
-                        elects: &[0, 1],
-                    },
-                ),
-                Call(
-                    4,
-                    Submit {
-                        round: 1,
-                        claim: [40, 100, 5200],
-                        zeros: 0,
-                        elects: &[0, 1],
-                    },
-                ),
-                Call(
-                    4,
-                    Submit {
-                        round: 1,
-                        claim: [40, 100, 5200],
-                        zeros: 0,
-                        elects: &[0, 1],
-                    },
-                ),
-                Call(
-                    4,
-                    Submit {
-                        round: 1,
-                        claim: [40, 100, 5200],
-                        zeros: 0,
-                        elects: &[0, 1],
-                    },
-                ),
-                Call(
-                    5,
-                    Submit {
-                        round: 1,
-                        claim: [40, 100, 5200],
-                        zeros: 0,
-                        elects: &[0, 1],
-                    },
-                ),
-                Call(
-                    5,
-                    Submit {
-                        round: 1,
-                        claim: [40, 100, 5200],
-                        zeros: 0,
-                        elects: &[0, 1],
-                    },
-                ),
-                Call(
-                    5,
-                    Submit {
-                        round: 1,
-                        claim: [40, 100, 5200],
-                        zeros: 0,
-                        elects: &[0, 1],
-                    },
-                ),
-                Call(
-                    5,
-                    Submit {
-                        round: 1,
-                        claim: [40, 100, 5200],
-                        zeros: 0,
-                        elects: &[0, 1],
-                    },
-                ),
-                Call(
-                    5,
-                    Submit {
-                        round: 1,
-                        claim: [40, 100, 5200],
-                        zeros: 0,
-                        elects: &[0, 1],
-                    },
-                ),
-                Call(
-                    5,
-                    Submit {
-                        round: 1,
-                        claim: [40, 100, 5200],
-                        zeros: 0,
-                        elects: &[0, 1],
-                    },
-                ),
-                Call(
-                    5,
-                    Submit {
-                        round: 1,
-                        claim: [40, 100, 5200],
-                        zeros: 0,
-                        elects: &[0, 1],
-                    },
-                ),
-                Call(
-                    5,
-                    Submit {
-                        round: 1,
-                        claim: [40, 100, 5200],
-                        zeros: 0,
-                        elects: &[0, 1],
-                    },
-                ),
-                Call(
-                    3,
-                    Submit {
-                        round: 1,
-                        claim: [40, 100, 5200],
-                        zeros: 0,
-                        elects: &[0, 1],
-                    },
-                ),
-                Call(
-                    3,
-                    Submit {
-                        round: 1,
-                        claim: [41, 100, 5200],
-                        zeros: 0,
-                        elects: &[0, 1],
-                    },
-                ),
-                Call(
-                    3,
-                    Submit {
-                        round: 1,
-                        claim: [40, 100, 5200],
-                        zeros: 0,
-                        elects: &[0, 1],
-                    },
-                ),
+                Call(4, Claim(40)),
+                Call(4, Claim(40)),
+                Call(4, Claim(40)),
+                Call(4, Claim(40)),
+                Call(4, Claim(40)),
+                Call(4, Claim(40)),
+                Call(4, Claim(40)),
+                Call(4, Claim(40)),
+                Call(5, Claim(40)),
+                Call(5, Claim(40)),
+                Call(5, Claim(40)),
+                Call(5, Claim(40)),
+                Call(5, Claim(40)),
+                Call(5, Claim(40)),
+                Call(5, Claim(40)),
+                Call(5, Claim(40)),
+                Call(3, Claim(40)),
+                Call(3, Claim(41)),
+                Call(3, Claim(40)),
             ],
             &[],
             &[],

@@ -1,10 +1,10 @@
 //! Worked streams, whose texts were made by another program, chosen so that a rule told otherwise
 //! changes one of them.
 use crate::ordinary::{KEPT, KEPT_NUMBERS, KEPT_TEXT, ORDINARY, ORDINARY_NUMBERS, ORDINARY_TEXT};
+use crate::outside::{calm, run_over};
 use crate::stream_calls::{Call, put_block, put_blocks, put_genesis, stream_of};
 use crate::stream_rows::STREAMS;
-use npos_base::{List, MemorySink, MemorySource, NoMemory};
-use npos_cli::run;
+use npos_base::{List, NoMemory};
 use scale_wire::Pen;
 use std::alloc::Global;
 use std::test::Fail;
@@ -16,20 +16,14 @@ pub fn replay(alloc: Global, bytes: List<u8>) -> Result<(Vec<u8>, u8), NoMemory>
 
 /// What a verb that has no options writes of these bytes, and its status.
 pub fn run_verb(alloc: Global, verb: &str, bytes: List<u8>) -> Result<(Vec<u8>, u8), NoMemory> {
-    let mut words = Vec::new(alloc);
-    words.push(String::from_str(alloc, "npos")?)?;
-    words.push(String::from_str(alloc, verb)?)?;
-    let mut source = MemorySource::new(bytes, 64, List::new(alloc));
-    let mut sink = MemorySink::new(alloc, 64, List::new(alloc));
-    sink.reserve(16_384)?;
-    let status = run(alloc, words.as_slice(), &mut source, &mut sink).number();
-    Ok((Vec::from_slice(alloc, sink.written())?, status))
+    let ran = run_over(alloc, &["npos", verb], bytes, calm(64))?;
+    Ok((ran.written, ran.status))
 }
 
 #[test]
 fn worked_streams_write_their_texts(rt: HostRuntime) -> Result<(), Fail> {
-    for stream in STREAMS {
-        let bytes = stream_of(rt.alloc(), &stream)?;
+    for stream in &STREAMS {
+        let bytes = stream_of(rt.alloc(), stream)?;
         let (written, status) = replay(rt.alloc(), bytes)?;
         assert_eq!(rt; written.as_slice(), stream.text.as_bytes());
         assert_eq!(rt; status, 0);
@@ -50,7 +44,7 @@ fn an_ordinary_run_writes_its_text(rt: HostRuntime) -> Result<(), Fail> {
 
 /// The calls of the block with this number.
 fn kept_calls(number: u64) -> &'static [Call] {
-    for (at, calls) in KEPT {
+    for &(at, calls) in &KEPT {
         if at == number {
             return calls;
         }

@@ -18,17 +18,22 @@ struct Case {
     rounds: u32,
     made: u32,
     amounts: &'static [u64],
+    /// How many rounds five more then make, and what they leave.
+    more: u32,
+    settled: &'static [u64],
 }
 
 /// The worked election, in which one voter fills up what the other cannot; then one whose members
 /// are not all nominated; then a voter of 24 members with ties.
-const CASES: [Case; 4] = [
+static CASES: [Case; 4] = [
     Case {
         voters: &[(60, &[0, 1]), (40, &[0])],
         members: &[0, 1],
         rounds: 8,
         made: 3,
         amounts: &[10, 50, 40],
+        more: 1,
+        settled: &[10, 50, 40],
     },
     Case {
         voters: &[(60, &[0, 1]), (40, &[0])],
@@ -36,6 +41,8 @@ const CASES: [Case; 4] = [
         rounds: 1,
         made: 1,
         amounts: &[30, 30, 40],
+        more: 2,
+        settled: &[10, 50, 40],
     },
     Case {
         voters: &[(9, &[3, 2]), (5, &[2]), (7, &[0])],
@@ -43,6 +50,8 @@ const CASES: [Case; 4] = [
         rounds: 5,
         made: 3,
         amounts: &[2, 7, 5],
+        more: 1,
+        settled: &[2, 7, 5],
     },
     Case {
         voters: &[(
@@ -58,6 +67,11 @@ const CASES: [Case; 4] = [
         rounds: 2,
         made: 2,
         amounts: &[
+            42, 42, 42, 42, 42, 42, 42, 42, 42, 42, 42, 42, 42, 42, 42, 42, 41, 41, 41, 41, 41, 41,
+            41, 41,
+        ],
+        more: 1,
+        settled: &[
             42, 42, 42, 42, 42, 42, 42, 42, 42, 42, 42, 42, 42, 42, 42, 42, 41, 41, 41, 41, 41, 41,
             41, 41,
         ],
@@ -124,9 +138,9 @@ fn balance_thrice(alloc: Global, case: &Case) -> Result<[bool; 3], NoMemory> {
     let none = balance(alloc, &snapshot, &mut weights, 0)? == 0 && weights.edges().is_empty();
     let made = balance(alloc, &snapshot, &mut weights, case.rounds)?;
     let first = made == case.made && have_amounts(weights.edges(), case.amounts);
-    let again = balance(alloc, &snapshot, &mut weights, 5)?;
-    let second = again == 1 && have_amounts(weights.edges(), case.amounts);
-    Ok([none, first, second || case.made == case.rounds])
+    let more = balance(alloc, &snapshot, &mut weights, 5)?;
+    let second = more == case.more && have_amounts(weights.edges(), case.settled);
+    Ok([none, first, second])
 }
 
 #[test]

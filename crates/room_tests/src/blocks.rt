@@ -1,5 +1,5 @@
 use block_wire::{Block, Bundle, CallKind, Endowment, Genesis, Next, Params, StreamReader, laws};
-use npos_base::{AccountId, List};
+use npos_base::{AccountId, List, NoMemory};
 use scale_wire::fault::{ReadFault, Why, WireFault};
 use scale_wire::{Pen, Wire, read_whole};
 use std::alloc::Global;
@@ -72,7 +72,7 @@ const DEFERRED: [u8; 83] = [
 ];
 
 // Bytes that are refused as a whole genesis, the place and the reason.
-const REFUSED: [(&[u8], u64, Why); 6] = [
+static REFUSED: [(&[u8], u64, Why); 6] = [
     (&[], 0, Why::Short),
     (&[0x09], 0, Why::BadTag),
     (&[0x03], 0, Why::BadTag),
@@ -82,7 +82,7 @@ const REFUSED: [(&[u8], u64, Why); 6] = [
 ];
 
 // One call of each kind: its tag and its fields.
-const KINDS: [&[u8]; 16] = [
+static KINDS: [&[u8]; 16] = [
     &[
         0, 0, 0, 0, 0, 0, 0, 0, 0, 0, 0, 0, 0, 0, 0, 0, 0, 0, 0, 0, 0, 0, 0, 0, 0, 0, 0, 0, 0, 0,
         0, 0, 0x02, 0xa0,
@@ -137,7 +137,7 @@ fn rewritten<T: Wire>(alloc: Global, bytes: &[u8]) -> Result<List<u8>, ReadFault
 
 #[test]
 fn what_is_read_is_written_again(rt: HostRuntime) -> Result<(), Fail> {
-    for bytes in KINDS {
+    for &bytes in &KINDS {
         assert_eq!(rt; rewritten::<CallKind>(rt.alloc(), bytes)?.as_slice(), bytes);
     }
     for bytes in [PACKED.as_slice(), PLAIN_WORK.as_slice()] {
@@ -160,6 +160,33 @@ fn a_block_of_two_transfers(rt: HostRuntime) -> Result<(), Fail> {
             (1, account(1), Some((account(2), value)))
         );
     }
+    Ok(())
+}
+
+/// A block with so many withdrawals of account 1, as the stream has it.
+fn withdrawals(alloc: Global, count: u64) -> Result<List<u8>, NoMemory> {
+    let mut pen = Pen::new(alloc);
+    pen.put_bytes(&[0x01, 0x04])?;
+    pen.put_compact(count)?;
+    for _ in 0..count {
+        pen.put_account(account(1))?;
+        pen.put_u8(5)?;
+    }
+    Ok(pen.finish())
+}
+
+#[test]
+fn a_block_has_64_calls(rt: HostRuntime) -> Result<(), Fail> {
+    let most = withdrawals(rt.alloc(), 64)?;
+    let again = rewritten::<Option<Block>>(rt.alloc(), most.as_slice())?;
+    assert_eq!(rt; again.as_slice(), most.as_slice());
+    let more = withdrawals(rt.alloc(), 65)?;
+    let fault = match read_whole::<Option<Block>>(rt.alloc(), more.as_slice()) {
+        Err(ReadFault::Wire(fault)) => Some(fault),
+        _ => None,
+    };
+    let why = Why::TooMany;
+    assert_eq!(rt; fault, Some(WireFault { at: 2, why }));
     Ok(())
 }
 
@@ -220,7 +247,7 @@ fn figures_of(params: &Params) -> [u64; 11] {
 
 #[test]
 fn refused_geneses(rt: HostRuntime) {
-    for (bytes, at, why) in REFUSED {
+    for &(bytes, at, why) in &REFUSED {
         assert_eq!(rt;
             genesis_fault(rt.alloc(), bytes),
             Some(WireFault { at, why })
@@ -277,7 +304,7 @@ fn take_whole(reader: &mut StreamReader, places: &mut Vec<u64>) -> Result<(), Re
 
 // A genesis of each kind, before a block of two transfers and the None, and the places in that
 // stream.
-const STREAMS: [(&[u8], [u64; 3]); 3] = [
+static STREAMS: [(&[u8], [u64; 3]); 3] = [
     (&PLAIN, [69, 70, 205]),
     (&FULL, [82, 83, 218]),
     (&DEFERRED, [83, 84, 219]),
@@ -285,7 +312,7 @@ const STREAMS: [(&[u8], [u64; 3]); 3] = [
 
 #[test]
 fn a_stream_by_pieces(rt: HostRuntime) -> Result<(), Fail> {
-    for (genesis, whole) in STREAMS {
+    for &(genesis, whole) in &STREAMS {
         let mut stream = genesis.to_vec(rt.alloc())?;
         stream.extend_from_slice(&BLOCK)?;
         stream.push(0)?;
@@ -306,7 +333,7 @@ fn a_stream_by_pieces(rt: HostRuntime) -> Result<(), Fail> {
 }
 
 // Bytes that no genesis or a cut one stands at, and whether the input has ended.
-const CUT: [(&[u8], bool, Option<WireFault>); 5] = [
+static CUT: [(&[u8], bool, Option<WireFault>); 5] = [
     (
         &[0x09],
         false,
@@ -337,7 +364,7 @@ const CUT: [(&[u8], bool, Option<WireFault>); 5] = [
 
 #[test]
 fn a_cut_genesis_waits(rt: HostRuntime) -> Result<(), Fail> {
-    for (bytes, ended, fault) in CUT {
+    for &(bytes, ended, fault) in &CUT {
         let mut reader = StreamReader::new(rt.alloc());
         assert!(rt; bytes.len() < 300);
         reader.feed(bytes)?;

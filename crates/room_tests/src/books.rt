@@ -291,7 +291,7 @@ type Made = (u8, u64, u32, u64, u32);
 
 /// Rows, what the genesis gave, was minted and burned, and what is told of them: the first bad row,
 /// that the sums fail, or each row with its chunks.
-const MADE: [(&[Made], (u64, u64, u64), &str); 12] = [
+static MADE: [(&[Made], (u64, u64, u64), &str); 12] = [
     (&[], (0, 0, 0), "0 known: "),
     (&[], (7, 0, 7), "0 known: "),
     (

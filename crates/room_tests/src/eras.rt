@@ -10,7 +10,7 @@ use std::fmt::Write;
 use std::test::Fail;
 
 /// Claims in turn, each an era, a validator and what is told where the reward is 1000.
-const CLAIMS: [(u32, u8, &str); 6] = [
+static CLAIMS: [(u32, u8, &str); 6] = [
     (1, 1, "1 256, 2 171, 427"),
     (1, 1, "refused 24"),
     (3, 9, "refused 21"),
@@ -20,7 +20,7 @@ const CLAIMS: [(u32, u8, &str); 6] = [
 ];
 
 /// Reports in turn, each an era, a validator, a fraction and what is told.
-const REPORTS: [(u32, u8, u32, &str); 9] = [
+static REPORTS: [(u32, u8, u32, &str); 9] = [
     (1, 3, 100_000_000, "4 5, "),
     (1, 3, 250_000_000, "4 8, "),
     (1, 3, 200_000_000, "refused 25"),
@@ -46,7 +46,7 @@ enum Step {
 
 /// Steps in turn, and what is told of each: the era that has begun, the number of a slash that is
 /// queued, the refusal, or the slash that is taken.
-const STEPS: [(Step, &str); 21] = [
+static STEPS: [(Step, &str); 21] = [
     (Step::Take, "none"),
     (Step::Queue(2), "1"),
     (Step::Queue(2), "2"),
@@ -179,7 +179,7 @@ fn reported(
 fn validators_are_paid_once(rt: HostRuntime) -> Result<(), Fail> {
     let alloc = rt.alloc();
     let mut book = two_eras(alloc, &[(at(1), 3), (at(3), 4)])?;
-    for (era, n, told) in CLAIMS {
+    for &(era, n, told) in &CLAIMS {
         assert_eq!(rt; claimed(alloc, &mut book, era, n)?.as_str(), told);
     }
     assert_eq!(rt; book.add_points(&[]), Ok(()));
@@ -191,7 +191,7 @@ fn validators_are_paid_once(rt: HostRuntime) -> Result<(), Fail> {
 fn only_what_is_more_is_due(rt: HostRuntime) -> Result<(), Fail> {
     let alloc = rt.alloc();
     let mut book = two_eras(alloc, &[])?;
-    for (era, n, fraction, told) in REPORTS {
+    for &(era, n, fraction, told) in &REPORTS {
         assert_eq!(rt;
             reported(alloc, &mut book, era, n, fraction)?.as_str(),
             told

@@ -1,11 +1,14 @@
 //! Worked fills.
 use crate::worked::Case;
+use election_snapshot::{Snapshot, SnapshotBuilder};
+use npos_base::{AccountId, Edge, NoMemory};
 use quota_fill::fill;
+use std::alloc::Global;
 use std::test::Fail;
 
 /// A tie that goes to the lowest, the least total, a pick that finds less than the price of a seat,
 /// and picks that draw it whole.
-const CASES: [Case; 4] = [
+static CASES: [Case; 4] = [
     Case {
         targets: 3,
         voters: &[(70, &[0, 1]), (30, &[2])],
@@ -38,5 +41,50 @@ fn fills_are_those_of_the_worked_elections(rt: HostRuntime) -> Result<(), Fail> 
         let weights = fill(rt.alloc(), &case.snapshot(rt.alloc())?)?;
         assert!(rt; case.is_met(&weights));
     }
+    Ok(())
+}
+
+/// Two seats and two targets, and as many voters as there may be, of whom every second has 3 for the
+/// first target and the others have 3 for the second.
+fn crowd(alloc: Global) -> Result<Snapshot, NoMemory> {
+    let mut builder = SnapshotBuilder::new(alloc);
+    for n in 0..2u16 {
+        let account = AccountId {
+            hi: 0,
+            lo: u128::from(n),
+        };
+        builder.add_target(account).map_err(|_| NoMemory)?;
+    }
+    for n in 0..16_384u16 {
+        let account = AccountId {
+            hi: 1,
+            lo: u128::from(n),
+        };
+        builder
+            .add_voter(account, 3, &[n % 2])
+            .map_err(|_| NoMemory)?;
+    }
+    match builder.finish(2) {
+        Ok(snapshot) => Ok(snapshot),
+        Err(_) => Err(NoMemory),
+    }
+}
+
+/// Whether each voter gives 3 to its target, by rising voter.
+fn give_all(edges: &[Edge]) -> bool {
+    for (place, edge) in edges.iter().enumerate() {
+        let due = (place, place % 2, 3);
+        if (edge.voter as usize, usize::from(edge.target), edge.amount) != due {
+            return false;
+        }
+    }
+    edges.len() == 16_384
+}
+
+#[test]
+fn a_fill_draws_from_as_many_voters_as_there_may_be(rt: HostRuntime) -> Result<(), Fail> {
+    let weights = fill(rt.alloc(), &crowd(rt.alloc())?)?;
+    assert_eq!(rt; weights.committee(), [0, 1].as_slice());
+    assert!(rt; give_all(weights.edges()));
     Ok(())
 }

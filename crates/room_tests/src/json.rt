@@ -1,12 +1,12 @@
 use block_wire::Bundle;
 use bundle_json::{JsonFault, bundle_from_json, bundle_to_json};
-use npos_base::List;
+use npos_base::{List, NoMemory};
 use scale_wire::{Pen, Wire, read_whole};
 use std::alloc::Global;
 use std::test::Fail;
 
 // Bundles in SCALE, and what they are shown as.
-const SHOWN: [(&[u8], &[u8]); 3] = [
+static SHOWN: [(&[u8], &[u8]); 3] = [
     // one seat, target 1, voter 2 with a stake of 5 for [0], no work
     (
         &[
@@ -37,8 +37,37 @@ const SHOWN: [(&[u8], &[u8]); 3] = [
     ),
 ];
 
+// Other texts of bundles: with digits of either case, with a key twice, of which the last counts, and with
+// the keys in another order.
+static OTHERS: [(&[u8], &[u8]); 4] = [
+    (
+        b"{\"seats\":1,\"targets\":[\"00000000000000000000000000000000000000000000000000000000000000aB\"],\"voters\":[],\"work\":null}",
+        &[
+            0x04, 0x04, 0, 0, 0, 0, 0, 0, 0, 0, 0, 0, 0, 0, 0, 0, 0, 0, 0, 0, 0, 0, 0, 0, 0, 0, 0,
+            0, 0, 0, 0, 0, 0, 0xab, 0x00, 0x00,
+        ],
+    ),
+    (
+        b"{\"seats\":1,\"targets\":[],\"voters\":[],\"work\":{\"claim\":[5,6,\"7\"],\"solution\":\"AB0c\"}}",
+        &[
+            0x04, 0x00, 0x00, 0x01, 0x14, 0x18, 7, 0, 0, 0, 0, 0, 0, 0, 0, 0, 0, 0, 0, 0, 0, 0,
+            0x08, 0xab, 0x0c,
+        ],
+    ),
+    (
+        b"{\"seats\":9,\"targets\":[],\"voters\":[],\"seats\":1,\"work\":{},\"work\":null}",
+        &[0x04, 0x00, 0x00, 0x00],
+    ),
+    (
+        b"{\"work\":{\"edges\":[[2,3,4]],\"committee\":[0,1]},\"voters\":[],\"targets\":[],\"seats\":1}",
+        &[
+            0x04, 0x00, 0x00, 0x02, 0x08, 0x00, 0x04, 0x04, 0x08, 0x0c, 0x10,
+        ],
+    ),
+];
+
 // Texts that are refused.
-const REFUSED: [(&[u8], JsonFault); 17] = [
+static REFUSED: [(&[u8], JsonFault); 17] = [
     (b"{", JsonFault::Json),
     (b"", JsonFault::Json),
     // a number that no float holds
@@ -114,7 +143,7 @@ fn read(alloc: Global, text: &[u8]) -> Result<List<u8>, JsonFault> {
 
 #[test]
 fn bundles_and_their_texts(rt: HostRuntime) -> Result<(), Fail> {
-    for (bytes, text) in SHOWN {
+    for &(bytes, text) in &SHOWN {
         let bundle = read_whole::<Bundle>(rt.alloc(), bytes)?;
         assert_eq!(rt; bundle_to_json(rt.alloc(), &bundle)?.as_slice(), text);
         assert_eq!(rt; read(rt.alloc(), text)?.as_slice(), bytes);
@@ -123,8 +152,59 @@ fn bundles_and_their_texts(rt: HostRuntime) -> Result<(), Fail> {
 }
 
 #[test]
+fn other_texts_are_read(rt: HostRuntime) -> Result<(), Fail> {
+    for &(text, bytes) in &OTHERS {
+        assert_eq!(rt; read(rt.alloc(), text)?.as_slice(), bytes);
+    }
+    Ok(())
+}
+
+// How many bytes a solution has whose bundle has a text of 65,536 bytes.
+const LONG: u64 = 32_729;
+
+// The bundle, whose solution is as many bytes ab.
+fn long_bundle(alloc: Global) -> Result<List<u8>, NoMemory> {
+    let mut pen = Pen::new(alloc);
+    pen.put_bytes(&[0x04, 0x00, 0x00, 0x01, 0x14, 0x18])?;
+    pen.put_u128(77)?;
+    pen.put_compact(LONG)?;
+    for _ in 0..LONG {
+        pen.put_u8(0xab)?;
+    }
+    Ok(pen.finish())
+}
+
+// Its text.
+fn long_text(alloc: Global) -> Result<List<u8>, NoMemory> {
+    let mut pen = Pen::new(alloc);
+    pen.put_bytes(
+        b"{\"seats\":1,\"targets\":[],\"voters\":[],\"work\":{\"claim\":[5,6,\"77\"],\"solution\":\"",
+    )?;
+    for _ in 0..LONG {
+        pen.put_bytes(b"ab")?;
+    }
+    pen.put_bytes(b"\"}}")?;
+    Ok(pen.finish())
+}
+
+#[test]
+fn a_text_of_65536_bytes(rt: HostRuntime) -> Result<(), Fail> {
+    let bytes = long_bundle(rt.alloc())?;
+    let text = long_text(rt.alloc())?;
+    let bundle = read_whole::<Bundle>(rt.alloc(), bytes.as_slice())?;
+    let shown = bundle_to_json(rt.alloc(), &bundle)?;
+    assert_eq!(rt; shown.len(), 65_536);
+    assert_eq!(rt; shown.as_slice(), text.as_slice());
+    assert_eq!(rt;
+        read(rt.alloc(), text.as_slice())?.as_slice(),
+        bytes.as_slice()
+    );
+    Ok(())
+}
+
+#[test]
 fn other_texts_are_refused(rt: HostRuntime) {
-    for (text, fault) in REFUSED {
+    for &(text, fault) in &REFUSED {
         assert_eq!(rt; read(rt.alloc(), text).err(), Some(fault));
     }
 }

@@ -5,7 +5,7 @@ use std::test::Fail;
 
 /// Members that share no voter, a lowest among several, stakes that are split and rounded, and a
 /// part that is rounded to nothing.
-const CASES: [Case; 4] = [
+static CASES: [Case; 4] = [
     Case {
         targets: 3,
         voters: &[(60, &[0]), (40, &[1])],

@@ -47,11 +47,6 @@ fn whole(alloc: Global, groups: &[u8], empty: usize) -> Result<Vec<u8>, Fail> {
     Ok(bytes)
 }
 
-/// Bytes that are no solution, for this reason at this place.
-const fn undecodable(at: u64, why: Why) -> Verdict {
-    Verdict::Undecodable { at, why }
-}
-
 /// The verdict on bytes with a claim, and how many members and edges the weights then have.
 fn judged(
     alloc: Global,
@@ -62,6 +57,20 @@ fn judged(
     let mut weights = Weights::with_room(alloc, checker.snapshot())?;
     let verdict = checker.judge_bytes(alloc, bytes, claim, &mut weights)?;
     Ok((verdict, weights.committee().len(), weights.edges().len()))
+}
+
+/// The same of bytes that are a solution, which is expanded.
+fn expanded(
+    alloc: Global,
+    checker: &mut Checker,
+    bytes: &[u8],
+) -> Result<Option<(Verdict, usize, usize)>, Fail> {
+    let mut weights = Weights::with_room(alloc, checker.snapshot())?;
+    let Ok(solution) = Solution::decode(alloc, bytes) else {
+        return Ok(None);
+    };
+    let verdict = checker.expand(&solution, &mut weights);
+    Ok(Some((verdict, weights.committee().len(), weights.edges().len())))
 }
 
 /// The right entries of both voters.
@@ -77,67 +86,110 @@ const SEVENTEENTH: [u8; 52] = [
     0, 4, 0, 4, 0x00,
 ];
 
+/// The second voter does not nominate the first target.
+const UNLIKE: Verdict = Verdict::NotNominated {
+    voter: 1,
+    target: 0,
+};
+
+/// Each after the right entry of voter 0, how many empty groups follow, and the verdict.
+static FAULTS: [(&[u8], usize, Verdict); 18] = [
+    (&RIGHT, 15, Verdict::Yes),
+    (
+        &RIGHT,
+        16,
+        Verdict::Undecodable {
+            at: 20,
+            why: Why::Trailing,
+        },
+    ),
+    (
+        &[0x08, 0x00, 0x00, 0x04],
+        0,
+        Verdict::Undecodable {
+            at: 4,
+            why: Why::Short,
+        },
+    ),
+    (
+        &[0x08, 0x00, 0x00, 0x01, 0x00, 0x04],
+        15,
+        Verdict::Undecodable {
+            at: 3,
+            why: Why::NotShortest,
+        },
+    ),
+    (
+        &[0x08, 0x00, 0x00, 0x04, 0x02, 0x00, 0x04, 0x00],
+        15,
+        Verdict::Undecodable {
+            at: 4,
+            why: Why::TooWide,
+        },
+    ),
+    (
+        &[0x04, 0x00, 0x00, 0x06, 0x00, 0x01, 0x00],
+        14,
+        Verdict::Undecodable {
+            at: 3,
+            why: Why::TooMany,
+        },
+    ),
+    (&[0x08, 0x00, 0x00, 0x08, 0x0c], 15, Verdict::NoVoter(2)),
+    (&[0x08, 0x00, 0x00, 0x04, 0x0c], 15, Verdict::NoTarget(3)),
+    (&[0x08, 0x00, 0x00, 0x00, 0x04], 15, Verdict::VoterTwice(0)),
+    // The target 0 twice, of a voter that does not nominate it, with a share of 0.
+    (
+        &[0x04, 0x00, 0x00, 0x04, 0x04, 0x00, 0x00, 0x00],
+        14,
+        Verdict::TargetTwice(0),
+    ),
+    (&[0x08, 0x00, 0x00, 0x04, 0x00], 15, UNLIKE),
+    // The target 0, which the voter does not nominate, and then the target 3.
+    (
+        &[0x04, 0x00, 0x00, 0x04, 0x04, 0x00, 0x04, 0x0c],
+        14,
+        Verdict::NoTarget(3),
+    ),
+    (
+        &[0x04, 0x00, 0x00, 0x04, 0x04, 0x04, 0x00, 0x08],
+        14,
+        Verdict::BadShare(1),
+    ),
+    (&[0x04, 0x00, 0x00], 15, Verdict::WrongSize(1)),
+    (&WIDE, 23, Verdict::Yes),
+    (
+        &WIDE,
+        24,
+        Verdict::Undecodable {
+            at: 29,
+            why: Why::Trailing,
+        },
+    ),
+    (
+        &[0xff],
+        0,
+        Verdict::Undecodable {
+            at: 1,
+            why: Why::Short,
+        },
+    ),
+    (&SEVENTEENTH, 7, Verdict::TargetTwice(0)),
+];
+
 #[test]
 fn the_first_fault_of_bytes_is_the_verdict(rt: HostRuntime) -> Result<(), Fail> {
-    let unlike = Verdict::NotNominated {
-        voter: 1,
-        target: 0,
-    };
-    // Each after the right entry of voter 0, and how many empty groups follow.
-    let table: [(&[u8], usize, Verdict); 18] = [
-        (&RIGHT, 15, Verdict::Yes),
-        (&RIGHT, 16, undecodable(20, Why::Trailing)),
-        (&[0x08, 0x00, 0x00, 0x04], 0, undecodable(4, Why::Short)),
-        (
-            &[0x08, 0x00, 0x00, 0x01, 0x00, 0x04],
-            15,
-            undecodable(3, Why::NotShortest),
-        ),
-        (
-            &[0x08, 0x00, 0x00, 0x04, 0x02, 0x00, 0x04, 0x00],
-            15,
-            undecodable(4, Why::TooWide),
-        ),
-        (
-            &[0x04, 0x00, 0x00, 0x06, 0x00, 0x01, 0x00],
-            14,
-            undecodable(3, Why::TooMany),
-        ),
-        (&[0x08, 0x00, 0x00, 0x08, 0x0c], 15, Verdict::NoVoter(2)),
-        (&[0x08, 0x00, 0x00, 0x04, 0x0c], 15, Verdict::NoTarget(3)),
-        (&[0x08, 0x00, 0x00, 0x00, 0x04], 15, Verdict::VoterTwice(0)),
-        // The target 0 twice, of a voter that does not nominate it, with a share of 0.
-        (
-            &[0x04, 0x00, 0x00, 0x04, 0x04, 0x00, 0x00, 0x00],
-            14,
-            Verdict::TargetTwice(0),
-        ),
-        (&[0x08, 0x00, 0x00, 0x04, 0x00], 15, unlike),
-        // The target 0, which the voter does not nominate, and then the target 3.
-        (
-            &[0x04, 0x00, 0x00, 0x04, 0x04, 0x00, 0x04, 0x0c],
-            14,
-            Verdict::NoTarget(3),
-        ),
-        (
-            &[0x04, 0x00, 0x00, 0x04, 0x04, 0x04, 0x00, 0x08],
-            14,
-            Verdict::BadShare(1),
-        ),
-        (&[0x04, 0x00, 0x00], 15, Verdict::WrongSize(1)),
-        (&WIDE, 23, Verdict::Yes),
-        (&WIDE, 24, undecodable(29, Why::Trailing)),
-        (&[0xff], 0, undecodable(1, Why::Short)),
-        (&SEVENTEENTH, 7, Verdict::TargetTwice(0)),
-    ];
     let mut checker = checker_of(rt.alloc(), small(rt.alloc(), SIXTY, FORTY)?)?;
     let right = whole(rt.alloc(), &RIGHT, 15)?;
     let right_claim = claim(40, 100, 5200);
-    for (groups, empty, verdict) in table {
+    for &(groups, empty, verdict) in &FAULTS {
         let bytes = whole(rt.alloc(), groups, empty)?;
         let size = if verdict == Verdict::Yes { 2 } else { 0 };
         let found = judged(rt.alloc(), &mut checker, &bytes, &right_claim)?;
         assert_eq!(rt; found, (verdict, size, size));
+        let opened = expanded(rt.alloc(), &mut checker, &bytes)?;
+        let is_solution = !matches!(verdict, Verdict::Undecodable { .. });
+        assert_eq!(rt; opened, is_solution.then_some(found));
         // What was refused leaves nothing in the checker.
         let after = judged(rt.alloc(), &mut checker, &right, &right_claim)?;
         assert_eq!(rt; after, (Verdict::Yes, 2, 2));

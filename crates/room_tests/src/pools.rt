@@ -26,7 +26,7 @@ type Row = (u128, Ask);
 
 const POOL: u128 = 9;
 
-const WORKED: [Row; 10] = [
+static WORKED: [Row; 10] = [
     (1, Join(60)),
     (2, Join(40)),
     (1, Reward(10)),
@@ -42,13 +42,13 @@ const WORKED: [Row; 10] = [
 const WORKED_TOLD: &str = "ok, ok, ok, ok slashed 9 50, ok, ok, 36, ok, ok paid 1 30, ok paid 1 6, \
     points 60 active 30 pot 4 credits 4, free 120 burned 50 issuance 150";
 
-const SMALL_REWARD: [Row; 3] = [(1, Join(60)), (2, Join(40)), (1, Reward(1))];
+static SMALL_REWARD: [Row; 3] = [(1, Join(60)), (2, Join(40)), (1, Reward(1))];
 
 const SMALL_TOLD: &str =
     "ok, ok, ok, points 100 active 100 pot 1 credits 0, free 100 burned 0 issuance 200";
 
 /// Each refusal but the two that take long to reach, in the order in which each kind tries them.
-const REFUSED: [Row; 27] = [
+static REFUSED: [Row; 27] = [
     (1, Join(0)),
     (POOL, Join(1)),
     (1, Join(101)),
@@ -88,7 +88,7 @@ const MOST: u64 = 9_223_372_036_854_775_807;
 
 /// All units join, all but one are burned, and the price of a point is then too low: products pass
 /// 64 bits, and so would the points.
-const LARGE: [Row; 9] = [
+static LARGE: [Row; 9] = [
     (1, Join(MOST - 300)),
     (POOL, Slash(MOST - 301)),
     (2, Join(1)),

@@ -8,16 +8,16 @@ use std::test::Fail;
 use submission_queue::{Queue, Submission, laws};
 
 /// Offers, each a number and a claim, and what is told of them where three, four and 16 can wait.
-const WORKED: [(u64, u64); 5] = [(1, 40), (2, 39), (3, 38), (4, 38), (4, 41)];
+static WORKED: [(u64, u64); 5] = [(1, 40), (2, 39), (3, 38), (4, 38), (4, 41)];
 
 const WORKED_TOLD: &str =
     "in, in, in, 4 behind 38, out 3 12, 3 of 3: 4 41 12, 1 40 12, 2 39 12, 0 left";
 
-const TIES: [(u64, u64); 4] = [(1, 38), (2, 40), (3, 38), (4, 40)];
+static TIES: [(u64, u64); 4] = [(1, 38), (2, 40), (3, 38), (4, 40)];
 
 const TIES_TOLD: &str = "in, in, in, in, 4 of 4: 2 40 12, 4 40 12, 1 38 12, 3 38 12, 0 left";
 
-const EQUAL: [(u64, u64); 17] = [(7, 40); 17];
+static EQUAL: [(u64, u64); 17] = [(7, 40); 17];
 
 const EQUAL_TOLD: &str = "in, in, in, in, in, in, in, in, in, in, in, in, in, in, in, in, \
     7 behind 40, 16 of 16: 7 40 12";
@@ -86,7 +86,7 @@ fn a_full_queue_refuses_an_equal_claim(rt: HostRuntime) -> Result<(), Fail> {
 #[test]
 fn submissions_are_read_by_rank(rt: HostRuntime) -> Result<(), Fail> {
     let mut queue = Queue::new(rt.alloc(), 4)?;
-    for (number, minimal) in TIES {
+    for &(number, minimal) in &TIES {
         assert!(rt; queue.offer(submission(rt.alloc(), number, minimal)).is_ok());
     }
     for (place, number) in [2u64, 4, 1, 3].into_iter().enumerate() {

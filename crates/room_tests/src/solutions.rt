@@ -38,7 +38,7 @@ const NARROW: [u8; 27] = [
 ];
 
 // Bytes that are refused, the place and the reason.
-const REFUSED: [(&[u8], u64, Why); 14] = [
+static REFUSED: [(&[u8], u64, Why); 14] = [
     (&[], 0, Why::Short),
     (&[0x02, 0x00, 0x01, 0x00], 4, Why::Short), // 16,384 entries without a byte behind
     (&[0x06, 0x00, 0x01, 0x00], 0, Why::TooMany),
@@ -87,14 +87,16 @@ fn fault_of(alloc: Global, bytes: &[u8]) -> Option<WireFault> {
     }
 }
 
+// Bytes, whether they are wide, and the entries that are read.
+static READ: [(&[u8], bool, &str); 3] = [
+    (&MIXED, false, MIXED_LISTED),
+    (&WIDEST, true, WIDEST_LISTED),
+    (&NARROW, true, "1: 0 3\n"),
+];
+
 #[test]
 fn solutions_are_read_and_written(rt: HostRuntime) -> Result<(), Fail> {
-    let table: [(&[u8], bool, &str); 3] = [
-        (&MIXED, false, MIXED_LISTED),
-        (&WIDEST, true, WIDEST_LISTED),
-        (&NARROW, true, "1: 0 3\n"),
-    ];
-    for (bytes, wide, entries) in table {
+    for &(bytes, wide, entries) in &READ {
         let solution = Solution::decode(rt.alloc(), bytes)?;
         let groups = if wide { WIDE_GROUPS } else { PLAIN_GROUPS };
         assert_eq!(rt; (solution.wide(), solution.groups()), (wide, groups));
@@ -106,7 +108,7 @@ fn solutions_are_read_and_written(rt: HostRuntime) -> Result<(), Fail> {
 
 #[test]
 fn bytes_are_refused_where_they_should(rt: HostRuntime) {
-    for (bytes, at, why) in REFUSED {
+    for &(bytes, at, why) in &REFUSED {
         assert_eq!(rt; fault_of(rt.alloc(), bytes), Some(WireFault { at, why }));
     }
 }
@@ -145,7 +147,7 @@ fn weights_are_packed(rt: HostRuntime) -> Result<(), Fail> {
 }
 
 // The members 0 to 16.
-const SEVENTEEN: [u16; 17] = [0, 1, 2, 3, 4, 5, 6, 7, 8, 9, 10, 11, 12, 13, 14, 15, 16];
+static SEVENTEEN: [u16; 17] = [0, 1, 2, 3, 4, 5, 6, 7, 8, 9, 10, 11, 12, 13, 14, 15, 16];
 
 const EQUAL_LISTED: &str =
     "17: 0 0*3855 1*3855 2*3855 3*3855 4*3855 5*3855 6*3855 7*3855 8*3855 9*3855 10*3855 11*3855 12*3855 13*3855 14*3855 15*3855 16\n";

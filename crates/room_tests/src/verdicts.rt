@@ -14,98 +14,54 @@ struct Case {
     stakes: [u64; 2],
     votes: [&'static [u16]; 2],
     members: &'static [u16],
-    edges: &'static [Edge],
+    /// Each a voter, a target and an amount.
+    edges: &'static [(u32, u16, u64)],
     verdict: Verdict,
 }
 
 /// One for each fault, then what is left at the price of a seat, one unit below it, and a
 /// proportional committee with weights too poor to show it.
-const CASES: [Case; 12] = [
+static CASES: [Case; 12] = [
     Case {
         stakes: [60, 40],
         votes: [&[0], &[1]],
         members: &[1, 0],
-        edges: &[
-            Edge {
-                voter: 0,
-                target: 0,
-                amount: 60,
-            },
-            Edge {
-                voter: 1,
-                target: 1,
-                amount: 40,
-            },
-        ],
+        edges: &[(0, 0, 60), (1, 1, 40)],
         verdict: Verdict::Yes,
     },
     Case {
         stakes: [60, 40],
         votes: [&[0], &[1]],
         members: &[1, 1, 3],
-        edges: &[
-            Edge {
-                voter: 0,
-                target: 0,
-                amount: 60,
-            },
-            Edge {
-                voter: 1,
-                target: 1,
-                amount: 40,
-            },
-        ],
+        edges: &[(0, 0, 60), (1, 1, 40)],
         verdict: Verdict::TargetTwice(1),
     },
     Case {
         stakes: [60, 40],
         votes: [&[0], &[1]],
         members: &[3, 3],
-        edges: &[
-            Edge {
-                voter: 0,
-                target: 0,
-                amount: 60,
-            },
-            Edge {
-                voter: 1,
-                target: 1,
-                amount: 40,
-            },
-        ],
+        edges: &[(0, 0, 60), (1, 1, 40)],
         verdict: Verdict::NoTarget(3),
     },
     Case {
         stakes: [60, 40],
         votes: [&[0], &[1]],
         members: &[0, 1],
-        edges: &[Edge {
-            voter: 2,
-            target: 2,
-            amount: 1,
-        }],
+        edges: &[(2, 2, 1)],
         verdict: Verdict::NoVoter(2),
     },
     Case {
         stakes: [60, 40],
         votes: [&[0], &[1]],
         members: &[0, 1],
-        edges: &[Edge {
-            voter: 0,
-            target: 2,
-            amount: 1,
-        }],
+        edges: &[(0, 2, 1)],
         verdict: Verdict::NoTarget(2),
     },
     Case {
         stakes: [60, 40],
         votes: [&[0], &[1]],
         members: &[0, 1],
-        edges: &[Edge {
-            voter: 0,
-            target: 1,
-            amount: 1,
-        }],
+        edges: &[(0, 1, 1)],
         verdict: Verdict::NotNominated {
             voter: 0,
             target: 1,
@@ -115,58 +71,28 @@ const CASES: [Case; 12] = [
         stakes: [60, 40],
         votes: [&[0], &[1]],
         members: &[0],
-        edges: &[
-            Edge {
-                voter: 0,
-                target: 0,
-                amount: 60,
-            },
-            Edge {
-                voter: 0,
-                target: 0,
-                amount: 60,
-            },
-        ],
+        edges: &[(0, 0, 60), (0, 0, 60)],
         verdict: Verdict::TargetTwice(0),
     },
     Case {
         stakes: [60, 40],
         votes: [&[0], &[1]],
         members: &[0],
-        edges: &[Edge {
-            voter: 0,
-            target: 0,
-            amount: 61,
-        }],
+        edges: &[(0, 0, 61)],
         verdict: Verdict::Overspent(0),
     },
     Case {
         stakes: [60, 40],
         votes: [&[0], &[1]],
         members: &[0],
-        edges: &[Edge {
-            voter: 0,
-            target: 0,
-            amount: 60,
-        }],
+        edges: &[(0, 0, 60)],
         verdict: Verdict::WrongSize(1),
     },
     Case {
         stakes: [50, 50],
         votes: [&[0, 1], &[2]],
         members: &[0, 1],
-        edges: &[
-            Edge {
-                voter: 0,
-                target: 0,
-                amount: 24,
-            },
-            Edge {
-                voter: 0,
-                target: 1,
-                amount: 26,
-            },
-        ],
+        edges: &[(0, 0, 24), (0, 1, 26)],
         verdict: Verdict::Outweighed {
             target: 2,
             prescore: 50,
@@ -176,36 +102,14 @@ const CASES: [Case; 12] = [
         stakes: [51, 49],
         votes: [&[0, 1], &[2]],
         members: &[0, 1],
-        edges: &[
-            Edge {
-                voter: 0,
-                target: 0,
-                amount: 25,
-            },
-            Edge {
-                voter: 0,
-                target: 1,
-                amount: 26,
-            },
-        ],
+        edges: &[(0, 0, 25), (0, 1, 26)],
         verdict: Verdict::Yes,
     },
     Case {
         stakes: [50, 50],
         votes: [&[0, 2], &[0, 1]],
         members: &[0, 1],
-        edges: &[
-            Edge {
-                voter: 1,
-                target: 0,
-                amount: 25,
-            },
-            Edge {
-                voter: 1,
-                target: 1,
-                amount: 25,
-            },
-        ],
+        edges: &[(1, 0, 25), (1, 1, 25)],
         verdict: Verdict::Outweighed {
             target: 2,
             prescore: 50,
@@ -265,9 +169,13 @@ fn weights_of(alloc: Global, snapshot: &Snapshot, case: &Case) -> Result<Weights
         weights.reserve(1, 0)?;
         weights.push_member(*member);
     }
-    for edge in case.edges {
+    for &(voter, target, amount) in case.edges {
         weights.reserve(0, 1)?;
-        weights.push_edge(*edge);
+        weights.push_edge(Edge {
+            voter,
+            target,
+            amount,
+        });
     }
     Ok(weights)
 }

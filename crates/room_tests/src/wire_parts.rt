@@ -4,7 +4,7 @@ use scale_wire::{Cursor, Pen, Wire, read_whole};
 use std::alloc::Global;
 use std::test::Fail;
 
-const WORKED: [(u64, &[u8]); 7] = [
+static WORKED: [(u64, &[u8]); 7] = [
     (63, &[0xfc]),
     (64, &[0x01, 0x01]),
     (16_383, &[0xfd, 0xff]),
@@ -18,7 +18,7 @@ const WORKED: [(u64, &[u8]); 7] = [
 ];
 
 // The bits of the type, bytes that it refuses at their first, and the reason.
-const REFUSED: [(u8, &[u8], Why); 6] = [
+static REFUSED: [(u8, &[u8], Why); 6] = [
     (32, &[0x01, 0x00], Why::NotShortest),
     (64, &[0x07, 0x00, 0x00, 0x00, 0x40, 0x00], Why::NotShortest),
     (32, &[0x01], Why::Short),
@@ -33,7 +33,7 @@ const REFUSED: [(u8, &[u8], Why); 6] = [
 
 #[test]
 fn worked_compact_integers(rt: HostRuntime) -> Result<(), Fail> {
-    for (value, bytes) in WORKED {
+    for &(value, bytes) in &WORKED {
         assert_eq!(rt; Cursor::new(bytes, 0).take_compact_u64(), Ok(value));
         let mut pen = Pen::new(rt.alloc());
         pen.put_compact(value)?;
@@ -44,7 +44,7 @@ fn worked_compact_integers(rt: HostRuntime) -> Result<(), Fail> {
 
 #[test]
 fn refused_compact_integers(rt: HostRuntime) {
-    for (bits, bytes, why) in REFUSED {
+    for &(bits, bytes, why) in &REFUSED {
         assert_eq!(rt; compact_fault(bits, bytes), Some(WireFault { at: 9, why }));
     }
 }

@@ -10,7 +10,7 @@ type Sample = (Option<u32>, UpTo<(u16, u16), 2>, BytesUpTo<2>);
 const SAMPLE: [u8; 10] = [0x01, 0x04, 0x08, 0x04, 0x08, 0x0c, 0x10, 0x08, 0xaa, 0xbb];
 
 // Bytes that are refused as a whole sample, the place and the reason.
-const REFUSED: [(&[u8], u64, Why); 9] = [
+static REFUSED: [(&[u8], u64, Why); 9] = [
     (&[], 0, Why::Short),
     (&[0x02], 0, Why::BadTag),
     (&[0x01, 0x01, 0x00], 1, Why::NotShortest),
@@ -37,7 +37,7 @@ fn a_sample_is_read_and_written(rt: HostRuntime) -> Result<(), Fail> {
 
 #[test]
 fn samples_are_refused_where_they_should(rt: HostRuntime) {
-    for (bytes, at, why) in REFUSED {
+    for &(bytes, at, why) in &REFUSED {
         assert_eq!(rt; fault_of(rt.alloc(), bytes), Some(WireFault { at, why }));
     }
 }
@@ -53,7 +53,7 @@ fn fault_of(alloc: Global, bytes: &[u8]) -> Option<WireFault> {
 const RUN: [u8; 5] = [0x01, 0x04, 0x01, 0x08, 0x00];
 
 // Bytes that are refused as a run of numbers, the place and the reason.
-const REFUSED_RUNS: [(&[u8], u64, Why); 6] = [
+static REFUSED_RUNS: [(&[u8], u64, Why); 6] = [
     (&[], 0, Why::Short),
     (&[0x02], 0, Why::BadTag),
     (&[0x01], 1, Why::Short),
@@ -75,7 +75,7 @@ fn a_run_is_read_and_written(rt: HostRuntime) -> Result<(), Fail> {
 
 #[test]
 fn runs_are_refused_where_they_should(rt: HostRuntime) {
-    for (bytes, at, why) in REFUSED_RUNS {
+    for &(bytes, at, why) in &REFUSED_RUNS {
         let mut cursor = Cursor::new(bytes, 0);
         let read: Result<List<u16>, ReadFault> = RunOf::<Own>::read(rt.alloc(), &mut cursor);
         let fault = match read {

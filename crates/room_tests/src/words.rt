@@ -6,7 +6,7 @@ use std::test::Fail;
 
 /// Words behind the program's name, parted by blanks, and the text of their command, which is empty
 /// where they have none.
-const WORDS: [(&str, &str); 54] = [
+static WORDS: [(&str, &str); 54] = [
     ("replay", "replay"),
     ("check", "check"),
     ("pack", "pack"),

@@ -5,6 +5,8 @@
 #![tactic(auto)]
 
 #[cfg(test)]
+mod fault_rows;
+#[cfg(test)]
 mod faults;
 #[cfg(test)]
 mod states;

@@ -74,7 +74,7 @@ const FULL: [&[u8]; 31] = [
 ];
 
 // A byte of the worked state, what it is changed into, and the place and the reason of the refusal.
-const CHANGED: [(usize, u8, u64, Why); 16] = [
+static CHANGED: [(usize, u8, u64, Why); 16] = [
     (0, 0x01, 0, Why::BadTag),
     (1, 0x02, 1, Why::BadTag),
     (2, 0x03, 2, Why::NotShortest),
@@ -94,7 +94,7 @@ const CHANGED: [(usize, u8, u64, Why); 16] = [
 ];
 
 // How many bytes of the worked state are left, and the place where the next part is missing.
-const CUT: [(usize, u64); 7] = [
+static CUT: [(usize, u64); 7] = [
     (0, 0),
     (1, 1),
     (4, 3),
@@ -194,14 +194,14 @@ fn has_election(state: &State) -> bool {
 
 #[test]
 fn damaged_states_are_refused_where_they_should(rt: HostRuntime) -> Result<(), Fail> {
-    for (index, byte, at, why) in CHANGED {
+    for &(index, byte, at, why) in &CHANGED {
         let mut changed = joined(rt.alloc(), &WORKED)?.into_vec();
         if let Some(slot) = changed.get_mut(index) {
             *slot = byte;
         }
         assert_eq!(rt; fault_of(rt.alloc(), &changed), Some(WireFault { at, why }));
     }
-    for (left, at) in CUT {
+    for &(left, at) in &CUT {
         let why = Why::Short;
         let mut front = joined(rt.alloc(), &WORKED)?.into_vec();
         front.truncate(left);
