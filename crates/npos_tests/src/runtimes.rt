@@ -87,11 +87,14 @@ fn the_laws_hold(_rt: HostRuntime) {
     laws::deposits_are_held();
     laws::each_deposit_has_one_fate();
     laws::deposits_are_settled();
+    laws::deposits_go_on();
     laws::nothing_valid_is_crowded_out_for_free();
     laws::each_round_is_decided_once();
     laws::eras_follow_the_blocks();
     laws::payouts_are_within_the_reward();
+    laws::payouts_go_on();
     laws::slashes_are_within_the_stake();
+    laws::dues_go_on();
     laws::slashes_that_wait_take_what_is_due();
 }
 
