@@ -7,7 +7,7 @@ ghost use Rattle.state_rules.specs.Lists.{bad_place, has_bad};
 ghost use Rattle.state_rules.specs.Known.{AreByAccount};
 ghost use Rattle.state_rules.specs.Eras.{is_bad_line, names_unknown, has_late_own, are_bad_backers, is_out_of_order, is_bad_member, are_bad_members, is_bad_number, is_bad_era};
 
-use crate::known::has_row;
+use crate::known::RowGuesses;
 use crate::seen::Seen;
 use crate::{EraRow, MemberRow};
 use era_book::Backer;
@@ -28,10 +28,11 @@ pub(crate) fn bad_era(
     ensures { IfOk result (λ place. place
         ≡ bad_place (is_bad_era has_params current rows.now) eras.now) }
 {
+    let guesses = RowGuesses::of(alloc, rows)?;
     for (place, era) in eras.iter().enumerate() {
         if !has_params
             || is_bad_number(current, &eras[..place], era)
-            || are_bad_members(alloc, rows, era.members.as_slice())?
+            || are_bad_members(alloc, &guesses, rows, era.members.as_slice())?
         {
             return Ok(Some(place));
         }
@@ -57,7 +58,12 @@ fn is_bad_number(current: u32, before: &[EraRow], era: &EraRow) -> bool
 }
 
 /// Whether there is no member, or one that is wrong.
-fn are_bad_members(alloc: Global, rows: &[BookRow], members: &[MemberRow]) -> Result<bool, NoMemory>
+fn are_bad_members(
+    alloc: Global,
+    guesses: &RowGuesses,
+    rows: &[BookRow],
+    members: &[MemberRow],
+) -> Result<bool, NoMemory>
     requires { AreByAccount rows.now }
     ensures { IfOk result (λ bad. bad ≡ are_bad_members rows.now members.now) }
 {
@@ -65,7 +71,7 @@ fn are_bad_members(alloc: Global, rows: &[BookRow], members: &[MemberRow]) -> Re
         return Ok(true);
     }
     for (place, member) in members.iter().enumerate() {
-        if is_bad_member(alloc, rows, &members[..place], member)? {
+        if is_bad_member(alloc, guesses, rows, &members[..place], member)? {
             return Ok(true);
         }
     }
@@ -86,6 +92,7 @@ fn is_out_of_order(before: &[MemberRow], member: &MemberRow) -> bool
 /// what backs it is wrong.
 fn is_bad_member(
     alloc: Global,
+    guesses: &RowGuesses,
     rows: &[BookRow],
     before: &[MemberRow],
     member: &MemberRow,
@@ -94,18 +101,19 @@ fn is_bad_member(
     ensures { IfOk result (λ bad. bad ≡ is_bad_member rows.now before.now member.now) }
 {
     if is_out_of_order(before, member)
-        || !has_row(rows, member.who)
+        || !guesses.has_row(rows, member.who)
         || member.commission > WHOLE_FRACTION
         || member.fraction > WHOLE_FRACTION
     {
         return Ok(true);
     }
-    are_bad_backers(alloc, rows, member.who, member.backers.as_slice())
+    are_bad_backers(alloc, guesses, rows, member.who, member.backers.as_slice())
 }
 
 /// Whether some line is wrong, a later one is the member's own, or they are too much in all.
 fn are_bad_backers(
     alloc: Global,
+    guesses: &RowGuesses,
     rows: &[BookRow],
     who: AccountId,
     backers: &[Backer],
@@ -113,7 +121,10 @@ fn are_bad_backers(
     requires { AreByAccount rows.now }
     ensures { IfOk result (λ bad. bad ≡ are_bad_backers rows.now who backers.now) }
 {
-    if has_late_own(who, backers) || are_too_much(backers) || names_unknown(rows, backers) {
+    if has_late_own(who, backers)
+        || are_too_much(backers)
+        || names_unknown(guesses, rows, backers)
+    {
         return Ok(true);
     }
     has_bad_line(alloc, backers)
@@ -151,12 +162,12 @@ fn are_too_much(lines: &[Backer]) -> bool
 }
 
 /// Whether some line is of an account that has no row.
-fn names_unknown(rows: &[BookRow], lines: &[Backer]) -> bool
+fn names_unknown(guesses: &RowGuesses, rows: &[BookRow], lines: &[Backer]) -> bool
     requires { AreByAccount rows.now }
     ensures { result ≡ names_unknown rows.now lines.now }
 {
     for line in lines {
-        if !has_row(rows, line.who) {
+        if !guesses.has_row(rows, line.who) {
             return true;
         }
     }
