@@ -105,15 +105,3 @@ has_row_stands (row ∷ rows) who = at (same_account row.who who) (has_row_stand
       → (b || stands_in (map (λ r. r.who) rows) who) ≡ is_some (cond b (Some row) (row_of rows who))
   at true rest = refl
   at false rest = rest
-
--- a row at some place is found
-pub row_at : (rows : List BookRow) (place : ℕ) (d : BookRow) (who : AccountId) → place < length rows
-    → same_account (get_or rows place d).who who ≡ true → has_row rows who ≡ true
-row_at [] place d who within same = absurd (omega (arith, within))
-row_at (first ∷ rows) zero d who within same = rw same refl
-row_at (first ∷ rows) (suc place) d who within same =
-    at (same_account first.who who) refl (row_at rows place d who (omega (arith, within)) same)
-  where
-    at : (b : Bool) → same_account first.who who ≡ b → has_row rows who ≡ true → has_row (first ∷ rows) who ≡ true
-    at true e later = rw e refl
-    at false e later = rw e later

@@ -21,15 +21,27 @@ pub stands_more : (accounts : List AccountId) (who other : AccountId) → stands
 stands_more accounts who other =
     list_any-append (λ account. same_account account other) accounts (who ∷ []) ∙ ap (λ b. stands_in accounts other || b) (or-false (same_account who other))
 
-pub noted_more : (entries : List (AccountId × Unit {0})) (accounts : List AccountId) (who : AccountId) → AreNoted entries accounts
-    → AreNoted (insert_entry account_cmp entries who tt) (accounts ++ who ∷ [])
-noted_more entries accounts who noted other = at (same_account who other) refl where
+pub noted_more : {V : Type 0} → (entries : List (AccountId × V)) (value : V) (accounts : List AccountId) (who : AccountId)
+    → AreNoted entries accounts → AreNoted (insert_entry account_cmp entries who value) (accounts ++ who ∷ [])
+noted_more entries value accounts who noted other = at (same_account who other) refl where
   at : (b : Bool) → same_account who other ≡ b
-      → is_some (lookup (is_at (account_cmp other)) (insert_entry account_cmp entries who tt)) ≡ stands_in (accounts ++ who ∷ []) other
+      → is_some (lookup (is_at (account_cmp other)) (insert_entry account_cmp entries who value)) ≡ stands_in (accounts ++ who ∷ []) other
   at true e =
-      ap (λ (w : AccountId). is_some (lookup (is_at (account_cmp w)) (insert_entry account_cmp entries who tt))) (sym (same_exact who other e))
-      ∙ (ap is_some (lookup_put account_total who tt entries)
+      ap (λ (w : AccountId). is_some (lookup (is_at (account_cmp w)) (insert_entry account_cmp entries who value))) (sym (same_exact who other e))
+      ∙ (ap is_some (lookup_put account_total who value entries)
       ∙ sym (stands_more accounts who other ∙ (ap (λ b. stands_in accounts other || b) e ∙ or-true (stands_in accounts other))))
   at false e =
-      ap is_some (lookup_other account_total who tt other entries (same_ordered who other e))
+      ap is_some (lookup_other account_total who value other entries (same_ordered who other e))
       ∙ (noted other ∙ sym (stands_more accounts who other ∙ (ap (λ b. stands_in accounts other || b) e ∙ or-false (stands_in accounts other))))
+
+-- an account that was noted is noted again
+pub noted_again : {V : Type 0} → (entries : List (AccountId × V)) (accounts : List AccountId) (who : AccountId)
+    → AreNoted entries accounts → is_some (lookup (is_at (account_cmp who)) entries) ≡ true
+    → AreNoted entries (accounts ++ who ∷ [])
+noted_again entries accounts who noted stood other = noted other ∙ sym (stands_more accounts who other ∙ at (same_account who other) refl) where
+  at : (b : Bool) → same_account who other ≡ b → (stands_in accounts other || same_account who other) ≡ stands_in accounts other
+  at true e =
+      ap (λ b. stands_in accounts other || b) e
+      ∙ (or-true (stands_in accounts other)
+      ∙ sym (ap (stands_in accounts) (sym (same_exact who other e)) ∙ (sym (noted who) ∙ stood)))
+  at false e = ap (λ b. stands_in accounts other || b) e ∙ or-false (stands_in accounts other)

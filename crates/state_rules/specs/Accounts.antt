@@ -16,6 +16,6 @@ abbrev pub stands_in : List AccountId → AccountId → Bool
 stands_in accounts who = list_any (λ account. same_account account who) accounts
 
 -- the accounts of the entries are those of the list
-abbrev pub AreNoted : List (AccountId × Unit {0}) → List AccountId → Type 0
+abbrev pub AreNoted : {V : Type 0} → List (AccountId × V) → List AccountId → Type 0
 AreNoted entries accounts =
     (who : AccountId) → is_some (lookup (is_at (account_cmp who)) entries) ≡ stands_in accounts who

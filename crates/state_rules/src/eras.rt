@@ -1,22 +1,22 @@
 //! What is wrong with an era.
-ghost use Rattle.std.specs.Prelude.{◌≡◌, ◌^◌, nat_le, Some, None, IfOk};
+ghost use Rattle.std.specs.Prelude.{◌≡◌, ◌^◌, nat_le, Some, None, map, IfOk};
 ghost use Rattle.std.specs.List.{list_any};
 ghost use Rattle.npos_base.specs.Account.{same_account};
 ghost use Rattle.era_book.specs.Exposures.{amount_sum};
 ghost use Rattle.state_rules.specs.Lists.{bad_place, has_bad};
-ghost use Rattle.state_rules.specs.Known.{AreByAccount};
-ghost use Rattle.state_rules.specs.Eras.{is_bad_line, names_unknown, has_late_own, are_bad_backers, is_out_of_order, is_bad_member, are_bad_members, is_bad_number, is_bad_era};
+ghost use Rattle.account_places.specs.Places.{by_account};
+ghost use Rattle.state_rules.specs.Accounts.{AreNoted};
+ghost use Rattle.state_rules.specs.Eras.{is_bad_line, has_late_own, are_bad_backers, is_out_of_order, is_bad_member, are_bad_members, is_bad_number, is_bad_era};
 
-use crate::known::RowGuesses;
-use crate::seen::Seen;
+use crate::seen::{Seen, accounts_of, is_known, names_unknown};
 use crate::{EraRow, MemberRow};
 use era_book::Backer;
 use npos_base::{AccountId, MOST_PAST_ERAS, NoMemory, WHOLE_FRACTION};
 use stake_ledger::BookRow;
 use std::alloc::Global;
 
-/// The place of the first era that is wrong, where params stand or none. It takes about as long as
-/// sorting the accounts of each member does.
+/// The place of the first era that is wrong, where params stand or none. It takes about as long as to
+/// look up each account of the rows and of the eras.
 pub(crate) fn bad_era(
     alloc: Global,
     has_params: bool,
@@ -24,15 +24,14 @@ pub(crate) fn bad_era(
     rows: &[BookRow],
     eras: &[EraRow],
 ) -> Result<Option<usize>, NoMemory>
-    requires { AreByAccount rows.now }
     ensures { IfOk result (λ place. place
         ≡ bad_place (is_bad_era has_params current rows.now) eras.now) }
 {
-    let guesses = RowGuesses::of(alloc, rows)?;
+    let known = accounts_of(alloc, rows)?;
     for (place, era) in eras.iter().enumerate() {
         if !has_params
             || is_bad_number(current, &eras[..place], era)
-            || are_bad_members(alloc, &guesses, rows, era.members.as_slice())?
+            || are_bad_members(alloc, &known, rows, era.members.as_slice())?
         {
             return Ok(Some(place));
         }
@@ -60,18 +59,18 @@ fn is_bad_number(current: u32, before: &[EraRow], era: &EraRow) -> bool
 /// Whether there is no member, or one that is wrong.
 fn are_bad_members(
     alloc: Global,
-    guesses: &RowGuesses,
+    known: &Seen,
     rows: &[BookRow],
     members: &[MemberRow],
 ) -> Result<bool, NoMemory>
-    requires { AreByAccount rows.now }
+    requires { AreNoted (by_account known.now.accounts) (map (λ row. row.who) rows.now) }
     ensures { IfOk result (λ bad. bad ≡ are_bad_members rows.now members.now) }
 {
     if members.is_empty() {
         return Ok(true);
     }
     for (place, member) in members.iter().enumerate() {
-        if is_bad_member(alloc, guesses, rows, &members[..place], member)? {
+        if is_bad_member(alloc, known, rows, &members[..place], member)? {
             return Ok(true);
         }
     }
@@ -92,39 +91,36 @@ fn is_out_of_order(before: &[MemberRow], member: &MemberRow) -> bool
 /// what backs it is wrong.
 fn is_bad_member(
     alloc: Global,
-    guesses: &RowGuesses,
+    known: &Seen,
     rows: &[BookRow],
     before: &[MemberRow],
     member: &MemberRow,
 ) -> Result<bool, NoMemory>
-    requires { AreByAccount rows.now }
+    requires { AreNoted (by_account known.now.accounts) (map (λ row. row.who) rows.now) }
     ensures { IfOk result (λ bad. bad ≡ is_bad_member rows.now before.now member.now) }
 {
     if is_out_of_order(before, member)
-        || !guesses.has_row(rows, member.who)
+        || !is_known(known, rows, member.who)
         || member.commission > WHOLE_FRACTION
         || member.fraction > WHOLE_FRACTION
     {
         return Ok(true);
     }
-    are_bad_backers(alloc, guesses, rows, member.who, member.backers.as_slice())
+    are_bad_backers(alloc, known, rows, member.who, member.backers.as_slice())
 }
 
 /// Whether some line is wrong, a later one is the member's own, or they are too much in all.
 fn are_bad_backers(
     alloc: Global,
-    guesses: &RowGuesses,
+    known: &Seen,
     rows: &[BookRow],
     who: AccountId,
     backers: &[Backer],
 ) -> Result<bool, NoMemory>
-    requires { AreByAccount rows.now }
+    requires { AreNoted (by_account known.now.accounts) (map (λ row. row.who) rows.now) }
     ensures { IfOk result (λ bad. bad ≡ are_bad_backers rows.now who backers.now) }
 {
-    if has_late_own(who, backers)
-        || are_too_much(backers)
-        || names_unknown(guesses, rows, backers)
-    {
+    if has_late_own(who, backers) || are_too_much(backers) || names_unknown(known, rows, backers) {
         return Ok(true);
     }
     has_bad_line(alloc, backers)
@@ -156,19 +152,6 @@ fn are_too_much(lines: &[Backer]) -> bool
         match sum.checked_add(line.amount) {
             None => return true,
             Some(more) => sum = more,
-        }
-    }
-    false
-}
-
-/// Whether some line is of an account that has no row.
-fn names_unknown(guesses: &RowGuesses, rows: &[BookRow], lines: &[Backer]) -> bool
-    requires { AreByAccount rows.now }
-    ensures { result ≡ names_unknown rows.now lines.now }
-{
-    for line in lines {
-        if !guesses.has_row(rows, line.who) {
-            return true;
         }
     }
     false

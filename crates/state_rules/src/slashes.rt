@@ -1,15 +1,12 @@
 //! What is wrong with a slash that waits.
-ghost use Rattle.std.specs.Prelude.{◌≡◌, map, IfOk};
+ghost use Rattle.std.specs.Prelude.{◌≡◌, IfOk};
 ghost use Rattle.state_rules.specs.Lists.{bad_place};
-ghost use Rattle.state_rules.specs.Accounts.{AreNoted};
-ghost use Rattle.state_rules.specs.Known.{has_row};
-ghost use Rattle.state_rules.specs.Eras.{names_unknown};
 ghost use Rattle.state_rules.specs.Slashes.{is_bad_count, is_bad_due, is_bad_slash};
 
 use crate::eras::has_bad_line;
-use crate::seen::Seen;
-use era_book::{Backer, DeferredSlash};
-use npos_base::{AccountId, NoMemory};
+use crate::seen::{accounts_of, names_unknown};
+use era_book::DeferredSlash;
+use npos_base::NoMemory;
 use stake_ledger::BookRow;
 use std::alloc::Global;
 
@@ -22,8 +19,8 @@ pub(crate) struct SlashTerms {
     pub(crate) next: u64,
 }
 
-/// The place of the first slash that is wrong. It takes about as long as sorting the accounts of
-/// the rows and of each slash does. The rows may stand in any order.
+/// The place of the first slash that is wrong. It takes about as long as to look up each
+/// account of the rows and of the slashes. The rows may stand in any order.
 pub(crate) fn bad_slash(
     alloc: Global,
     terms: SlashTerms,
@@ -71,37 +68,4 @@ fn is_bad_due(terms: SlashTerms, before: &[DeferredSlash], slash: &DeferredSlash
         None => false,
         Some(last) => last.due > slash.due,
     }
-}
-
-/// The accounts of the rows.
-fn accounts_of(alloc: Global, rows: &[BookRow]) -> Result<Seen, NoMemory>
-    ensures { IfOk result (λ known. AreNoted known.accounts.entries (map (λ row. row.who) rows.now)) }
-{
-    let mut known = Seen::new(alloc);
-    for row in rows {
-        let _ = known.note(row.who)?;
-    }
-    Ok(known)
-}
-
-/// Whether some line is of an account that has no row.
-fn names_unknown(known: &Seen, rows: &[BookRow], lines: &[Backer]) -> bool
-    requires { AreNoted known.now.accounts.entries (map (λ row. row.who) rows.now) }
-    ensures { result ≡ names_unknown rows.now lines.now }
-{
-    for line in lines {
-        if !has_row(known, rows, line.who) {
-            return true;
-        }
-    }
-    false
-}
-
-/// Whether the account has a row.
-fn has_row(known: &Seen, rows: &[BookRow], who: AccountId) -> bool
-    requires { AreNoted known.now.accounts.entries (map (λ row. row.who) rows.now) }
-    ensures { result ≡ has_row rows.now who }
-{
-    let _ = rows;
-    known.has(who)
 }

@@ -1,6 +1,6 @@
 use Rattle.std.proofs.Common.{◌∙◌, map}
 use Rattle.state_rules.proofs.KnownLemmas.{has_row_stands}
-use Rattle.state_rules.proofs.slashes.has_row.Goals as goal
+use Rattle.state_rules.proofs.seen.is_known.Goals as goal
 
 pub returns : goal.returns
 returns c =
