@@ -1,6 +1,7 @@
 //! The lines of a pool's items, of its genesis's faults, and of the pool itself.
 ghost use Rattle.std.specs.Prelude.{◌≡◌, ◌≢◌, ◌++◌, ◌^◌, ◌<◌, flat_map, OnOk};
 ghost use Rattle.stake_ledger.specs.Ledger.{totals_of};
+ghost use Rattle.told_lines.specs.Texts.{ok_line};
 ghost use Rattle.stake_pools.specs.Genesis.{fault_numbers};
 ghost use Rattle.stake_pools.specs.declared.fault.PoolFault.TheVariants as faults;
 ghost use Rattle.npos_cli.specs.Texts.{genesis_line};
@@ -10,7 +11,7 @@ ghost use Rattle.npos_cli.specs.Pools.{figures_line, pool_line, pool_line_text};
 use crate::telling::{tell_counted, tell_end, tell_fault_of_genesis, tell_two};
 use npos_base::NoMemory;
 use stake_pools::{Pool, PoolFault, PoolLine};
-use told_lines::{Piece, tell, tell_amount};
+use told_lines::{Piece, tell, tell_amount, tell_ok};
 
 /// Appends the line of a pool's genesis that has a fault. Want of memory is no fault of a genesis,
 /// and has no line.
@@ -25,12 +26,22 @@ pub fn tell_pool_fault(text: &mut Vec<u8>, fault: PoolFault) -> Result<(), NoMem
     }
 }
 
+/// Appends the line of an item that was accepted. Most inputs have fewer items than 32 bits count.
+fn tell_accepted(text: &mut Vec<u8>, index: u64) -> Result<(), NoMemory>
+    ensures { OnOk result (text.new.items ≡ text.old.items ++ ok_line index) }
+{
+    match u32::try_from(index) {
+        Ok(index) => tell_ok(text, index),
+        Err(_) => tell_counted(text, "call ", index, " ok\n"),
+    }
+}
+
 /// Appends one line of the item with this number.
 fn tell_pool_line(text: &mut Vec<u8>, index: u64, line: &PoolLine) -> Result<(), NoMemory>
     ensures { OnOk result (text.new.items ≡ text.old.items ++ pool_line_text index line.now) }
 {
     match *line {
-        PoolLine::Accepted => tell_counted(text, "call ", index, " ok\n"),
+        PoolLine::Accepted => tell_accepted(text, index),
         PoolLine::Refused(code) => tell_two(text, "call ", index, " refused ", u64::from(code)),
         PoolLine::Paid { who, amount } => tell_amount(text, "paid ", who, amount),
         PoolLine::Slashed { who, amount } => tell_amount(text, "slashed ", who, amount),

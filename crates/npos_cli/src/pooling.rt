@@ -94,7 +94,8 @@ fn pools_answer(alloc: Global, bytes: &[u8]) -> Result<Answer, NoMemory>
     ensures { IfOk result (λ answer. JobOwes (Some jobs.Pools) bytes.now
         answer.text.items (status_of answer.ending)) }
 {
-    let mut text = Vec::new(alloc);
+    // most items tell fewer bytes than they have
+    let mut text = Vec::with_capacity(alloc, bytes.len())?;
     let mut cursor = Cursor::new(bytes, 0);
     let genesis = match PoolGenesis::read(alloc, &mut cursor) {
         Ok(genesis) => genesis,
