@@ -3,6 +3,7 @@ ghost use Rattle.std.specs.Prelude.{◌≡◌, ◌≢◌, ◌++◌, ◌^◌, ◌
 ghost use Rattle.stake_ledger.specs.Ledger.{totals_of};
 ghost use Rattle.told_lines.specs.Texts.{ok_line};
 ghost use Rattle.stake_pools.specs.Genesis.{fault_numbers};
+ghost use Rattle.stake_pools.specs.Step.{in_order};
 ghost use Rattle.stake_pools.specs.declared.fault.PoolFault.TheVariants as faults;
 ghost use Rattle.npos_cli.specs.Texts.{genesis_line};
 ghost use Rattle.npos_cli.specs.Chain.{end_line};
@@ -10,7 +11,7 @@ ghost use Rattle.npos_cli.specs.Pools.{figures_line, pool_line, pool_line_text};
 
 use crate::telling::{tell_counted, tell_end, tell_fault_of_genesis, tell_two};
 use npos_base::NoMemory;
-use stake_pools::{Pool, PoolFault, PoolLine};
+use stake_pools::{Pool, PoolFault, PoolLine, PoolLines};
 use told_lines::{Piece, tell, tell_amount, tell_ok};
 
 /// Appends the line of a pool's genesis that has a fault. Want of memory is no fault of a genesis,
@@ -49,14 +50,15 @@ fn tell_pool_line(text: &mut Vec<u8>, index: u64, line: &PoolLine) -> Result<(),
 }
 
 /// Appends the lines of the item with this number, in order.
-pub fn tell_pool_lines(text: &mut Vec<u8>, index: u64, lines: &[PoolLine]) -> Result<(), NoMemory>
+pub fn tell_pool_lines(text: &mut Vec<u8>, index: u64, told: &PoolLines) -> Result<(), NoMemory>
     ensures { OnOk result (text.new.items
-        ≡ text.old.items ++ flat_map (pool_line_text index) lines.now) }
+        ≡ text.old.items ++ flat_map (pool_line_text index) (in_order told.now)) }
 {
-    for line in lines {
-        tell_pool_line(text, index, line)?;
+    tell_pool_line(text, index, &told.first)?;
+    match &told.more {
+        Some(more) => tell_pool_line(text, index, more),
+        None => Ok(()),
     }
-    Ok(())
 }
 
 /// Appends the line of the figures of a pool.

@@ -59,9 +59,9 @@ fn take_item(
         }
         Err(ReadFault::NoMemory) => return Err(NoMemory),
     };
-    match pool.apply(item.who, item.kind) {
-        Ok(receipt) => {
-            tell_pool_lines(text, asked, receipt.lines.as_slice())?;
+    match pool.take(item.who, item.kind) {
+        Ok(told) => {
+            tell_pool_lines(text, asked, &told)?;
             Ok(Turn::Taken)
         }
         Err(PoolBlock::Spent | PoolBlock::NoMemory) => Err(NoMemory),

@@ -215,7 +215,8 @@ fn worked_pools_tell_what_is_due(rt: HostRuntime) -> Result<(), Fail> {
 #[test]
 fn a_member_has_32_leaves(rt: HostRuntime) -> Result<(), Fail> {
     let mut pool = pool_of(rt.alloc(), &[(1, 100)], 84)?;
-    let _ = pool.apply(account(1), PoolKind::Join { value: 100 })?;
+    let told = pool.take(account(1), PoolKind::Join { value: 100 })?;
+    assert_eq!(rt; (told.first, told.more), (PoolLine::Accepted, None));
     for _ in 0..32 {
         let receipt = pool.apply(account(1), PoolKind::Leave { points: 1 })?;
         assert_eq!(rt; receipt.lines.as_slice(), [PoolLine::Accepted].as_slice());

@@ -5,6 +5,7 @@ use Rattle.npos_base.specs.Refusal.{MeetsWhileRoom}
 use Rattle.stake_pools.specs.declared.input.PoolItem.{PoolItem}
 use Rattle.stake_pools.specs.declared.input.PoolKind.{PoolKind}
 use Rattle.stake_pools.specs.declared.line.PoolLine.{PoolLine}
+use Rattle.stake_pools.specs.declared.line.PoolLines.{PoolLines}
 use Rattle.stake_pools.specs.declared.line.PoolLine.TheVariants as lines
 use Rattle.stake_pools.specs.declared.refusal.PoolRefusal.{PoolRefusal}
 use Rattle.stake_pools.specs.declared.stop.Stop.{Stop}
@@ -22,6 +23,10 @@ abbrev pub outcome_by : Option PoolRefusal → ItemRule → PoolChain → Outcom
 outcome_by None rule chain = record { state = rule.done; lines = lines.Accepted ∷ rule.told }
 outcome_by (Some refusal) rule chain =
     record { state = chain; lines = lines.Refused (refusal_number refusal) ∷ [] }
+
+-- the lines in order
+abbrev pub in_order : PoolLines → List PoolLine
+in_order told = told.first ∷ option_to_list told.more
 
 -- one item by its rule
 abbrev pub item_outcome : PoolChain → AccountId → PoolKind → Outcome

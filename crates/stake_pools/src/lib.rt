@@ -24,6 +24,6 @@ mod stop;
 use chain::PoolChain;
 pub use fault::PoolFault;
 pub use input::{PoolGenesis, PoolItem, PoolKind};
-pub use line::PoolLine;
+pub use line::{PoolLine, PoolLines};
 pub use pool::{Pool, PoolBlock, PoolReceipt};
 use refusal::PoolRefusal;

@@ -14,3 +14,11 @@ pub enum PoolLine {
     /// So much of the pool was burned.
     Slashed { who: AccountId, amount: u64 },
 }
+
+/// What an item tells: whether it was accepted, and then the line that tells more of it, if there is
+/// one.
+#[derive(Clone, Copy, Debug, PartialEq, Eq)]
+pub struct PoolLines {
+    pub first: PoolLine,
+    pub more: Option<PoolLine>,
+}

@@ -1,5 +1,5 @@
 //! A pool as its users hold it.
-ghost use Rattle.std.specs.Prelude.{◌≡◌, ◌≤◌, true, false, length, None, Err, OnOk, IfOk, IfErr};
+ghost use Rattle.std.specs.Prelude.{◌≡◌, ◌≤◌, true, false, [], length, None, Err, OnOk, IfOk, IfErr};
 ghost use Rattle.npos_base.specs.declared.limits.TheConstants.{MOST_ENDOWMENTS};
 ghost use Rattle.stake_pools.specs.declared.pool.PoolBlock.TheVariants as blocks;
 ghost use Rattle.stake_pools.specs.declared.pool.PoolBlock.TheVariants.{NoMemory as NoMemoryBlock};
@@ -7,12 +7,13 @@ ghost use Rattle.stake_pools.specs.Chain.{active_of, pot_of, all_points_of};
 ghost use Rattle.stake_pools.specs.Members.{all_credits};
 ghost use Rattle.stake_pools.specs.Genesis.{pool_fault, pool_chain, IsFault};
 ghost use Rattle.stake_pools.specs.Sound.{IsSound};
+ghost use Rattle.stake_pools.specs.Step.{in_order};
 ghost use Rattle.stake_pools.specs.Life.{AppliesWell, IsBlocked};
 
 use crate::start::begin;
 use crate::step::take_item;
-use crate::{PoolChain, PoolFault, PoolGenesis, PoolKind, PoolLine};
-use npos_base::{AccountId, List, NoMemory};
+use crate::{PoolChain, PoolFault, PoolGenesis, PoolKind, PoolLine, PoolLines};
+use npos_base::{AccountId, List, NoMemory, Room};
 use stake_ledger::Book;
 use std::alloc::Global;
 use std::marker::Model;
@@ -41,6 +42,19 @@ impl From<NoMemory> for PoolBlock {
 #[derive(Debug, Drop)]
 pub struct PoolReceipt {
     pub lines: List<PoolLine>,
+}
+
+/// The lines in order, in room for two.
+fn listed(mut room: Room<PoolLine>, told: PoolLines) -> List<PoolLine>
+    requires empty { room.items ≡ [] }
+    requires spare { 2 ≤ room.spare }
+    ensures { result ≡ in_order told }
+{
+    room.push_within(told.first);
+    if let Some(more) = told.more {
+        room.push_within(more);
+    }
+    room.into_list()
 }
 
 /// A running pool. Contracts see it as the pool's state, and whether it is spent.
@@ -82,9 +96,9 @@ impl Pool {
 
     /// Takes one item of the account, and tells what came of it. A refused item changes nothing.
     /// After want of memory the pool is spent.
-    pub fn apply(&mut self, who: AccountId, kind: PoolKind) -> Result<PoolReceipt, PoolBlock>
-        ensures ok { IfOk result (λ receipt.
-            AppliesWell self.old self.new who kind receipt.lines) }
+    pub fn take(&mut self, who: AccountId, kind: PoolKind) -> Result<PoolLines, PoolBlock>
+        ensures ok { IfOk result (λ told.
+            AppliesWell self.old self.new who kind (in_order told)) }
         ensures blocked { IfErr result (IsBlocked self.old self.new) }
         ensures spent { self.old.spent ≡ true → result ≡ Err blocks.Spent }
         ensures sound { OnOk result (IsSound self.new.state) }
@@ -93,9 +107,26 @@ impl Pool {
             return Err(PoolBlock::Spent);
         }
         self.spent = true;
-        let lines = take_item(self.alloc, &mut self.chain, who, kind)?;
+        let told = take_item(&mut self.chain, who, kind)?;
         self.spent = false;
-        Ok(PoolReceipt { lines })
+        Ok(told)
+    }
+
+    /// Takes one item of the account as `take` does, and tells what came of it as a list.
+    pub fn apply(&mut self, who: AccountId, kind: PoolKind) -> Result<PoolReceipt, PoolBlock>
+        ensures ok { IfOk result (λ receipt.
+            AppliesWell self.old self.new who kind receipt.lines) }
+        ensures blocked { IfErr result (IsBlocked self.old self.new) }
+        ensures spent { self.old.spent ≡ true → result ≡ Err blocks.Spent }
+        ensures sound { OnOk result (IsSound self.new.state) }
+    {
+        let told = self.take(who, kind)?;
+        self.spent = true;
+        let room = Room::with_room(self.alloc, 2)?;
+        self.spent = false;
+        Ok(PoolReceipt {
+            lines: listed(room, told),
+        })
     }
 
     /// The books.

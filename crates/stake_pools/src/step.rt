@@ -1,16 +1,15 @@
 //! One item, by its kind.
 ghost use Rattle.std.specs.Prelude.{◌≡◌, IfOk, OnOk};
 ghost use Rattle.stake_pools.specs.Rules.{rule_of};
-ghost use Rattle.stake_pools.specs.Step.{Follows, Tells, item_outcome};
+ghost use Rattle.stake_pools.specs.Step.{Follows, Tells, in_order, item_outcome};
 ghost use Rattle.stake_pools.specs.Sound.{IsSound};
 
 use crate::earning::{claim, reward};
 use crate::root::{next_era, slash};
 use crate::sharing::{join, leave, redeem};
 use crate::stop::Stop;
-use crate::{PoolChain, PoolKind, PoolLine};
-use npos_base::{AccountId, List, NoMemory, Room};
-use std::alloc::Global;
+use crate::{PoolChain, PoolKind, PoolLine, PoolLines};
+use npos_base::{AccountId, NoMemory};
 
 /// Does what the item asks, and answers the line that tells more of it, if there is one.
 #[tactic(auto, unfolding(crate::specs::Rules::rule_of))]
@@ -32,25 +31,24 @@ fn act(chain: &mut PoolChain, who: AccountId, kind: PoolKind) -> Result<Option<P
 
 /// Takes one item, and answers the lines that it tells.
 pub fn take_item(
-    alloc: Global,
     chain: &mut PoolChain,
     who: AccountId,
     kind: PoolKind,
-) -> Result<List<PoolLine>, NoMemory>
+) -> Result<PoolLines, NoMemory>
     requires { IsSound chain.old }
     ensures state { OnOk result (chain.new ≡ (item_outcome chain.old who kind).state) }
-    ensures lines { IfOk result (λ lines. lines ≡ (item_outcome chain.old who kind).lines) }
+    ensures lines { IfOk result
+        (λ told. in_order told ≡ (item_outcome chain.old who kind).lines) }
 {
-    let mut lines = Room::with_room(alloc, 2)?;
     match act(chain, who, kind) {
-        Ok(line) => {
-            lines.push_within(PoolLine::Accepted);
-            if let Some(line) = line {
-                lines.push_within(line);
-            }
-        }
-        Err(Stop::Refused(refusal)) => lines.push_within(PoolLine::Refused(refusal.number())),
-        Err(Stop::NoMemory) => return Err(NoMemory),
+        Ok(more) => Ok(PoolLines {
+            first: PoolLine::Accepted,
+            more,
+        }),
+        Err(Stop::Refused(refusal)) => Ok(PoolLines {
+            first: PoolLine::Refused(refusal.number()),
+            more: None,
+        }),
+        Err(Stop::NoMemory) => Err(NoMemory),
     }
-    Ok(lines.into_list())
 }
