@@ -42,19 +42,19 @@ pub returns-then-branch : goal.returns-then-branch
 returns-then-branch c =
     let is : IsRead pool_genesis_form (first_place c.args.bytes.now) c.in-Ok.genesis c.read.new.cursor = search rules in
     let start = pool_spot c.read.new.cursor 0 c.in-Ok-start.pool.state in
-    let goes : GoesOn pool_machine start c.new-text.result.items c.take_items.new.text.items true =
-    subst (λ (faulty : Bool). GoesOn pool_machine start c.new-text.result.items c.take_items.new.text.items faulty) c.if-branch.true c.in_ok-take_items.ensures in
+    let goes : GoesOn pool_machine start c.in_ok-text.text.items c.take_items.new.text.items true =
+    subst (λ (faulty : Bool). GoesOn pool_machine start c.in_ok-text.text.items c.take_items.new.text.items faulty) c.if-branch.true c.in_ok-take_items.ensures in
     subst (λ (text : List ℕ). ReplayOwes pool_machine c.args.bytes.now text (status_of c.faulty-then-branch.result.ending)) (sym c.faulty-then-branch.ensures.text)
-    (replayed_input pool_machine pool_laws pool_turn_laws c.args.bytes.now c.new-text.result.items c.take_items.new.text.items start true _
+    (replayed_input pool_machine pool_laws pool_turn_laws c.args.bytes.now c.in_ok-text.text.items c.take_items.new.text.items start true _
     (pool_starts c.args.bytes.now c.read.new.cursor c.in-Ok.genesis c.in-Ok-start.pool.state is c.in-Ok-start.ensures.ok.0 (ap (λ (life : Life). life.state) c.in-Ok-start.ensures.ok.1))
-    c.new-text.ensures.items goes c.faulty-then-branch.ensures.status)
+    c.in_ok-text.ensures.items goes c.faulty-then-branch.ensures.status)
 
 -- they end with the lines of the pool
 pub returns : goal.returns
 returns c =
     let is : IsRead pool_genesis_form (first_place c.args.bytes.now) c.in-Ok.genesis c.read.new.cursor = search rules in
     let start = pool_spot c.read.new.cursor 0 c.in-Ok-start.pool.state in
-    let goes : GoesOn pool_machine start c.new-text.result.items c.take_items.new.text.items false = search rules in
-    replayed_input pool_machine pool_laws pool_turn_laws c.args.bytes.now c.new-text.result.items c.take_items.new.text.items start false _
+    let goes : GoesOn pool_machine start c.in_ok-text.text.items c.take_items.new.text.items false = search rules in
+    replayed_input pool_machine pool_laws pool_turn_laws c.args.bytes.now c.in_ok-text.text.items c.take_items.new.text.items start false _
     (pool_starts c.args.bytes.now c.read.new.cursor c.in-Ok.genesis c.in-Ok-start.pool.state is c.in-Ok-start.ensures.ok.0 (ap (λ (life : Life). life.state) c.in-Ok-start.ensures.ok.1))
-    c.new-text.ensures.items goes refl
+    c.in_ok-text.ensures.items goes refl
