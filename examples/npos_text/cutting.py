@@ -28,6 +28,8 @@ def places_of(reading: Reading) -> Dict[int, int]:
 def place_of(number: int, is_end: bool, places: Dict[int, int]) -> int:
     """Where the block of this number begins, or ends."""
     if number + is_end not in places:
+        if len(places) == 1:
+            raise Fault(f'there stands {number}, and {min(places) - is_end} was expected, since no block stands there')
         raise Fault(f'there stands {number}, and a block from {min(places)} to {max(places) - 1} was expected')
     return places[number + is_end]
 
