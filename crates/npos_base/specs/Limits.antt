@@ -1,5 +1,5 @@
 -- The limits of a chain, in numbers: what the specifications of all rooms cite by name.
-use Rattle.std.specs.Prelude.{◌≡◌}
+use Rattle.std.specs.Prelude.{◌≡◌, ℕ, Bool, ◌&&◌, nat_le}
 use Rattle.npos_base.specs.declared.limits.TheConstants.{MOST_NOMINATIONS, MOST_VALIDATORS, MOST_TARGETS, MOST_VOTERS, MOST_EDGES, MOST_SEATS, MOST_THRESHOLDS, MOST_ENDOWMENTS, MOST_SOLUTION_BYTES, MOST_QUEUED, MOST_PAST_ERAS, WHOLE_FRACTION}
 
 pub record AreTheLimits : Type 0 where
@@ -15,3 +15,7 @@ pub record AreTheLimits : Type 0 where
   pub queued : MOST_QUEUED ≡ 16
   pub past_eras : MOST_PAST_ERAS ≡ 84
   pub fraction : WHOLE_FRACTION ≡ 1000000000
+
+-- the number is at least the one and at most the other
+abbrev pub is_within : ℕ → ℕ → ℕ → Bool
+is_within least most number = nat_le least number && nat_le number most

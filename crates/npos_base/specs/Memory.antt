@@ -2,7 +2,9 @@
 use Rattle.std.specs.Prelude.{ℕ, ◌+◌, ◌^◌, min, Bool, false, ◌||◌, ◌&&◌, nat_eq, nat_lt, if◌then◌else◌, List, [], ◌++◌, length, take, drop, Option, Some, None, Result, Ok, Err}
 use Rattle.std.specs.List.{list_any}
 use Rattle.npos_base.specs.declared.outside.Failed.{Failed}
-use Rattle.npos_base.specs.Outside.{Told, one_more}
+use Rattle.npos_base.specs.declared.outside.Asked.{Asked}
+use Rattle.npos_base.specs.declared.outside.Tried.{Tried}
+use Rattle.npos_base.specs.Outside.{Told, one_more, asked_on, written_on, flushed_on}
 
 -- the number of the call after this one; the calls after the first 2^64 have none
 abbrev pub next_call : Option ℕ → Option ℕ
@@ -24,6 +26,7 @@ pub record Input : Type 0 where
   -- the number of the next read
   pub next : Option ℕ
   pub faults : ℕ
+  pub asked : Asked
 
 -- how many bytes a read that does not fail puts into a buffer with this room
 abbrev pub given_count : Input → ℕ → ℕ
@@ -41,6 +44,7 @@ after_read input room =
       left = if fails then input.left else drop (given_count input room) input.left;
       next = next_call input.next;
       faults = if fails then one_more input.faults else input.faults;
+      asked = asked_on input.asked room (read_answer input room);
     }
 
 -- a sink in memory
@@ -56,6 +60,7 @@ pub record Output : Type 0 where
   -- the number of the next write or flush
   pub next : Option ℕ
   pub faults : ℕ
+  pub tried : Tried
 
 -- a write fails where its number is among the failing, or where there are bytes and no spare
 abbrev pub write_fails : Output → List ℕ → Bool
@@ -81,6 +86,7 @@ after_write output piece spare =
       spare = spare;
       next = next_call output.next;
       faults = if fails then one_more output.faults else output.faults;
+      tried = written_on output.tried (write_answer output piece);
     }
 
 abbrev pub flush_answer : Output → Result (Unit {0}) Failed
@@ -94,4 +100,5 @@ after_flush output =
       flushed = if fails then output.flushed else length output.written;
       next = next_call output.next;
       faults = if fails then one_more output.faults else output.faults;
+      tried = flushed_on output.tried (flush_answer output);
     }

@@ -1,5 +1,7 @@
 -- The edge to the outside: a source that gives bytes, a sink that takes them, and their counts of faults.
-use Rattle.std.specs.Prelude.{◌≡◌, ⊤, ℕ, ◌+◌, ◌-◌, ◌^◌, ◌<◌, ◌≤◌, min, List, [], ◌++◌, length, take, drop, Option, Some, None, Result, IfOk, OnErr, MatchResult}
+use Rattle.std.specs.Prelude.{◌≡◌, ⊤, ℕ, ◌+◌, ◌-◌, ◌^◌, ◌<◌, ◌≤◌, min, nat_eq, nat_lt, true, false, ◌||◌, ◌&&◌, List, [], ◌++◌, length, take, drop, Option, Some, None, Result, Ok, Err, IfOk, OnOk, OnErr, MatchResult}
+use Rattle.npos_base.specs.declared.outside.Asked.{Asked}
+use Rattle.npos_base.specs.declared.outside.Tried.{Tried}
 
 -- the last value of a count of faults, at which it stays
 abbrev pub most_faults : ℕ
@@ -9,11 +11,11 @@ most_faults = 2 ^ 64 - 1
 abbrev pub one_more : ℕ → ℕ
 one_more faults = min (faults + 1) most_faults
 
--- the count rose, or stands at its last value
+-- the count rose by one, or stands at its last value
 abbrev pub Rose : ℕ → ℕ → Type 0
-Rose before now = one_more before ≤ now
+Rose before now = now ≡ one_more before
 
--- an Err has a fault as its cause, an Ok leaves the count, and the count never falls
+-- an Err has one fault as its cause, an Ok leaves the count, and the count never falls
 pub record HasCause {T E : Type 0} (before now : ℕ) (result : Result T E) : Type 0 where
   pub ok : IfOk result (λ _. now ≡ before)
   pub failed : OnErr result (Rose before now)
@@ -35,6 +37,58 @@ abbrev pub Gives : {E : Type 0} → Option (List ℕ) → Option (List ℕ) → 
 Gives old new result buffer = MatchResult result
     (λ n. Takes old new n (take n buffer) × (n ≡ 0 → 0 < length buffer → IsAtEnd old))
     (λ _. Takes old new 0 [])
+
+-- nothing was read yet
+abbrev pub unasked : Asked
+unasked = record { ended = false; late = false; last = 0 }
+
+-- after a read that gave n bytes for a buffer with this room
+abbrev pub given_more : Asked → ℕ → ℕ → Asked
+given_more before room n = record {
+  ended = before.ended || (nat_eq n 0 && nat_lt 0 room);
+  late = before.late || before.ended;
+  last = n;
+}
+
+-- after a read that failed
+abbrev pub given_none : Asked → Asked
+given_none before = record { ended = true; late = before.late || before.ended; last = 0 }
+
+-- after a read of a buffer with this room that came to this
+abbrev pub asked_on : {E : Type 0} → Asked → ℕ → Result ℕ E → Asked
+asked_on before room (Ok n) = given_more before room n
+asked_on before room (Err failed) = given_none before
+
+-- nothing was written or flushed yet
+abbrev pub untried : Tried
+untried = record { failed = false; late = false; flushed = false }
+
+-- after a write that did not fail
+abbrev pub written_more : Tried → Tried
+written_more before = record { failed = before.failed; late = before.late || before.failed; flushed = false }
+
+-- after a flush that did not fail
+abbrev pub flushed_more : Tried → Tried
+flushed_more before = record { failed = before.failed; late = before.late || before.failed; flushed = true }
+
+-- after a write or a flush that failed
+abbrev pub tried_in_vain : Tried → Tried
+tried_in_vain before = record { failed = true; late = before.late || before.failed; flushed = false }
+
+-- after a write that came to this
+abbrev pub written_on : {E : Type 0} → Tried → Result ℕ E → Tried
+written_on before (Ok n) = written_more before
+written_on before (Err failed) = tried_in_vain before
+
+-- after a flush that came to this
+abbrev pub flushed_on : {E : Type 0} → Tried → Result (Unit {0}) E → Tried
+flushed_on before (Ok done) = flushed_more before
+flushed_on before (Err failed) = tried_in_vain before
+
+-- behind a failure nothing is written or flushed, and an Ok comes without one
+pub record StopsTrying {T E : Type 0} (before now : Tried) (result : Result T E) : Type 0 where
+  pub in_time : before.failed ≡ false → now.late ≡ before.late
+  pub well : OnOk result (now.failed ≡ before.failed)
 
 -- what a sink tells: the bytes written so far, and how many of them were flushed
 pub record Told : Type 0 where

@@ -24,7 +24,7 @@ pub use limits::{
 pub use list::List;
 pub use memory::{MemorySink, MemorySource};
 pub use no_memory::{NoMemory, Reason};
-pub use outside::{Failed, PutFault, Sink, Source, put_all};
+pub use outside::{Asked, Failed, PutFault, Sink, Source, Tried, put_all};
 pub use plain::{PlainSink, PlainSource};
 pub use room::Room;
 pub use standard::{ReadSource, StdinSource, StdoutSink, Unwatched, Watch, Watched, WriteSink};

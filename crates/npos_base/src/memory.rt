@@ -1,10 +1,10 @@
 //! A source and a sink in memory, whose short and failed calls are chosen beforehand.
 ghost use Rattle.std.specs.Prelude.{◌≡◌, ◌+◌, ◌<◌, ◌≤◌, ◌-◌, [], ◌∷◌, ◌++◌, length, Some, None, IfOk, OnOk, OnErr};
-ghost use Rattle.npos_base.specs.Outside.{Gives, Writes, FlushesAll, HasCause};
+ghost use Rattle.npos_base.specs.Outside.{Gives, Writes, FlushesAll, HasCause, unasked, asked_on, untried, written_on, flushed_on};
 ghost use Rattle.npos_base.specs.Memory.{Input, Output, read_answer, after_read, write_answer, after_write, flush_answer, after_flush, told_of, is_failing, next_call};
 
 use crate::outside::fault;
-use crate::{Failed, List, NoMemory, Sink, Source};
+use crate::{Asked, Failed, List, NoMemory, Sink, Source, Tried};
 use std::alloc::Global;
 use std::marker::Model;
 
@@ -18,6 +18,7 @@ pub struct MemorySource {
     failing: List<u64>,
     next: Option<u64>,
     faults: u64,
+    asked: Asked,
 }
 
 impl Model for MemorySource {
@@ -32,6 +33,7 @@ impl Model for MemorySource {
       failing = s.failing;
       next = s.next;
       faults = s.faults;
+      asked = s.asked;
     } };
 
     ghost invariant = { λ s. (s.at ≤ length s.bytes) × (1 ≤ s.most) };
@@ -47,6 +49,7 @@ impl MemorySource {
           failing = failing;
           next = Some 0;
           faults = 0;
+          asked = unasked;
         } }
     {
         MemorySource {
@@ -56,6 +59,7 @@ impl MemorySource {
             failing,
             next: Some(0),
             faults: 0,
+            asked: Asked::new(),
         }
     }
 
@@ -72,20 +76,25 @@ impl Source for MemorySource {
 
     ghost faults = { λ source. source.faults };
 
+    ghost asked = { λ source. source.asked };
+
     fn read(&mut self, buffer: &mut [u8]) -> Result<usize, Failed>
         ensures bound { IfOk result (λ n. n ≤ length buffer.new) }
         ensures bytes { Gives (Some self.old.left) (Some self.new.left) result buffer.new }
         ensures cause { HasCause self.old.faults self.new.faults result }
+        ensures asked { self.new.asked ≡ asked_on self.old.asked (length buffer.new) result }
         ensures answer { result ≡ read_answer self.old (length buffer.old) }
         ensures after { self.new ≡ after_read self.old (length buffer.old) }
     {
         if number_fails(&mut self.next, self.failing.as_slice()) {
+            self.asked.failed();
             return Err(fault(&mut self.faults));
         }
         let left = &self.bytes.as_slice()[self.at..];
         let count = self.most.min(buffer.len()).min(left.len());
         buffer[..count].copy_from_slice(&left[..count]);
         self.at += count;
+        self.asked.gave(buffer.len(), count);
         Ok(count)
     }
 }
@@ -111,6 +120,7 @@ pub struct MemorySink {
     failing: List<u64>,
     next: Option<u64>,
     faults: u64,
+    tried: Tried,
 }
 
 impl Model for MemorySink {
@@ -128,6 +138,7 @@ impl Model for MemorySink {
       failing = s.failing;
       next = s.next;
       faults = s.faults;
+      tried = s.tried;
     } };
 
     ghost invariant = { λ s. 1 ≤ s.most };
@@ -145,6 +156,7 @@ impl MemorySink {
           failing = failing;
           next = Some 0;
           faults = 0;
+          tried = untried;
         } }
     {
         MemorySink {
@@ -154,6 +166,7 @@ impl MemorySink {
             failing,
             next: Some(0),
             faults: 0,
+            tried: Tried::new(),
         }
     }
 
@@ -187,11 +200,14 @@ impl Sink for MemorySink {
 
     ghost faults = { λ sink. sink.faults };
 
+    ghost tried = { λ sink. sink.tried };
+
     fn write(&mut self, piece: &[u8]) -> Result<usize, Failed>
         ensures bound { IfOk result (λ n. n ≤ length piece.now) }
         ensures some { 0 < length piece.now → IfOk result (λ n. 0 < n) }
         ensures bytes { Writes (told_of self.old) (told_of self.new) result piece.now }
         ensures cause { HasCause self.old.faults self.new.faults result }
+        ensures tried { self.new.tried ≡ written_on self.old.tried result }
         ensures answer { result ≡ write_answer self.old piece.now }
         ensures after { self.new ≡ after_write self.old piece.now self.new.spare }
         ensures spare { IfOk result (λ n. self.old.spare ≤ self.new.spare + n) }
@@ -200,26 +216,32 @@ impl Sink for MemorySink {
         let spare = self.written.capacity() - self.written.len();
         let fails = number_fails(&mut self.next, self.failing.as_slice());
         if fails || (spare == 0 && !piece.is_empty()) {
+            self.tried.failed();
             return Err(fault(&mut self.faults));
         }
         let count = self.most.min(piece.len()).min(spare);
         match self.written.extend_from_slice(&piece[..count]) {
-            Ok(()) => Ok(count),
+            Ok(()) => {}
             Err(_) => unreachable!(),
         }
+        self.tried.wrote();
+        Ok(count)
     }
 
     fn flush(&mut self) -> Result<(), Failed>
         ensures bytes { FlushesAll (told_of self.old) (told_of self.new) result }
         ensures cause { HasCause self.old.faults self.new.faults result }
+        ensures tried { self.new.tried ≡ flushed_on self.old.tried result }
         ensures answer { result ≡ flush_answer self.old }
         ensures after { self.new ≡ record (after_flush self.old) { spare = self.new.spare } }
         ensures spare { self.old.spare ≤ self.new.spare }
     {
         if number_fails(&mut self.next, self.failing.as_slice()) {
+            self.tried.failed();
             return Err(fault(&mut self.faults));
         }
         self.flushed = self.written.len();
+        self.tried.flushed();
         Ok(())
     }
 }

@@ -2,9 +2,10 @@
 //! tell. Standard input and output tell nothing: which bytes those give or take is trusted.
 ghost use Rattle.std.specs.Prelude.{◌≡◌, Bool, true, false, IsSome};
 ghost use Rattle.npos_base.specs.Adapted.{Given, Taken, told_by};
+ghost use Rattle.npos_base.specs.Outside.{unasked, untried};
 
 use crate::outside::fault;
-use crate::{Failed, Sink, Source};
+use crate::{Asked, Failed, Sink, Source, Tried};
 use std::io::{Read, Stdin, Stdout, Write};
 use std::marker::{Model, PhantomData};
 
@@ -14,6 +15,7 @@ use std::marker::{Model, PhantomData};
 pub struct ReadSource<R: Read> {
     input: R,
     faults: u64,
+    asked: Asked,
 }
 
 /// Standard input as a source. It tells no bytes.
@@ -24,15 +26,19 @@ impl<R: Read> Model for ReadSource<R> {
 
     ghost Value = { Given };
 
-    ghost view = { λ s. record { left = R.remaining s.input; faults = s.faults } };
+    ghost view = { λ s. record { left = R.remaining s.input; faults = s.faults; asked = s.asked } };
 }
 
 impl<R: Read> ReadSource<R> {
     /// The source of what the reader has left.
     pub fn new(input: R) -> ReadSource<R>
-        ensures { result ≡ record { left = R.remaining input; faults = 0 } }
+        ensures { result ≡ record { left = R.remaining input; faults = 0; asked = unasked } }
     {
-        ReadSource { input, faults: 0 }
+        ReadSource {
+            input,
+            faults: 0,
+            asked: Asked::new(),
+        }
     }
 }
 
@@ -41,10 +47,18 @@ impl<R: Read> Source for ReadSource<R> {
 
     ghost faults = { λ source. source.faults };
 
+    ghost asked = { λ source. source.asked };
+
     fn read(&mut self, buffer: &mut [u8]) -> Result<usize, Failed> {
         match self.input.read(buffer) {
-            Ok(count) => Ok(count),
-            Err(_) => Err(fault(&mut self.faults)),
+            Ok(count) => {
+                self.asked.gave(buffer.len(), count);
+                Ok(count)
+            }
+            Err(_) => {
+                self.asked.failed();
+                Err(fault(&mut self.faults))
+            }
         }
     }
 }
@@ -75,6 +89,7 @@ impl Watch for Unwatched {
 pub struct WriteSink<W: Write, T: Watch> {
     output: W,
     faults: u64,
+    tried: Tried,
     /// How many bytes were written since the last flush.
     unflushed: u64,
     watch: PhantomData<T>,
@@ -91,6 +106,7 @@ impl<W: Write, T: Watch> Model for WriteSink<W, T> {
     ghost view = { λ s. record {
       told = told_by T.is_told (W.contents s.output) s.unflushed;
       faults = s.faults;
+      tried = s.tried;
     } };
 
     ghost invariant = { λ s. Tells T.is_told (W.contents s.output) };
@@ -100,11 +116,12 @@ impl<W: Write, T: Watch> WriteSink<W, T> {
     /// A sink over a writer. What the writer holds already counts as flushed.
     pub fn new(output: W) -> WriteSink<W, T>
         requires { T.is_told ≡ true → IsSome (W.contents output) }
-        ensures { result ≡ record { told = told_by T.is_told (W.contents output) 0; faults = 0 } }
+        ensures { result ≡ record { told = told_by T.is_told (W.contents output) 0; faults = 0; tried = untried } }
     {
         WriteSink {
             output,
             faults: 0,
+            tried: Tried::new(),
             unflushed: 0,
             watch: PhantomData,
         }
@@ -116,18 +133,25 @@ impl<W: Write, T: Watch> Sink for WriteSink<W, T> {
 
     ghost faults = { λ sink. sink.faults };
 
+    ghost tried = { λ sink. sink.tried };
+
     /// A write that takes nothing of a piece that has bytes counts as a fault, and so does one
     /// whose bytes cannot be counted any more.
     fn write(&mut self, piece: &[u8]) -> Result<usize, Failed> {
         if self.unflushed.checked_add(piece.len() as u64).is_none() {
+            self.tried.failed();
             return Err(fault(&mut self.faults));
         }
         match self.output.write(piece) {
             Ok(count) if count > 0 || piece.is_empty() => {
                 self.unflushed += count as u64;
+                self.tried.wrote();
                 Ok(count)
             }
-            _ => Err(fault(&mut self.faults)),
+            _ => {
+                self.tried.failed();
+                Err(fault(&mut self.faults))
+            }
         }
     }
 
@@ -135,9 +159,13 @@ impl<W: Write, T: Watch> Sink for WriteSink<W, T> {
         match self.output.flush() {
             Ok(()) => {
                 self.unflushed = 0;
+                self.tried.flushed();
                 Ok(())
             }
-            Err(_) => Err(fault(&mut self.faults)),
+            Err(_) => {
+                self.tried.failed();
+                Err(fault(&mut self.faults))
+            }
         }
     }
 }

@@ -9,4 +9,6 @@ loop-put-preserved g c = record {
   within = omega (arith, simp (length-take, length-drop) at c.in-Ok.ensures.bound);
   appended = appends_more _ _ _ c.args.piece.now c.loop-put.put c.in-Ok.taken c.loop-put.invariant.appended c.in-Ok.ensures.bytes;
   no_fault = c.in-Ok.ensures.cause.ok ∙ c.loop-put.invariant.no_fault;
+  in_time = grind (arith, c.in-Ok.ensures.tried, c.loop-put.invariant.in_time, c.loop-put.invariant.well);
+  well = grind (arith, c.in-Ok.ensures.tried, c.loop-put.invariant.well);
 }
