@@ -1,5 +1,6 @@
 pub mod AveragingLemmas
 pub mod GivenEdgeLemmas
+pub mod KeptLemmas
 pub mod OneOrderLemmas
 pub mod ScoreLemmas
 pub mod SumLemmas

@@ -1,22 +1,23 @@
 //! Weights with room made beforehand.
-ghost use Rattle.std.specs.Prelude.{◌≡◌, ℕ, ◌<◌, ◌≤◌, ◌^◌, ◌+◌, [], ◌∷◌, ◌++◌, length, nat_eq, slice_index_or, IfOk, OnOk, IsPermutation};
+ghost use Rattle.std.specs.Prelude.{◌≡◌, ℕ, ◌<◌, ◌≤◌, ◌^◌, ◌+◌, [], ◌∷◌, ◌++◌, if◌then◌else◌, length, max, nat_eq, slice_index_or, IfOk, OnOk, IsPermutation};
 ghost use Rattle.std.specs.List.{IsDistinct};
 ghost use Rattle.std.specs.List.Sorted.{IsNonDecreasing};
 ghost use Rattle.weight_book.specs.Weights.{no_weights, support, spent, amount_sum};
 ghost use Rattle.weight_book.specs.Scoring.{score_of};
-ghost use Rattle.weight_book.specs.Room.{HasRoom, KeepsRoom, vote_count};
+ghost use Rattle.weight_book.specs.Room.{HasRoom, HasNoMoreRoom, KeepsRoom, vote_count};
+ghost use Rattle.weight_book.specs.Kept.{AreSupports};
 
 use election_snapshot::Snapshot;
-use npos_base::{Edge, NoMemory, Room, Score};
+use npos_base::{Edge, List, NoMemory, Score};
 use std::alloc::Global;
 use std::marker::Model;
 
 /// A committee and edges. Contracts see their lists and the spare of each: how many more members or
 /// edges it takes before memory is asked for. The room of a list is its length and its spare
-/// together; no call lowers it.
+/// together; no call lowers it. They also see for how many targets the support is kept.
 #[derive(Drop)]
 pub struct Weights {
-    members: Room<u16>,
+    members: Vec<u16>,
     edges: Vec<Edge>,
     /// By target of the election, what the edges to it sum to. It is kept up as edges come, so that
     /// no call looks for them.
@@ -24,7 +25,7 @@ pub struct Weights {
 }
 
 impl Model for Weights {
-    ghost use Rattle.std.specs.Prelude.{◌-◌};
+    ghost use Rattle.std.specs.Prelude.{◌-◌, length};
     ghost use Rattle.std.specs.Vec.{vec_len, vec_capacity};
     ghost use Rattle.weight_book.specs.Room.{WeightBook};
     ghost use Rattle.weight_book.specs.Kept.{AreSupports};
@@ -33,8 +34,9 @@ impl Model for Weights {
 
     ghost view = { λ w. record {
       plain = record { committee = w.members.items; edges = w.edges.items };
-      member_spare = w.members.spare;
+      member_spare = vec_capacity w.members - vec_len w.members;
       edge_spare = vec_capacity w.edges - vec_len w.edges;
+      support_count = length w.supports.items;
     } };
 
     ghost invariant = { λ w. AreSupports w.edges.items w.supports.items };
@@ -46,8 +48,9 @@ impl Weights {
     pub fn with_room(alloc: Global, snapshot: &Snapshot) -> Result<Weights, NoMemory>
         ensures empty { IfOk result (λ weights. weights.plain ≡ no_weights) }
         ensures room { IfOk result (HasRoom snapshot.now) }
+        ensures no_more { IfOk result (HasNoMoreRoom snapshot.now) }
     {
-        let members = Room::with_room(alloc, snapshot.target_count())?;
+        let members = Vec::with_capacity(alloc, snapshot.target_count())?;
         let edges = Vec::with_capacity(alloc, count_votes(snapshot))?;
         let supports = zeros(alloc, snapshot.target_count())?;
         Ok(Weights {
@@ -57,15 +60,37 @@ impl Weights {
         })
     }
 
-    /// Makes room for at least this many more members and edges.
+    /// The members and edges that are at hand. Neither are copied, and no room is made for more of
+    /// them. The supports are kept for so many targets.
+    pub fn of(
+        alloc: Global,
+        target_count: usize,
+        members: List<u16>,
+        edges: List<Edge>,
+    ) -> Result<Weights, NoMemory>
+        ensures plain { IfOk result (λ weights. weights.plain
+            ≡ record { committee = members; edges = edges }) }
+        ensures supports { IfOk result (λ weights. weights.support_count ≡ target_count) }
+    {
+        let mut supports = zeros(alloc, target_count)?;
+        let edges = edges.into_vec();
+        sum_supports(edges.as_slice(), &mut supports);
+        Ok(Weights {
+            members: members.into_vec(),
+            edges,
+            supports,
+        })
+    }
+
+    /// Makes room for this many more members and edges, where there is less.
     pub fn reserve(&mut self, members: usize, edges: usize) -> Result<(), NoMemory>
         ensures same { self.new.plain ≡ self.old.plain }
-        ensures members { OnOk result (members ≤ self.new.member_spare) }
-        ensures edges { OnOk result (edges ≤ self.new.edge_spare) }
+        ensures members { OnOk result (self.new.member_spare ≡ max self.old.member_spare members) }
+        ensures edges { OnOk result (self.new.edge_spare ≡ max self.old.edge_spare edges) }
         ensures room { KeepsRoom self.old self.new }
     {
-        self.members.reserve(members)?;
-        self.edges.reserve(edges)?;
+        self.members.reserve_exact(members)?;
+        self.edges.reserve_exact(edges)?;
         Ok(())
     }
 
@@ -78,7 +103,7 @@ impl Weights {
         ensures edge_spare { self.new.edge_spare ≡ self.old.edge_spare }
         ensures room { KeepsRoom self.old self.new }
     {
-        self.members.push_within(target);
+        self.members.push_reserved(target);
     }
 
     /// Appends an edge. It cannot fail, since there is room.
@@ -92,9 +117,7 @@ impl Weights {
     {
         // A vector has fewer than 2^64 edges, which only a call tells: so a support stays below 2^128.
         let _count = self.edges.len();
-        if let Some(support) = self.supports.get_mut(usize::from(edge.target)) {
-            *support += u128::from(edge.amount);
-        }
+        raise_support(&mut self.supports, edge.target, edge.amount);
         self.edges.push_reserved(edge);
     }
 
@@ -189,6 +212,31 @@ fn sum_to(edges: &[Edge], target: u16) -> u128
         }
     }
     sum
+}
+
+/// Sums what each target gets.
+fn sum_supports(edges: &[Edge], supports: &mut [u128])
+    requires { (target : ℕ) → slice_index_or supports.old target 0 ≡ 0 }
+    ensures sums { AreSupports edges.now supports.new }
+    ensures count { length supports.new ≡ length supports.old }
+{
+    for edge in edges {
+        raise_support(supports, edge.target, edge.amount);
+    }
+}
+
+/// Adds the amount to the support of the target, where it is kept.
+fn raise_support(supports: &mut [u128], target: u16, amount: u64)
+    requires { slice_index_or supports.old target 0 + amount < 2 ^ 128 }
+    ensures raised { (other : ℕ) → other < length supports.old
+        → slice_index_or supports.new other 0
+        ≡ slice_index_or supports.old other 0 + (if nat_eq target other then amount else 0) }
+    ensures count { length supports.new ≡ length supports.old }
+{
+    let place = usize::from(target);
+    if place < supports.len() {
+        supports[place] += u128::from(amount);
+    }
 }
 
 /// As many zeros.
