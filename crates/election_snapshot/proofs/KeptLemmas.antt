@@ -1,5 +1,5 @@
 -- The voters, as they are kept in three lists of one length.
-use Rattle.std.proofs.Common.{◌≡◌, ℕ, zero, suc, ◌+◌, ◌<◌, ◌≤◌, ◌^◌, Bool, true, false, nat_eq, nat_le, nat_lt, List, [], ◌∷◌, ◌++◌, length, get_or, sum, refl, ap, ap₂, sym, ◌∙◌, subst, arith, Option, Some, None, slice_get, if◌then◌else◌, ◌||◌, true≢false, length-append, is_some}
+use Rattle.std.proofs.Common.{◌≡◌, ℕ, zero, suc, ◌+◌, ◌<◌, ◌≤◌, ◌^◌, Bool, true, false, nat_eq, nat_le, nat_lt, List, [], ◌∷◌, ◌++◌, length, get_or, sum, refl, ap, ap₂, sym, ◌∙◌, subst, arith, Option, Some, None, if◌then◌else◌, ◌||◌, true≢false, length-append}
 use Rattle.std.specs.List.{IsDistinct, list_any, AllByRecursion}
 use Rattle.std.proofs.lemmas.List.Sums.{sum_by-cons, sum_by-append}
 use Rattle.std.proofs.lemmas.List.Elements.{All-push}
@@ -252,7 +252,3 @@ pub stake_read : (voters : List Voter) (i : ℕ) → get_or (stakes_of voters) i
 stake_read [] i = refl
 stake_read (voter ∷ voters) zero = refl
 stake_read (voter ∷ voters) (suc i) = stake_read voters i
-
-pub none_of : {X : Type 0} (option : Option X) → is_some option ≡ false → option ≡ None
-none_of None e = refl
-none_of (Some x) e = absurd (true≢false e)

@@ -1,9 +1,11 @@
 //! Building a snapshot, target by target and voter by voter.
-ghost use Rattle.std.specs.Prelude.{◌≡◌, [], Some, None, Bool, nat_le, IfOk, IfErr, OnOk, OnErr};
+ghost use Rattle.std.specs.Prelude.{◌≡◌, ◌<◌, [], Some, None, Bool, IsTrue, false, length, nat_le, IfOk, IfErr, OnOk, OnErr};
 ghost use Rattle.std.specs.List.{list_any};
-ghost use Rattle.npos_base.specs.Refusal.{Meets, answer_of};
+ghost use Rattle.std.specs.List.Sorted.{IsStrictlyIncreasing};
+ghost use Rattle.npos_base.specs.declared.limits.TheConstants.{MOST_VOTERS};
+ghost use Rattle.npos_base.specs.Refusal.{Meets};
 ghost use Rattle.election_snapshot.specs.declared.fault.SnapshotFault.TheVariants.{NoMemory as NoMemoryFault};
-ghost use Rattle.election_snapshot.specs.Draft.{place_of, has_repeat, target_fault, with_target, voter_fault, voter_fault_by, with_voter, finish_fault, seated};
+ghost use Rattle.election_snapshot.specs.Draft.{accounts_of, stands_in, place_of, has_repeat, target_fault, with_target, voter_fault, voter_fault_by, with_voter, finish_fault, seated};
 
 use crate::{Snapshot, SnapshotFault, SnapshotParts};
 use npos_base::{AccountId, MOST_NOMINATIONS, MOST_VOTERS, NoMemory};
@@ -67,13 +69,19 @@ impl SnapshotBuilder {
         ensures { Meets NoMemoryFault (voter_fault self.old who stake votes.now)
             (with_voter self.old who stake votes.now) self.old self.new result }
     {
-        self.check_voter(who, stake, votes)?;
-        self.voters.insert(who, ())?;
-        match self.parts.put_voter(who, stake, votes) {
+        let voters = self.parts.voter_count();
+        if voters >= MOST_VOTERS {
+            return Err(SnapshotFault::TooManyVoters);
+        }
+        // The account is noted where it is looked for, so that one search does both.
+        if self.voters.insert(who, ())?.is_some() {
+            return Err(SnapshotFault::RepeatedVoter(voters as u32));
+        }
+        match add_new(&mut self.parts, who, stake, votes) {
             Ok(()) => Ok(()),
-            Err(NoMemory) => {
+            Err(fault) => {
                 let _ = self.voters.remove(&who);
-                Err(SnapshotFault::NoMemory)
+                Err(fault)
             }
         }
     }
@@ -94,45 +102,41 @@ impl SnapshotBuilder {
             }
         }
     }
+}
 
-    /// Tells the first fault of a voter behind those that stand.
-    fn check_voter(&self, who: AccountId, stake: u64, votes: &[u16]) -> Result<(), SnapshotFault>
-        ensures { result ≡ answer_of (voter_fault self.now who stake votes.now) }
-    {
-        let stands = self.voters.contains_key(&who);
-        let total = self.parts.total();
-        match fault_by(
-            self.parts.target_count(),
-            self.parts.voter_count(),
-            stands,
-            total,
-            stake,
-            votes,
-        ) {
-            Some(fault) => Err(fault),
-            None => Ok(()),
-        }
+/// Adds a voter whose account does not stand behind those that stand.
+fn add_new(
+    parts: &mut SnapshotParts,
+    who: AccountId,
+    stake: u64,
+    votes: &[u16],
+) -> Result<(), SnapshotFault>
+    requires few { length parts.old.voters < MOST_VOTERS }
+    requires is_new { stands_in (accounts_of parts.old.voters) who ≡ false }
+    ensures { Meets NoMemoryFault (voter_fault parts.old who stake votes.now)
+        (with_voter parts.old who stake votes.now) parts.old parts.new result }
+{
+    let number = parts.voter_count() as u32;
+    if let Some(fault) = new_fault(parts.target_count(), number, parts.total(), stake, votes) {
+        return Err(fault);
+    }
+    match parts.put_voter(who, stake, votes) {
+        Ok(()) => Ok(()),
+        Err(NoMemory) => Err(SnapshotFault::NoMemory),
     }
 }
 
-/// The first fault of a voter behind so many, whose account stands or not.
-fn fault_by(
+/// The first fault of a voter that is the next after so many, and whose account does not stand.
+fn new_fault(
     targets: usize,
-    voters: usize,
-    stands: bool,
+    number: u32,
     total: u64,
     stake: u64,
     votes: &[u16],
 ) -> Option<SnapshotFault>
-    ensures { result ≡ voter_fault_by targets voters stands total stake votes.now }
+    requires { number < MOST_VOTERS }
+    ensures { result ≡ voter_fault_by targets number false total stake votes.now }
 {
-    if voters >= MOST_VOTERS {
-        return Some(SnapshotFault::TooManyVoters);
-    }
-    let number = voters as u32;
-    if stands {
-        return Some(SnapshotFault::RepeatedVoter(number));
-    }
     if stake == 0 {
         return Some(SnapshotFault::ZeroStake(number));
     }
@@ -161,10 +165,15 @@ fn pass(votes: &[u16], targets: usize) -> bool
     votes.iter().any(|target| targets <= usize::from(*target))
 }
 
-/// Whether some vote stands twice. The votes are few: at most as many as a voter can nominate.
+/// Whether some vote stands twice. None does where they rise, as they mostly do. Else each is looked
+/// for behind itself: the votes are few, at most as many as a voter can nominate.
+#[tactic(auto, using(crate::proofs::RepeatLemmas::rising_repeat_nothing))]
 fn repeats(votes: &[u16]) -> bool
     ensures { result ≡ has_repeat votes.now }
 {
+    if rise(votes) {
+        return false;
+    }
     let mut rest = votes;
     while let Some((first, others)) = rest.split_first() {
         if others.contains(first) {
@@ -173,4 +182,16 @@ fn repeats(votes: &[u16]) -> bool
         rest = others;
     }
     false
+}
+
+/// Whether each vote is less than the next.
+fn rise(votes: &[u16]) -> bool
+    ensures { IsTrue result → IsStrictlyIncreasing votes.now }
+{
+    for place in 1..votes.len() {
+        if votes[place] <= votes[place - 1] {
+            return false;
+        }
+    }
+    true
 }

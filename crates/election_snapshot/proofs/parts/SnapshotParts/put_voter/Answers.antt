@@ -1,6 +1,6 @@
 -- The voter has no fault, and goes behind the others in each of the three lists.
-use Rattle.std.proofs.Common.{◌≡◌, ◌∙◌, ap, ap₂, sym, ◌+◌, ◌^◌, ◌<◌, ◌++◌, ◌∷◌, [], None, arith}
-use Rattle.election_snapshot.specs.Draft.{Draft, voter_fault}
+use Rattle.std.proofs.Common.{◌≡◌, ◌∙◌, ap, ap₂, ◌+◌, ◌^◌, ◌<◌, ◌++◌, ◌∷◌, [], None, arith}
+use Rattle.election_snapshot.specs.Draft.{voter_fault}
 use Rattle.election_snapshot.proofs.KeptLemmas.{kept_draft, kept_with, kept_fits, voters_new}
 use Rattle.election_snapshot.proofs.parts.SnapshotParts.put_voter.Goals as goal
 

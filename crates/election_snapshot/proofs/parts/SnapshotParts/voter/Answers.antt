@@ -1,4 +1,4 @@
-use Rattle.std.proofs.Common.{◌≡◌, ◌<◌, ◌∙◌, sym, ap, length, arith, rules}
+use Rattle.std.proofs.Common.{◌<◌, ◌∙◌, sym, ap, length, arith, rules}
 use Rattle.election_snapshot.specs.Snapshot.{no_account}
 use Rattle.election_snapshot.specs.Draft.{Draft}
 use Rattle.election_snapshot.proofs.KeptLemmas.{kept_count, kept_voter, account_read}
