@@ -5,3 +5,4 @@ pub mod PickLemmas
 pub mod RoundLemmas
 pub mod SeatLemmas
 pub mod SortLemmas
+pub mod OutsideLemmas

@@ -1,5 +1,5 @@
 //! One pick: the target that joins, and what it draws.
-ghost use Rattle.std.specs.Prelude.{◌≡◌, ℕ, ◌-◌, ◌<◌, ◌≤◌, ◌∷◌, [], ◌++◌, if◌then◌else◌, length, nat_lt, is_none, ◌||◌, slice_set, IfSome, OnOk};
+ghost use Rattle.std.specs.Prelude.{◌≡◌, ℕ, ◌-◌, ◌<◌, ◌≤◌, ◌∷◌, [], ◌++◌, if◌then◌else◌, length, false, nat_lt, slice_index_or, slice_set, IfSome, IfNone, OnOk};
 ghost use Rattle.npos_base.specs.declared.limits.TheConstants.{MOST_TARGETS};
 ghost use Rattle.weight_book.specs.Passing.{nominators};
 ghost use Rattle.quota_fill.specs.Filled.{draw};
@@ -20,25 +20,33 @@ pub(crate) fn best_outside(backings: &[u64], is_picked: &[bool]) -> Option<u16>
         (unmarked is_picked.now (length is_picked.now)) }
     ensures in_range { IfSome result (λ target. target < length backings.now) }
 {
-    let mut best = None;
-    let mut most = 0;
-    for target in 0..backings.len() {
-        if exceeds(best, most, backings[target]) && !is_picked[target] {
-            best = Some(target as u16);
+    let Some(first) = first_outside(is_picked) else {
+        return None;
+    };
+    let mut best = first;
+    let mut most = backings[first];
+    for target in first + 1..backings.len() {
+        if most < backings[target] && !is_picked[target] {
+            best = target;
             most = backings[target];
         }
     }
-    best
+    Some(best as u16)
 }
 
-/// Whether a backing is more than the most so far, or the first one.
-fn exceeds(best: Option<u16>, most: u64, backing: u64) -> bool
-    ensures { result ≡ (is_none best || nat_lt most backing) }
+/// The lowest of the targets that are not picked.
+fn first_outside(is_picked: &[bool]) -> Option<usize>
+    ensures in_range { IfSome result (λ first. first < length is_picked.now) }
+    ensures outside { IfSome result (λ first. slice_index_or is_picked.now first false ≡ false) }
+    ensures lowest { IfSome result (λ first. unmarked is_picked.now first ≡ []) }
+    ensures none { IfNone result (unmarked is_picked.now (length is_picked.now) ≡ []) }
 {
-    match best {
-        Some(_) => most < backing,
-        None => true,
+    for target in 0..is_picked.len() {
+        if !is_picked[target] {
+            return Some(target);
+        }
     }
+    None
 }
 
 /// Draws the price of a seat for the target from its nominators, in their order.
