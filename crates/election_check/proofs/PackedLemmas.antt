@@ -12,7 +12,7 @@ use Rattle.election_check.specs.declared.fault.Fault.TheVariants.{WrongScore}
 use Rattle.election_check.specs.declared.verdict.Verdict.TheVariants.{Yes}
 use Rattle.election_check.specs.First.{or_yes}
 use Rattle.election_check.specs.Laws.{IsAccepted}
-use Rattle.election_check.specs.Packed.{expanded, entries_fault, expand_fault, same_score, score_fault, solution_fault, verdict_solution, verdict_decoded, verdict_packed, weights_decoded, given}
+use Rattle.election_check.specs.Packed.{expanded, entries_fault, expand_fault, same_score, score_fault, solution_fault, verdict_solution, verdict_decoded, verdict_packed, weights_decoded, weights_unless}
 use Rattle.election_check.specs.Steps.{size_fault, outweighed}
 use Rattle.election_check.proofs.FaultLemmas.{yes_is_none}
 use Rattle.election_check.proofs.FirstLemmas.{when_none, first_none}
@@ -42,7 +42,7 @@ accepted snapshot claim bytes accepts = by (decoded bytes) refl accepts
         record {
           solution = solution;
           decoded_is = is;
-          given_are = ap (weights_decoded snapshot) is ∙ ap (λ fault. given fault weights) expands;
+          given_are = ap (weights_decoded snapshot) is ∙ ap (λ fault. weights_unless fault weights) expands;
           plain_yes = ap or_yes (no_plain_fault snapshot weights record {
             feasible = feasible_packed snapshot (entries_of solution) sound filled;
             none_outweighs = none_outweighs snapshot weights outside;

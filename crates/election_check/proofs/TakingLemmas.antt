@@ -75,10 +75,10 @@ member_no p n t =
 -- ## Room
 
 pub keeps_then : (old mid new : WeightBook) → KeepsRoom old mid → KeepsRoom mid new → KeepsRoom old new
-keeps_then old mid new one two = record { members = omega (arith, one.members, two.members); edges = omega (arith, one.edges, two.edges) }
+keeps_then old mid new one two = record { members = omega (arith, one.members, two.members); edges = omega (arith, one.edges, two.edges); supports = two.supports ∙ one.supports }
 
 pub keeps : (book : WeightBook) → KeepsRoom book book
-keeps book = record { members = omega arith; edges = omega arith }
+keeps book = record { members = omega arith; edges = omega arith; supports = refl }
 
 pub has_room_then : (snapshot : Snapshot) (old new : WeightBook) → HasRoom snapshot old → KeepsRoom old new → HasRoom snapshot new
 has_room_then snapshot old new has keeps = record { members = omega (arith, has.members, keeps.members); edges = omega (arith, has.edges, keeps.edges) }

@@ -4,6 +4,7 @@ use Rattle.std.specs.List.{range_with_len}
 use Rattle.npos_base.specs.declared.limits.TheConstants.{MOST_NOMINATIONS}
 use Rattle.election_snapshot.specs.Snapshot.{Snapshot, has}
 use Rattle.weight_book.specs.Passing.{nominators}
+pub use Rattle.seat_race.specs.Tables.{AreMarks}
 use Rattle.election_check.specs.declared.fault.Fault.{Fault}
 use Rattle.election_check.specs.declared.fault.Fault.TheVariants.{Outweighed}
 use Rattle.election_check.specs.declared.tables.Tables.{Tables}
@@ -15,10 +16,6 @@ pub record AreTablesOf (snapshot : Snapshot) (tables : Tables) : Type 0 where
   pub prescores : length tables.prescores.items ≡ length snapshot.targets
   pub entries : length tables.has_entry.items ≡ length snapshot.voters
   pub stamps : length tables.stamps.items ≡ length snapshot.targets
-
--- the table tells which numbers stand in the list
-abbrev pub AreMarks : List Bool → List ℕ → Type 0
-AreMarks table numbers = (number : ℕ) → slice_index_or table number false ≡ has numbers number
 
 -- by what the table says, what the target's nominators have left
 abbrev pub left_of : List ℕ → Snapshot → ℕ → ℕ

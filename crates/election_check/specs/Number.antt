@@ -3,16 +3,16 @@ use Rattle.std.specs.Prelude.{ℕ}
 use Rattle.election_check.specs.declared.verdict.Verdict.{Verdict}
 use Rattle.election_check.specs.declared.verdict.Verdict.TheVariants.{Yes, Undecodable, NoVoter, NoTarget, VoterTwice, TargetTwice, NotNominated, BadShare, WrongSize, WrongScore, Outweighed, Overspent}
 
-abbrev pub number_of : Verdict → ℕ
-number_of Yes = 0
-number_of (Undecodable at why) = 1
-number_of (NoVoter voter) = 2
-number_of (NoTarget target) = 3
-number_of (VoterTwice voter) = 4
-number_of (TargetTwice target) = 5
-number_of (NotNominated voter target) = 6
-number_of (BadShare voter) = 7
-number_of (WrongSize found) = 8
-number_of (WrongScore actual) = 9
-number_of (Outweighed target prescore) = 10
-number_of (Overspent voter) = 11
+abbrev pub verdict_number : Verdict → ℕ
+verdict_number Yes = 0
+verdict_number (Undecodable at why) = 1
+verdict_number (NoVoter voter) = 2
+verdict_number (NoTarget target) = 3
+verdict_number (VoterTwice voter) = 4
+verdict_number (TargetTwice target) = 5
+verdict_number (NotNominated voter target) = 6
+verdict_number (BadShare voter) = 7
+verdict_number (WrongSize found) = 8
+verdict_number (WrongScore actual) = 9
+verdict_number (Outweighed target prescore) = 10
+verdict_number (Overspent voter) = 11

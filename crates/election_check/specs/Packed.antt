@@ -140,11 +140,11 @@ abbrev pub verdict_packed : Snapshot → Score → List ℕ → Verdict
 verdict_packed snapshot claim bytes = verdict_decoded snapshot claim (decoded bytes)
 
 -- weights that stand where there is no fault, and else none
-abbrev pub given : Option Fault → Weights → Weights
-given None weights = weights
-given (Some fault) weights = no_weights
+abbrev pub weights_unless : Option Fault → Weights → Weights
+weights_unless None weights = weights
+weights_unless (Some fault) weights = no_weights
 
 -- the weights after the verdict on what was decoded
 abbrev pub weights_decoded : Snapshot → Result (List (List Entry)) WireFault → Weights
-weights_decoded snapshot (Ok solution) = given (expand_fault snapshot solution) (expanded snapshot solution)
+weights_decoded snapshot (Ok solution) = weights_unless (expand_fault snapshot solution) (expanded snapshot solution)
 weights_decoded snapshot (Err fault) = no_weights

@@ -4,7 +4,7 @@ ghost use Rattle.weight_book.specs.Weights.{no_weights, IsFeasible};
 ghost use Rattle.weight_book.specs.Room.{HasRoom, KeepsRoom};
 ghost use Rattle.election_check.specs.First.{answer_of, first_of};
 ghost use Rattle.election_check.specs.Steps.{outweighed};
-ghost use Rattle.election_check.specs.Packed.{expanded, expand_fault, expand_verdict, score_fault, verdict_solution, verdict_packed, given, weights_decoded};
+ghost use Rattle.election_check.specs.Packed.{expanded, expand_fault, expand_verdict, score_fault, verdict_solution, verdict_packed, weights_unless, weights_decoded};
 ghost use Rattle.compact_solution.specs.Decoded.{decoded};
 
 use crate::entries::{check_score, fill_weights};
@@ -27,7 +27,7 @@ impl Checker {
         requires room { HasRoom self.old weights.old }
         ensures verdict { result ≡ expand_verdict self.old solution.now }
         ensures weights { weights.new.plain
-            ≡ given (expand_fault self.old solution.now) (expanded self.old solution.now) }
+            ≡ weights_unless (expand_fault self.old solution.now) (expanded self.old solution.now) }
         ensures room { KeepsRoom weights.old weights.new }
         ensures snapshot { self.new ≡ self.old }
     {
@@ -48,7 +48,7 @@ impl Checker {
         requires room { HasRoom self.old weights.old }
         ensures verdict { result ≡ verdict_solution self.old claim.now solution.now }
         ensures weights { weights.new.plain
-            ≡ given (expand_fault self.old solution.now) (expanded self.old solution.now) }
+            ≡ weights_unless (expand_fault self.old solution.now) (expanded self.old solution.now) }
         ensures room { KeepsRoom weights.old weights.new }
         ensures snapshot { self.new ≡ self.old }
     {

@@ -1,6 +1,6 @@
 //! The verdict on a solution.
 ghost use Rattle.std.specs.Prelude.{◌≡◌};
-ghost use Rattle.election_check.specs.Number.{number_of};
+ghost use Rattle.election_check.specs.Number.{verdict_number};
 
 use npos_base::Score;
 use scale_wire::fault::Why;
@@ -37,7 +37,7 @@ pub enum Verdict {
 impl Verdict {
     /// The number of the verdict, from 0 for Yes.
     pub fn number(self) -> u8
-        ensures { result ≡ number_of self }
+        ensures { result ≡ verdict_number self }
     {
         match self {
             Verdict::Yes => 0,
