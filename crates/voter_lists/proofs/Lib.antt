@@ -13,6 +13,7 @@ pub mod DistinctLemmas
 pub mod PlaceLemmas
 pub mod StandingLemmas
 pub mod OneWalkLemmas
+pub mod OneAnswerLemmas
 pub mod TakenLemmas
 pub mod RoleLemmas
 pub mod RepeatLemmas

@@ -54,7 +54,7 @@ bag_walked k number (suc more) order low high =
       above le differ = elim (cases_lt number k) [ inl lt ↦ omega (arith, lt) | inr past ↦ absurd (differ (omega (arith, le, past))) ]
 
 module _ (thresholds : List ℕ) where
-  alike : (a b : Order) → IsOneWalk thresholds a b → (k : ℕ) → k < length thresholds + 1 → in_bag k a ≡ in_bag k b
+  pub alike : (a b : Order) → IsOneWalk thresholds a b → (k : ℕ) → k < length thresholds + 1 → in_bag k a ≡ in_bag k b
   alike a b one k lt =
       sym (bag_walked k 0 (length thresholds + 1) a (omega arith) (omega (arith, lt))) ∙ ap (in_bag k) one ∙ bag_walked k 0 (length thresholds + 1) b (omega arith) (omega (arith, lt))
 

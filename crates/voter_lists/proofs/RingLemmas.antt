@@ -8,7 +8,7 @@ use Rattle.std.proofs.lemmas.List.Folds.{sum_by-replicate}
 use Rattle.std.proofs.lemmas.Option.{none-some, same_Some}
 use Rattle.voter_lists.specs.declared.rings.Link.{Link}
 use Rattle.voter_lists.specs.Rings.{items, list_count, without, before, after, IsIn, IsApart, IsEmpty, IsFit, SameLists}
-use Rattle.voter_lists.specs.Links.{no_link, next_of, prev_of, Skips, Splices, is_list, walk, IsChain, IsRing, keys_of, lists_of, IsSound}
+use Rattle.voter_lists.specs.Links.{no_link, next_of, prev_of, Skips, Splices, is_list, walk, IsChain, IsRing, keys_of, lists_of, AreWellLinked}
 use Rattle.voter_lists.proofs.LinkLemmas.{length-without, length-walk, IsOn, walk_chain, prev_end_on, prev_on, next_on, IsRing-kept, IsRing-skip, IsRing-push, IsRing-before, length-before, next_after, rings_apart, free_not_on}
 
 -- a key with a list has room
@@ -57,7 +57,7 @@ module _ (links : List Link) (owners : List (Option ℕ)) (heads : ℕ) where
   keys_of_ring list keys chain count =
       ap (λ n. walk (next_of links) heads n list) count ∙ walk_chain (next_of links) (prev_of links) heads list keys list chain
 
-  module _ (sound : IsSound links owners heads) where
+  module _ (sound : AreWellLinked links owners heads) where
     on_within : (list at : ℕ) → list < heads → IsOn heads list (keys_of links owners heads list) at → at < length links
     on_within list at head on =
         elim on [
@@ -154,7 +154,7 @@ module _ (links : List Link) (owners : List (Option ℕ)) (heads : ℕ) where
 
 -- the new fields are sound, one list has these keys, and every other list is as it was
 pub record Changes (links new_links : List Link) (owners new_owners : List (Option ℕ)) (heads list : ℕ) (keys : List ℕ) : Type 0 where
-  pub sound : IsSound new_links new_owners heads
+  pub sound : AreWellLinked new_links new_owners heads
   pub changed : items (lists_of new_links new_owners heads) list ≡ keys
   pub others : (other : ℕ) → other ≢ list → items (lists_of new_links new_owners heads) other ≡ items (lists_of links owners heads) other
 
@@ -189,7 +189,7 @@ module _ (links new_links : List Link) (owners new_owners : List (Option ℕ)) (
         others = λ other differs. items_kept other (λ other_head. ring_kept other (rings other other_head differs) (counts other differs));
       }
 
-module _ (links new_links : List Link) (owners : List (Option ℕ)) (heads list key : ℕ) (sound : IsSound links owners heads) (sized : length new_links ≡ length links) where
+module _ (links new_links : List Link) (owners : List (Option ℕ)) (heads list key : ℕ) (sound : AreWellLinked links owners heads) (sized : length new_links ≡ length links) where
   pub Changes-skip : get_or owners key None ≡ Some list → Skips links new_links (heads + key) → Changes links new_links owners (set owners key None) heads list (without key (items (lists_of links owners heads) list))
   Changes-skip owned skips =
       let head = sound.known key list owned in
@@ -332,8 +332,8 @@ module _ (links : List Link) (heads : ℕ) (sized : length links ≡ heads) (clo
   keys_of_new : (list : ℕ) → list < heads → keys_of links [] heads list ≡ []
   keys_of_new list head = keys_of_ring links [] heads list [] (closed list head) refl
 
-  pub IsSound-new : IsSound links [] heads
-  IsSound-new =
+  pub AreWellLinked-new : AreWellLinked links [] heads
+  AreWellLinked-new =
       record {
         sized = omega arith;
         known = λ key list owned. absurd (none-some list owned);
@@ -372,7 +372,7 @@ grown_by true old new len count d is_len below resized =
 grown_by false old new len count d is_len below resized = (0, resized ∙ sym (append-nil old), omega arith)
 
 -- room for more keys changes no list
-module _ (links new_links : List Link) (owners : List (Option ℕ)) (heads more : ℕ) (sound : IsSound links owners heads) (sized : heads + length owners + more ≤ length new_links) (kept : (at : ℕ) → at < heads + length owners → get_or new_links at no_link ≡ get_or links at no_link) where
+module _ (links new_links : List Link) (owners : List (Option ℕ)) (heads more : ℕ) (sound : AreWellLinked links owners heads) (sized : heads + length owners + more ≤ length new_links) (kept : (at : ℕ) → at < heads + length owners → get_or new_links at no_link ≡ get_or links at no_link) where
   ring_grown : (list : ℕ) → list < heads → IsRing (next_of new_links) (prev_of new_links) heads (λ key. get_or (owners ++ replicate more None) key None) list (keys_of links owners heads list)
   ring_grown list head =
       let ring = sound.rings list head in
@@ -389,8 +389,8 @@ module _ (links new_links : List Link) (owners : List (Option ℕ)) (heads more 
       ring_kept links new_links owners _ heads list (ring_grown list head)
       (omega (arith, sum_by-append (λ o. cond (is_list list o) 1 0) owners (replicate more None), sum_by-replicate (λ o. cond (is_list list o) 1 0) more None))
 
-  pub IsSound-grown : IsSound new_links (owners ++ replicate more None) heads
-  IsSound-grown =
+  pub AreWellLinked-grown : AreWellLinked new_links (owners ++ replicate more None) heads
+  AreWellLinked-grown =
       record {
         sized = omega (arith, length-append owners (replicate more None), length-replicate {A = Option ℕ} more None);
         known = λ key list owned. sound.known key list (sym (get_or-append_defaults owners more key None) ∙ owned);

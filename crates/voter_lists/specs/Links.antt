@@ -76,7 +76,7 @@ module _ (links : List Link) (owners : List (Option ℕ)) (heads : ℕ) where
   lists_of = record { lists = map keys_of (range_with_len 0 heads); owners = owners }
 
   -- each key has a link, its owner is a list, and each list is a ring
-  pub record IsSound : Type 0 where
+  pub record AreWellLinked : Type 0 where
     pub sized : heads + length owners ≤ length links
     pub known : (key list : ℕ) → slice_index_or owners key None ≡ Some list → list < heads
     pub rings : (list : ℕ) → list < heads

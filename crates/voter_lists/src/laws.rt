@@ -2,12 +2,12 @@
 ghost use Rattle.std.specs.Prelude.{◌≡◌, ◌↔◌, ◌≤◌, ℕ, false, List, [], length, All, None};
 ghost use Rattle.std.specs.List.{IsDistinct};
 ghost use Rattle.npos_base.specs.declared.account.AccountId.{AccountId};
-ghost use Rattle.voter_lists.specs.Bags.{Order, Listing, bag_of, in_walk_order, joined, inserted, removed, moved, put_in_front};
+ghost use Rattle.voter_lists.specs.Bags.{Order, Listing, bag_of, number_of, is_listed, is_at_home, rebag_refusal, put_in_front_refusal, in_walk_order, joined, inserted, removed, moved, put_in_front};
 ghost use Rattle.npos_base.specs.Account.{same_account};
 ghost use Rattle.voter_lists.specs.Roles.{RoleList, has_repeat, nominate_refusal, without_role};
 ghost use Rattle.voter_lists.specs.declared.standing.Role.{Role};
 ghost use Rattle.voter_lists.specs.Taken.{NeverRises, AreSound, CanTake, IsNomination, with_role};
-ghost use Rattle.voter_lists.specs.OneWalk.{IsOneWalk, StandsIn, listing_of, appended, taken_out, appended_anew, put_before};
+ghost use Rattle.voter_lists.specs.OneWalk.{IsOneWalk, StandsIn, AreOneList, listing_of, appended, taken_out, appended_anew, put_before};
 
 /// The bags keep their list in the order of its walk. A list that an account joins at its end,
 /// wherever its bag is in the walk, serves as well: of two lists with one walk, where a call
@@ -31,6 +31,47 @@ pub fn calls_end_with_one_walk()
         → StandsIn who number list → StandsIn who number arranged → StandsIn lighter number list
         → StandsIn lighter number arranged
         → IsOneWalk thresholds (put_before list who lighter)
+        (put_in_front (listing_of thresholds arranged) who lighter).order }
+{}
+
+/// Where each account stands once, the two ways to keep the list give the same answers: in lists
+/// with one walk each account has the same bag, so the same calls are refused, for the same reason.
+pub fn one_walk_gives_the_same_answers()
+    ensures bags { (thresholds : List ℕ) (list arranged : Order) (who : AccountId)
+        → AreOneList thresholds list arranged → number_of list who ≡ number_of arranged who }
+    ensures homes { (thresholds : List ℕ) (list arranged : Order) (who : AccountId) (score : ℕ)
+        → AreOneList thresholds list arranged
+        → is_at_home (listing_of thresholds list) who score
+        ≡ is_at_home (listing_of thresholds arranged) who score }
+    ensures rebags { (thresholds : List ℕ) (list arranged : Order) (who : AccountId) (score : ℕ)
+        → AreOneList thresholds list arranged
+        → rebag_refusal (listing_of thresholds list) who score
+        ≡ rebag_refusal (listing_of thresholds arranged) who score }
+    ensures fronts { (thresholds : List ℕ) (list arranged : Order) (who : AccountId) (score : ℕ)
+        (lighter : AccountId) (lighter_score : ℕ) → AreOneList thresholds list arranged
+        → put_in_front_refusal (listing_of thresholds list) who score lighter lighter_score
+        ≡ put_in_front_refusal (listing_of thresholds arranged) who score lighter lighter_score }
+{}
+
+/// The two ways to keep the list go on as one: each call that is not refused leaves lists with one
+/// walk, in which each account stands once.
+pub fn calls_keep_each_account_once()
+    ensures inserts { (thresholds : List ℕ) (list arranged : Order) (who : AccountId) (score : ℕ)
+        → AreOneList thresholds list arranged → is_listed list who ≡ false
+        → AreOneList thresholds (appended thresholds list who score)
+        (inserted (listing_of thresholds arranged) who score).order }
+    ensures removes { (thresholds : List ℕ) (list arranged : Order) (who : AccountId)
+        → AreOneList thresholds list arranged
+        → AreOneList thresholds (taken_out list who)
+        (removed (listing_of thresholds arranged) who).order }
+    ensures moves { (thresholds : List ℕ) (list arranged : Order) (who : AccountId) (score : ℕ)
+        → AreOneList thresholds list arranged
+        → AreOneList thresholds (appended_anew thresholds list who score)
+        (moved (listing_of thresholds arranged) who score).order }
+    ensures fronts { (thresholds : List ℕ) (list arranged : Order) (who : AccountId) (score : ℕ)
+        (lighter : AccountId) (lighter_score : ℕ) → AreOneList thresholds list arranged
+        → put_in_front_refusal (listing_of thresholds list) who score lighter lighter_score ≡ None
+        → AreOneList thresholds (put_before list who lighter)
         (put_in_front (listing_of thresholds arranged) who lighter).order }
 {}
 

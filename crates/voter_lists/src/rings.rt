@@ -32,11 +32,11 @@ impl Model for Rings {
 
     ghost coded = { lists_code };
 
-    ghost use Rattle.voter_lists.specs.Links.{lists_of, IsSound};
+    ghost use Rattle.voter_lists.specs.Links.{lists_of, AreWellLinked};
 
     ghost view = { λ s. lists_of s.links.items s.owners.items s.heads };
 
-    ghost invariant = { λ s. IsSound s.links.items s.owners.items s.heads };
+    ghost invariant = { λ s. AreWellLinked s.links.items s.owners.items s.heads };
 }
 
 /// Joins the two neighbours of a place.

@@ -1,5 +1,5 @@
 use Rattle.std.proofs.Common.{arith}
-use Rattle.voter_lists.proofs.RingLemmas.{fit_sound, closed_push, IsSound-new, items-lists_of_new, list_count-lists_of}
+use Rattle.voter_lists.proofs.RingLemmas.{fit_sound, closed_push, AreWellLinked-new, items-lists_of_new, list_count-lists_of}
 use Rattle.voter_lists.proofs.rings.Rings.new.Goals as goal
 
 pub loop-head-preserved : goal.loop-head-preserved
@@ -8,7 +8,7 @@ loop-head-preserved c =
 
 pub invariant_of-result : goal.invariant_of-result
 invariant_of-result c =
-    rw c.new.ensures.items (IsSound-new _ _ (omega arith) (λ list head. c.loop-head.invariant.2 list (omega arith)))
+    rw c.new.ensures.items (AreWellLinked-new _ _ (omega arith) (λ list head. c.loop-head.invariant.2 list (omega arith)))
 
 pub returns-clause-count : goal.returns-clause-count
 returns-clause-count c = list_count-lists_of _ _ _
@@ -19,4 +19,4 @@ returns-clause-no_items c list =
 
 pub returns-clause-fit : goal.returns-clause-fit
 returns-clause-fit c =
-    rw c.new.ensures.items (fit_sound _ _ _ (IsSound-new _ _ (omega arith) (λ list head. c.loop-head.invariant.2 list (omega arith))))
+    rw c.new.ensures.items (fit_sound _ _ _ (AreWellLinked-new _ _ (omega arith) (λ list head. c.loop-head.invariant.2 list (omega arith))))

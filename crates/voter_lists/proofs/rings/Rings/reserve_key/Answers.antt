@@ -1,6 +1,6 @@
 use Rattle.std.proofs.Common.{arith, None}
 use Rattle.voter_lists.specs.Links.{no_link}
-use Rattle.voter_lists.proofs.RingLemmas.{grown_by, IsSound-grown, SameLists-grown}
+use Rattle.voter_lists.proofs.RingLemmas.{grown_by, AreWellLinked-grown, SameLists-grown}
 use Rattle.voter_lists.proofs.rings.Rings.reserve_key.Goals as goal
 
 pub invariant_of-self-2 : goal.invariant_of-self-2
@@ -8,7 +8,7 @@ invariant_of-self-2 c =
     let grown = grown_by _ _ _ _ _ None c.self.inside.owners.ok.0 (omega arith) c.resize-2.ensures.items in
     let sized = c.self.invariant.sized in
     let long = c.in_ok-resize.ensures.len in
-    rw grown.1 (IsSound-grown _ _ _ _ grown.0 c.self.invariant (omega (arith, grown.2))
+    rw grown.1 (AreWellLinked-grown _ _ _ _ grown.0 c.self.invariant (omega (arith, grown.2))
     (λ at below. c.in_ok-resize.ensures.by_index.0 at no_link (omega arith) (omega arith)))
 
 pub returns-clause-same : goal.returns-clause-same
@@ -24,7 +24,7 @@ invariant_of-self-in_err-resize-2 c =
     let grown = grown_by _ _ _ _ _ None c.self.inside.owners.ok.0 (omega arith) c.resize-2.ensures.items in
     let sized = c.self.invariant.sized in
     let long = c.in_ok-resize.ensures.len in
-    rw grown.1 (IsSound-grown _ _ _ _ grown.0 c.self.invariant (omega (arith, grown.2))
+    rw grown.1 (AreWellLinked-grown _ _ _ _ grown.0 c.self.invariant (omega (arith, grown.2))
     (λ at below. c.in_ok-resize.ensures.by_index.0 at no_link (omega arith) (omega arith)))
 
 pub returns-in_err-resize-2-clause-same : goal.returns-in_err-resize-2-clause-same
