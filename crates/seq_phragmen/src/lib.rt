@@ -8,3 +8,6 @@ mod rise;
 mod splitting;
 
 pub use mining::mine_seq;
+
+#[cfg(test)]
+mod tests;

@@ -1,6 +1,7 @@
 //! Seats filled one after the other, and then the stakes split.
 ghost use Rattle.std.specs.Prelude.{◌≡◌, ◌<◌, length, reverse, All, IfOk, OnOk};
-ghost use Rattle.weight_book.specs.Weights.{IsFeasible};
+ghost use Rattle.election_snapshot.specs.Snapshot.{IsWellFormed};
+ghost use Rattle.weight_book.specs.Weights.{no_weights, IsFeasible};
 ghost use Rattle.weight_book.specs.Room.{HasRoom};
 ghost use Rattle.seq_phragmen.specs.Mined.{mined, picked};
 ghost use Rattle.seq_phragmen.specs.Kept.{gifts_after, rises_after, with_next, IsAfter, IsRunning};
@@ -30,14 +31,38 @@ pub fn mine_seq(alloc: Global, snapshot: &Snapshot) -> Result<Weights, NoMemory>
     ensures room { IfOk result (HasRoom snapshot.now) }
 {
     let mut weights = Weights::with_room(alloc, snapshot)?;
+    let run = fill_seats(alloc, snapshot, &mut weights)?;
+    let mut edges = split(alloc, snapshot, &run.race, run.rises.as_slice())?;
+    put_by_voter(&mut edges, &mut weights)?;
+    Ok(weights)
+}
+
+/// A run whose seats are filled.
+#[derive(Drop)]
+pub(crate) struct Run {
+    pub(crate) race: Race,
+    /// Each rise of a load, in the order of the picks.
+    pub(crate) rises: Vec<Rise>,
+}
+
+/// Fills the seats, pick after pick. The picks are then the members.
+pub(crate) fn fill_seats(
+    alloc: Global,
+    snapshot: &Snapshot,
+    weights: &mut Weights,
+) -> Result<Run, NoMemory>
+    requires empty { weights.old.plain ≡ no_weights }
+    requires room { HasRoom snapshot.now weights.old }
+    ensures running { IfOk result (λ run. IsRunning snapshot.now
+        (picked snapshot.now snapshot.now.seats) run.race weights.new run.rises.items) }
+    ensures well_formed { OnOk result (IsWellFormed snapshot.now) }
+{
     let mut race = Race::new(alloc, snapshot)?;
     let mut rises = Vec::new(alloc);
     for _ in 0..snapshot.seats() {
-        take_seat(snapshot, &mut race, &mut weights, &mut rises)?;
+        take_seat(snapshot, &mut race, weights, &mut rises)?;
     }
-    let mut edges = split(alloc, snapshot, &race, rises.as_slice())?;
-    put_by_voter(&mut edges, &mut weights)?;
-    Ok(weights)
+    Ok(Run { race, rises })
 }
 
 /// Takes the next pick, if there is one, as a member, and raises its nominators' loads.

@@ -1,6 +1,6 @@
 use Rattle.seq_phragmen.specs.Mined.{picked}
 use Rattle.seq_phragmen.specs.Kept.{IsRunning}
-use Rattle.seq_phragmen.proofs.mining.mine_seq.Given as goal
+use Rattle.seq_phragmen.proofs.mining.fill_seats.Given as goal
 
 -- the seats so far are filled
 abbrev pub invariant-loop : goal.invariant-loop
