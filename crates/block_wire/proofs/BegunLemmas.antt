@@ -1,11 +1,13 @@
 -- What the parts of a block that was begun add up to, and what a refusal of one of them is a refusal of.
-use Rattle.std.proofs.Common.{◌≡◌, ◌≢◌, ℕ, ◌+◌, ◌-◌, ◌<◌, ◌≤◌, List, [], ◌∷◌, ◌++◌, length, drop, None, Result, Ok, Err, MatchResult, refl, sym, ◌∙◌, ap, subst, inl, arith, append_assoc, length-append}
+use Rattle.std.proofs.Common.{◌≡◌, ◌≢◌, ℕ, ◌+◌, ◌-◌, ◌<◌, ◌≤◌, List, [], ◌∷◌, ◌++◌, length, drop, Option, Some, None, IfSome, Result, Ok, Err, MatchResult, refl, sym, ◌∙◌, ap, subst, inl, arith, append_assoc, length-append}
 use Rattle.std.specs.List.{AllByRecursion, flat_map}
-use Rattle.std.proofs.lemmas.List.{append-nil, drop_at}
+use Rattle.std.proofs.lemmas.List.{append-nil, drop_at, length-drop}
+use Rattle.std.proofs.Math.Seq.{drop-append-add}
 use Rattle.scale_wire.specs.declared.fault.WireFault.{WireFault}
 use Rattle.scale_wire.specs.declared.fault.ReadFault.{ReadFault}
 use Rattle.scale_wire.specs.declared.fault.ReadFault.TheVariants.{Wire}
-use Rattle.scale_wire.specs.Form.{Form}
+use Rattle.scale_wire.specs.Form.{Form, IsBytes}
+use Rattle.scale_wire.specs.FormLaws.{IsBytes-front, IsBytes-append}
 use Rattle.scale_wire.specs.Parts.{tag_form, compact_u32, length_form}
 use Rattle.scale_wire.specs.Composite.{items, list, pair}
 use Rattle.scale_wire.specs.Reading.{Place, IsRead, IsFault, Reads}
@@ -14,8 +16,9 @@ use Rattle.scale_wire.proofs.ListLemmas.{list_err, items_err}
 use Rattle.block_wire.specs.declared.limits.TheConstants.{MOST_CALLS}
 use Rattle.block_wire.specs.declared.call.Call.{Call}
 use Rattle.block_wire.specs.declared.begun.Begun.{Begun}
+use Rattle.block_wire.specs.declared.begun.Step.TheVariants.{Whole}
 use Rattle.block_wire.specs.Calls.{call_form, block_form}
-use Rattle.block_wire.specs.Begun.{next_form, behind, IsHead, HasItems, IsBegun, ReadsOn, Opens, IsWholeBlock}
+use Rattle.block_wire.specs.Begun.{next_form, behind, IsHead, HasItems, IsBegun, begun_bytes, front_bytes, begun_size, ReadsOn, Opens, IsWholeBlock, Keeps, Steps}
 
 -- ## Places
 
@@ -219,3 +222,78 @@ pub filled : (begun : Begun) (old there : Place) (result : Result (Unit {0}) Rea
     → MatchResult result (λ _. IsWholeBlock begun old) (λ fault. Reads next_form old (Err fault) old)
 filled begun old there (Ok done) is place all = whole_block begun old is all
 filled begun old there (Err fault) is place cut = cut_block begun old there fault is place cut.0 cut.1
+
+-- ## The bytes of what was begun
+
+-- they stand at the front, and are as many as its size
+pub record IsFront (begun : Begun) (old : Place) : Type 0 where
+  pub whole : old.rest ≡ begun_bytes begun ++ drop begun.size old.rest
+  pub size_is : length (begun_bytes begun) ≡ begun.size
+
+pub is_front : (begun : Begun) (old : Place) → IsBegun begun old → IsFront begun old
+is_front begun old is =
+    let head = is.head in
+    let number = compact_u32.spelling begun.number in
+    let count = (length_form MOST_CALLS).spelling begun.count in
+    let calls = flat_map call_form.spelling begun.calls.items in
+    let end = drop begun.size old.rest in
+    let counted : head.1.rest ≡ (count ++ calls) ++ end = head.4.whole ∙ (ap (λ (s : List ℕ). count ++ s) is.whole.whole ∙ sym (append_assoc count calls end)) in
+    let numbered : head.0.rest ≡ (number ++ (count ++ calls)) ++ end =
+    head.3.whole ∙ (ap (λ (s : List ℕ). number ++ s) counted ∙ sym (append_assoc number (count ++ calls) end)) in
+    record {
+      whole = head.2.whole ∙ ap (λ (s : List ℕ). 1 ∷ s) numbered;
+      size_is = omega (arith, head.2.at_is, head.3.at_is, head.4.at_is, is.whole.at_is, length-append number (count ++ calls), length-append count calls);
+    }
+
+-- the bytes behind it
+pub behind_begun : (begun : Begun) (at : ℕ) (bytes : List ℕ) → IsBegun begun (record { at = at; rest = begun_bytes begun ++ bytes })
+    → behind begun.size (record { at = at; rest = begun_bytes begun ++ bytes }) ≡ record { at = at + begun.size; rest = bytes }
+behind_begun begun at bytes is =
+    let front = is_front begun (record { at = at; rest = begun_bytes begun ++ bytes }) is in
+    λ i. record { at = at + begun.size; rest = drop_at (begun_bytes begun) bytes begun.size front.size_is i }
+
+-- More was begun: of the bytes behind what was begun before, so many belong to it.
+pub record IsFurther (begun : Option Begun) (more : Begun) (bytes : List ℕ) : Type 0 where
+  pub whole : front_bytes begun ++ bytes ≡ begun_bytes more ++ drop (more.size - begun_size begun) bytes
+  pub rest_is : drop more.size (front_bytes begun ++ bytes) ≡ drop (more.size - begun_size begun) bytes
+  pub within : more.size - begun_size begun ≤ length bytes
+
+pub front_size : (begun : Option Begun) (at : ℕ) (bytes : List ℕ) → IfSome begun (λ some. IsBegun some (record { at = at; rest = begun_bytes some ++ bytes })) → length (front_bytes begun) ≡ begun_size begun
+front_size None at bytes is = refl
+front_size (Some begun) at bytes is = (is_front begun (record { at = at; rest = begun_bytes begun ++ bytes }) is).size_is
+
+pub is_further : (begun : Option Begun) (more : Begun) (at : ℕ) (bytes : List ℕ) → IfSome begun (λ some. IsBegun some (record { at = at; rest = begun_bytes some ++ bytes }))
+    → IsBegun more (record { at = at; rest = front_bytes begun ++ bytes }) → begun_size begun ≤ more.size → IsFurther begun more bytes
+is_further begun more at bytes is more_is grows =
+    let old : Place = record { at = at; rest = front_bytes begun ++ bytes } in
+    let front = is_front more old more_is in
+    let before = front_size begun at bytes is in
+    let more_by : more.size ≡ length (front_bytes begun) + (more.size - begun_size begun) = omega (arith, before, grows) in
+    let rest_is : drop more.size (front_bytes begun ++ bytes) ≡ drop (more.size - begun_size begun) bytes =
+    ap (λ (n : ℕ). drop n (front_bytes begun ++ bytes)) more_by ∙ drop-append-add (front_bytes begun) bytes (more.size - begun_size begun) in
+    record {
+      whole = front.whole ∙ ap (λ (s : List ℕ). begun_bytes more ++ s) rest_is;
+      rest_is = rest_is;
+      within = omega (arith, more_is.within, length-append (front_bytes begun) bytes, before);
+    }
+
+-- a whole block was read
+pub whole_taken : (begun : Option Begun) (more : Begun) (at : ℕ) (bytes : List ℕ) → IsFurther begun more bytes → IsWholeBlock more (record { at = at; rest = front_bytes begun ++ bytes })
+    → Steps begun at bytes (Whole more (more.size - begun_size begun))
+whole_taken begun more at bytes further whole =
+    let taken = more.size - begun_size begun in (
+      subst (λ (rest : List ℕ). IsRead next_form (record { at = at; rest = front_bytes begun ++ bytes }) (Some record { number = more.number; calls = more.calls.items }) (record { at = at + more.size; rest = rest }))
+          further.rest_is whole.0,
+      further.within,
+      omega (arith, ap length further.rest_is, length-drop more.size (front_bytes begun ++ bytes), whole.1),
+    )
+
+-- the block was cut or refused
+pub kept : (begun : Option Begun) (more : Begun) (at : ℕ) (bytes : List ℕ) → IsFurther begun more bytes → IsBegun more (record { at = at; rest = front_bytes begun ++ bytes })
+    → IsBytes (front_bytes begun) → IsBytes bytes → Keeps begun (Some more) at (more.size - begun_size begun) bytes
+kept begun more at bytes further is front rest = record {
+  whole = further.whole;
+  within = further.within;
+  are_bytes = IsBytes-front (begun_bytes more) (drop (more.size - begun_size begun) bytes) (subst (λ (s : List ℕ). IsBytes s) further.whole (IsBytes-append (front_bytes begun) bytes front rest));
+  is = subst (λ (s : List ℕ). IsBegun more (record { at = at; rest = s })) further.whole is;
+}

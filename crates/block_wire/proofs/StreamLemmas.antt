@@ -1,16 +1,17 @@
 -- How the reader's place moves.
-use Rattle.std.proofs.Common.{◌≡◌, ℕ, ◌+◌, List, ◌++◌, length, drop, Option, Some, None, IfSome, sym, ◌∙◌, ap, subst, arith, append_assoc, length-append}
+use Rattle.std.proofs.Common.{◌≡◌, ℕ, ◌+◌, List, ◌++◌, length, drop, Option, Some, None, IfSome, Err, sym, ◌∙◌, ap, subst, arith, append_assoc, length-append}
 use Rattle.std.proofs.lemmas.List.{drop-drop, drop-append-le}
 use Rattle.scale_wire.specs.Form.{Form}
 use Rattle.scale_wire.specs.Parts.{tag_form, compact_u32, length_form}
 use Rattle.scale_wire.specs.Composite.{items}
-use Rattle.scale_wire.specs.Reading.{Place, IsRead}
+use Rattle.scale_wire.specs.Reading.{Place, IsRead, Reads}
 use Rattle.block_wire.specs.declared.limits.TheConstants.{MOST_CALLS}
 use Rattle.block_wire.specs.declared.begun.Begun.{Begun}
+use Rattle.scale_wire.specs.declared.fault.ReadFault.{ReadFault}
 use Rattle.block_wire.specs.declared.begun_genesis.BegunGenesis.{BegunGenesis}
 use Rattle.npos_base.specs.declared.limits.TheConstants.{MOST_ENDOWMENTS}
 use Rattle.block_wire.specs.Calls.{call_form}
-use Rattle.block_wire.specs.Begun.{behind, IsHead, HasItems, IsBegun}
+use Rattle.block_wire.specs.Begun.{next_form, behind, IsHead, HasItems, IsBegun, begun_bytes, front_bytes}
 use Rattle.block_wire.specs.BegunGenesis.{IsGenesisHead, IsBegunGenesis}
 use Rattle.block_wire.specs.Genesis.{endowment_form}
 
@@ -75,3 +76,29 @@ pub fed : {B : Type 0} (Is : B → Place → Type 0) (begun : Option B) (at : �
 fed Is None at rest more bytes grows is begun = tt
 fed Is (Some some) at rest more bytes grows is begun =
     subst (λ (all : List ℕ). Is some (record { at = at; rest = all })) (sym is) (grows some (record { at = at; rest = rest }) more begun)
+
+pub fed_begun : (begun : Option Begun) (at : ℕ) (rest more bytes : List ℕ) → bytes ≡ rest ++ more → IfSome begun (λ some. IsBegun some (record { at = at; rest = begun_bytes some ++ rest }))
+    → IfSome begun (λ some. IsBegun some (record { at = at; rest = begun_bytes some ++ bytes }))
+fed_begun None at rest more bytes is begun = tt
+fed_begun (Some some) at rest more bytes is begun =
+    let all : (begun_bytes some ++ rest) ++ more ≡ begun_bytes some ++ bytes = append_assoc (begun_bytes some) rest more ∙ ap (λ (s : List ℕ). begun_bytes some ++ s) (sym is) in
+    subst (λ (s : List ℕ). IsBegun some (record { at = at; rest = s })) all (begun_further some (record { at = at; rest = begun_bytes some ++ rest }) more begun)
+
+-- a refusal at the same place
+pub same_fault : {V : Type 0} (form : Form V) (old here new : Place) (fault : ReadFault) → here ≡ old → new ≡ old → Reads form here (Err fault) here → Reads form old (Err fault) new
+same_fault form old here new fault is same reads =
+    subst (λ (p : Place). Reads form old (Err fault) p) (sym same) (subst (λ (p : Place). Reads form p (Err fault) p) is reads)
+
+-- nothing was begun, and the None was taken
+pub none_taken : (begun new : Option Begun) (at from : ℕ) (bytes : List ℕ) (old : Place) → begun ≡ None → new ≡ None → record { at = at; rest = front_bytes begun ++ drop from bytes } ≡ old
+    → IsRead next_form (record { at = at; rest = drop from bytes }) None (behind 1 (record { at = at; rest = drop from bytes }))
+    → IsRead next_form old None (record { at = at + 1; rest = front_bytes new ++ drop (from + 1) bytes })
+none_taken None None at from bytes old none gone place read = taken next_form None at from 1 bytes old place read
+none_taken (Some begun) new at from bytes old none gone place read = absurd (some none)
+  where
+    some : Some begun ≡ None → ⊥
+    some e = cc
+none_taken None (Some new) at from bytes old none gone place read = absurd (some gone)
+  where
+    some : Some new ≡ None → ⊥
+    some e = cc

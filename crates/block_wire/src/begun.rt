@@ -1,14 +1,17 @@
-//! A block that is read from bytes which come by pieces. What was whole is kept, so that the cost
-//! of a block does not depend on how it is cut.
-ghost use Rattle.std.specs.Prelude.{◌≡◌, ◌+◌, ◌^◌, ◌<◌, ◌≤◌, length, vec_len, Err, MatchResult, IfSome};
+//! A block that is read from bytes which come by pieces. What was whole is kept, and its bytes are
+//! let go: so the cost of a block does not depend on how it is cut, and no byte of it is held twice.
+ghost use Rattle.std.specs.Prelude.{◌≡◌, ◌+◌, ◌^◌, ◌<◌, ◌≤◌, ◌++◌, length, vec_len, Err, MatchResult, IfSome, OnOk};
+ghost use Rattle.std.specs.List.{AllByRecursion, flat_map};
 ghost use Rattle.scale_wire.specs.Form.{IsBytes};
-ghost use Rattle.scale_wire.specs.Reading.{Reads};
-ghost use Rattle.block_wire.specs.Begun.{next_form, ReadsHead, ReadsOn, Opens, IsBegun, IsWholeBlock, Steps};
+ghost use Rattle.scale_wire.specs.Reading.{Reads, Writes};
+ghost use Rattle.block_wire.specs.Calls.{call_form};
+ghost use Rattle.block_wire.specs.Begun.{next_form, begun_bytes, front_bytes, begun_size, ReadsHead, ReadsOn, Opens, GoesFurther, IsBegun, IsWholeBlock, Steps};
 
 use crate::Call;
 use crate::limits::MOST_CALLS;
+use npos_base::NoMemory;
 use scale_wire::fault::{ReadFault, WireFault};
-use scale_wire::{Cursor, Wire};
+use scale_wire::{Cursor, Pen, Wire, write_fields};
 use std::alloc::Global;
 
 /// A block whose calls were not all whole yet: its number, the count of its calls, those that were
@@ -21,15 +24,15 @@ pub struct Begun {
     pub size: usize,
 }
 
-/// What going on with a stream comes to.
+/// What going on with a stream comes to, and how many of the bytes belong to it.
 #[derive(Drop)]
 pub enum Step {
     /// The None that ends the stream.
     Last,
     /// A block, all of whose calls were read.
-    Whole(Begun),
+    Whole(Begun, usize),
     /// The bytes are refused or memory ran out, and this much of a block is begun.
-    Stopped(Option<Begun>, ReadFault),
+    Stopped(Option<Begun>, usize, ReadFault),
 }
 
 /// The number of the block that stands here and the count of its calls, if it is not the None.
@@ -78,6 +81,7 @@ pub fn read_on<T: Wire>(
     requires { vec_len items.old ≤ count }
     ensures on { ReadsOn T.form items.old.items cursor.old items.new.items cursor.new }
     ensures few { vec_len items.new ≤ count }
+    ensures forward { cursor.old.at ≤ cursor.new.at }
     ensures stopped { MatchResult result (λ _. length items.new.items ≡ count)
         (λ fault. (length items.new.items < count)
         × Reads T.form cursor.new (Err fault) cursor.new) }
@@ -91,40 +95,99 @@ pub fn read_on<T: Wire>(
     Ok(())
 }
 
-/// Reads the calls that are left of a block, or as many as are whole.
-fn fill(alloc: Global, begun: &mut Begun, bytes: &[u8], at: u64) -> Result<(), ReadFault>
-    requires fits { at + length bytes.now < 2 ^ 64 }
-    requires begun { IsBegun begun.old (record { at = at; rest = bytes.now }) }
-    ensures begun { IsBegun begun.new (record { at = at; rest = bytes.now }) }
-    ensures filled { MatchResult result
-        (λ _. IsWholeBlock begun.new (record { at = at; rest = bytes.now }))
-        (λ fault. Reads next_form (record { at = at; rest = bytes.now }) (Err fault)
-        (record { at = at; rest = bytes.now })) }
+/// How many bytes what was begun has.
+pub fn size_of(begun: &Option<Begun>) -> usize
+    ensures { result ≡ begun_size begun.now }
 {
-    let (_, rest) = bytes.split_at(begun.size);
-    let mut here = Cursor::new(rest, at + begun.size as u64);
+    match begun {
+        Some(begun) => begun.size,
+        None => 0,
+    }
+}
+
+/// Appends the items, one behind the other.
+#[tactic(auto, using(scale_wire::proofs::ListLemmas::items_front))]
+fn write_each<T: Wire>(items: &[T], pen: &mut Pen) -> Result<(), NoMemory>
+    requires { AllByRecursion T.form.in_range items.now }
+    ensures { Writes (flat_map T.form.spelling items.now) pen.old result pen.new }
+{
+    for item in items {
+        item.write(pen)?;
+    }
+    Ok(())
+}
+
+/// Appends the bytes of what was begun.
+pub fn write_begun(begun: &Begun, pen: &mut Pen) -> Result<(), NoMemory>
+    requires { AllByRecursion call_form.in_range begun.now.calls.items }
+    ensures { OnOk result (pen.new ≡ pen.old ++ begun_bytes begun.now) }
+{
+    let number = begun.number;
+    write_fields(1, &number, pen)?;
+    pen.put_compact(u64::from(begun.count))?;
+    write_each(begun.calls.as_slice(), pen)
+}
+
+/// Reads the calls that are left of a block, or as many as are whole, from the bytes behind what was
+/// begun. The block stands at this place.
+fn fill(alloc: Global, begun: &mut Begun, bytes: &[u8], at: u64) -> Result<(), ReadFault>
+    requires fits { at + (begun.old.size + length bytes.now) < 2 ^ 64 }
+    requires begun { IsBegun begun.old
+        (record { at = at; rest = begun_bytes begun.old ++ bytes.now }) }
+    ensures begun { IsBegun begun.new
+        (record { at = at; rest = begun_bytes begun.old ++ bytes.now }) }
+    ensures grows { begun.old.size ≤ begun.new.size }
+    ensures filled { MatchResult result
+        (λ _. IsWholeBlock begun.new (record { at = at; rest = begun_bytes begun.old ++ bytes.now }))
+        (λ fault. Reads next_form (record { at = at; rest = begun_bytes begun.old ++ bytes.now })
+        (Err fault) (record { at = at; rest = begun_bytes begun.old ++ bytes.now })) }
+{
+    let mut here = Cursor::new(bytes, at + begun.size as u64);
     let read = read_on(alloc, &mut begun.calls, begun.count, &mut here);
     begun.size = (here.at() - at) as usize;
     read
 }
 
-/// Goes on with the block that was begun, or begins what stands at this place.
+/// The block that was begun, or else the one that begins here, if it is not the None.
+fn begin(
+    alloc: Global,
+    begun: Option<Begun>,
+    bytes: &[u8],
+    at: u64,
+) -> Result<Option<Begun>, ReadFault>
+    requires fits { at + (begun_size begun + length bytes.now) < 2 ^ 64 }
+    requires begun { IfSome begun (λ some.
+        IsBegun some (record { at = at; rest = begun_bytes some ++ bytes.now })) }
+    ensures opens { Opens (record { at = at; rest = front_bytes begun ++ bytes.now }) result }
+    ensures further { GoesFurther begun result }
+{
+    match begun {
+        Some(begun) => Ok(Some(begun)),
+        None => open_block(alloc, bytes, at),
+    }
+}
+
+/// Goes on with the block that was begun, whose other bytes these are, or begins what stands at this
+/// place.
 pub fn go_on(alloc: Global, begun: Option<Begun>, bytes: &[u8], at: u64) -> Step
-    requires fits { at + length bytes.now < 2 ^ 64 }
-    requires begun { IfSome begun (λ some. IsBegun some (record { at = at; rest = bytes.now })) }
-    ensures steps { Steps (record { at = at; rest = bytes.now }) result }
+    requires fits { at + (begun_size begun + length bytes.now) < 2 ^ 64 }
+    requires begun { IfSome begun (λ some.
+        IsBegun some (record { at = at; rest = begun_bytes some ++ bytes.now })) }
+    requires are_bytes { IsBytes (front_bytes begun) }
+    ensures steps { Steps begun at bytes.now result }
     ensures bytes { IsBytes bytes.now }
 {
-    let mut begun = match begun {
-        Some(begun) => begun,
-        None => match open_block(alloc, bytes, at) {
-            Ok(Some(begun)) => begun,
-            Ok(None) => return Step::Last,
-            Err(fault) => return Step::Stopped(None, fault),
-        },
+    let before = size_of(&begun);
+    let mut begun = match begin(alloc, begun, bytes, at) {
+        Ok(Some(begun)) => begun,
+        Ok(None) => return Step::Last,
+        Err(fault) => return Step::Stopped(None, 0, fault),
     };
-    match fill(alloc, &mut begun, bytes, at) {
-        Ok(()) => Step::Whole(begun),
-        Err(fault) => Step::Stopped(Some(begun), fault),
+    let (_, rest) = bytes.split_at(begun.size - before);
+    let read = fill(alloc, &mut begun, rest, at);
+    let taken = begun.size - before;
+    match read {
+        Ok(()) => Step::Whole(begun, taken),
+        Err(fault) => Step::Stopped(Some(begun), taken, fault),
     }
 }

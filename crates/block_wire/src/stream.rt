@@ -1,15 +1,18 @@
 //! The reader of a stream that comes by pieces.
-ghost use Rattle.std.specs.Prelude.{◌≡◌, ◌+◌, ◌<◌, ◌≤◌, ◌^◌, [], ◌++◌, length, drop, vec_len, OnOk, OnErr};
+ghost use Rattle.std.specs.Prelude.{◌≡◌, ◌+◌, ◌<◌, ◌≤◌, ◌^◌, ◌↔◌, [], ◌∷◌, ◌++◌, length, drop, vec_len, None, IsTrue, IfSome, OnOk, OnErr};
+ghost use Rattle.std.specs.List.{AllByRecursion};
 ghost use Rattle.scale_wire.specs.Form.{IsBytes};
 ghost use Rattle.scale_wire.specs.Reading.{Reads};
 ghost use Rattle.block_wire.specs.Genesis.{genesis_form};
-ghost use Rattle.block_wire.specs.Begun.{next_form};
+ghost use Rattle.block_wire.specs.Calls.{call_form};
+ghost use Rattle.block_wire.specs.Begun.{next_form, begun_bytes, front_bytes};
 ghost use Rattle.block_wire.specs.Stream.{TakesMore, TakesNext};
 
-use crate::begun::{Begun, Step, go_on};
+use crate::begun::{Begun, Step, go_on, size_of, write_begun};
 use crate::begun_genesis::{BegunGenesis, GenesisStep, resume_genesis};
 use crate::{Block, Genesis};
 use npos_base::{List, NoMemory};
+use scale_wire::Pen;
 use scale_wire::fault::{ReadFault, Why, WireFault};
 use std::alloc::Global;
 use std::marker::Model;
@@ -28,10 +31,12 @@ pub enum Next {
 /// Takes a genesis and then blocks from bytes that it is fed by pieces. Contracts see the place
 /// behind the values that were taken, counted in bytes from the first that was ever fed, and the
 /// bytes that stand there. Of a genesis or a block that is not whole yet it keeps the endowments or
-/// the calls that are, and goes on at the first that was not.
+/// the calls that are, and goes on at the first that was not. The bytes of such calls are let go: a
+/// call has one spelling, so nothing is lost.
 #[derive(Drop)]
 pub struct StreamReader {
     alloc: Global,
+    // the bytes behind what was begun of a block, from this place on
     bytes: Vec<u8>,
     from: usize,
     at: u64,
@@ -40,21 +45,26 @@ pub struct StreamReader {
 }
 
 impl Model for StreamReader {
-    ghost use Rattle.std.specs.Prelude.{◌+◌, ◌<◌, ◌≤◌, ◌^◌, length, drop, vec_len, IfSome};
+    ghost use Rattle.std.specs.Prelude.{◌+◌, ◌<◌, ◌≤◌, ◌^◌, ◌++◌, length, drop, vec_len, IfSome};
+    ghost use Rattle.scale_wire.specs.Form.{IsBytes};
     ghost use Rattle.scale_wire.specs.Reading.{Place};
-    ghost use Rattle.block_wire.specs.Begun.{IsBegun};
+    ghost use Rattle.block_wire.specs.Begun.{begun_bytes, front_bytes, IsBegun};
     ghost use Rattle.block_wire.specs.BegunGenesis.{IsBegunGenesis};
 
     ghost Value = { Place };
 
-    ghost view = { λ r. record { at = r.at; rest = drop r.from r.bytes.items } };
+    ghost view = { λ r. record {
+      at = r.at;
+      rest = front_bytes r.begun ++ drop r.from r.bytes.items;
+    } };
 
     ghost invariant = { λ r. (r.from ≤ vec_len r.bytes)
-        × (r.at + length (drop r.from r.bytes.items) < 2 ^ 64)
-        × IfSome r.begun (λ begun.
-        IsBegun begun (record { at = r.at; rest = drop r.from r.bytes.items }))
-        × IfSome r.begun_genesis (λ begun.
-        IsBegunGenesis begun (record { at = r.at; rest = drop r.from r.bytes.items })) };
+        × (r.at + length (front_bytes r.begun ++ drop r.from r.bytes.items) < 2 ^ 64)
+        × IsBytes (front_bytes r.begun)
+        × IfSome r.begun (λ begun. IsBegun begun
+        (record { at = r.at; rest = begun_bytes begun ++ drop r.from r.bytes.items }))
+        × IfSome r.begun_genesis (λ begun. IsBegunGenesis begun
+        (record { at = r.at; rest = front_bytes r.begun ++ drop r.from r.bytes.items })) };
 }
 
 /// Lets go of the first bytes. Where none go, none are moved, so that the cost of a long value does
@@ -69,6 +79,47 @@ fn remove_front(bytes: &mut Vec<u8>, count: usize)
     let left = bytes.len() - count;
     bytes.copy_within(count.., 0);
     bytes.truncate(left);
+}
+
+/// Puts the bytes of what was begun of a block back before the others, so that they can be read as
+/// another value.
+fn put_back(
+    alloc: Global,
+    begun: &mut Option<Begun>,
+    bytes: &mut Vec<u8>,
+    from: &mut usize,
+) -> Result<(), NoMemory>
+    requires within { from.old ≤ vec_len bytes.old }
+    requires spelled { IfSome begun.old (λ some.
+        AllByRecursion call_form.in_range some.calls.items) }
+    ensures begun { OnOk result (begun.new ≡ None) }
+    ensures bytes { OnOk result
+        (drop from.new bytes.new.items ≡ front_bytes begun.old ++ drop from.old bytes.old.items) }
+    ensures within { from.new ≤ vec_len bytes.new }
+    ensures are_bytes { IsBytes bytes.old.items }
+    ensures err { OnErr result ((begun.new ≡ begun.old)
+        × (bytes.new.items ≡ bytes.old.items) × (from.new ≡ from.old)) }
+{
+    let Some(some) = begun else {
+        return Ok(());
+    };
+    let mut pen = Pen::new(alloc);
+    write_begun(some, &mut pen)?;
+    pen.put_bytes(&bytes.as_slice()[*from..])?;
+    *bytes = pen.finish().into_vec();
+    *from = 0;
+    *begun = None;
+    Ok(())
+}
+
+/// Whether the bytes of what was begun and those behind it are a None alone.
+fn is_none_alone(begun: &Option<Begun>, bytes: &[u8]) -> bool
+    ensures { IsTrue result ↔ (front_bytes begun.now ++ bytes.now ≡ 0 ∷ []) }
+{
+    match begun {
+        Some(_) => false,
+        None => bytes.len() == 1 && bytes[0] == 0,
+    }
 }
 
 impl StreamReader {
@@ -107,11 +158,18 @@ impl StreamReader {
         self.at
     }
 
-    /// The bytes that were fed and belong to no value that was taken.
-    pub fn held(&self) -> &[u8]
-        ensures { result.now ≡ self.now.rest }
+    /// How many bytes were fed that belong to no value that was taken.
+    pub fn len(&self) -> usize
+        ensures { result ≡ length self.now.rest }
     {
-        &self.bytes.as_slice()[self.from..]
+        size_of(&self.begun) + (self.bytes.len() - self.from)
+    }
+
+    /// Whether these bytes are a None alone. Whether a byte follows it is then not known.
+    pub fn is_lone_none(&self) -> bool
+        ensures { IsTrue result ↔ (self.now.rest ≡ 0 ∷ []) }
+    {
+        is_none_alone(&self.begun, &self.bytes.as_slice()[self.from..])
     }
 
     /// The genesis that the bytes begin with, or None where they end before it does and more may
@@ -139,7 +197,7 @@ impl StreamReader {
         ensures reads { Reads genesis_form self.old result self.new }
         ensures bytes { IsBytes self.old.rest }
     {
-        self.begun = None;
+        put_back(self.alloc, &mut self.begun, &mut self.bytes, &mut self.from)?;
         let begun = self.begun_genesis.take();
         match resume_genesis(
             self.alloc,
@@ -200,8 +258,8 @@ impl StreamReader {
                 self.at += 1;
                 Ok(None)
             }
-            Step::Whole(begun) => {
-                self.from += begun.size;
+            Step::Whole(begun, taken) => {
+                self.from += taken;
                 self.at += begun.size as u64;
                 let Begun { number, calls, .. } = begun;
                 Ok(Some(Block {
@@ -209,7 +267,8 @@ impl StreamReader {
                     calls: List::from_vec(calls),
                 }))
             }
-            Step::Stopped(begun, fault) => {
+            Step::Stopped(begun, taken, fault) => {
+                self.from += taken;
                 self.begun = begun;
                 Err(fault)
             }

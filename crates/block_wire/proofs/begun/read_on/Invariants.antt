@@ -7,6 +7,7 @@ abbrev pub invariant-items : goal.invariant-items
 invariant-items g l = record {
   on : ReadsOn g.T.Wire.form l.initial.items.items l.initial.cursor l.items.items l.cursor;
   few : vec_len l.items ≤ l.count;
+  forward : l.initial.cursor.at ≤ l.cursor.at;
 }
 
 abbrev pub decreases-items : goal.decreases-items
