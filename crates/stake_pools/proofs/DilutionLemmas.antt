@@ -21,7 +21,7 @@ use Rattle.stake_pools.specs.Members.{points_of, no_member, member_of, member_at
 use Rattle.stake_pools.specs.Chain.{active_of, all_points_of, member_worth}
 use Rattle.stake_pools.specs.Rules.{ItemRule, rule_of, join_rule, points_for, leave_rule, release_of, redeem_rule, reward_rule, claim_rule}
 use Rattle.stake_pools.specs.Step.{outcome_by}
-use Rattle.stake_pools.specs.Sound.{IsSound}
+use Rattle.stake_pools.specs.Sound.{IsSoundPool}
 use Rattle.stake_pools.specs.Laws.{KeepsPrice, IsNoSlash, UndilutedLaw}
 use Rattle.stake_pools.proofs.Quotients.{quotient_kept}
 use Rattle.stake_pools.proofs.MemberLemmas.{part_within}
@@ -72,7 +72,7 @@ by_outcome : (refusal : Option PoolRefusal) (rule : ItemRule) (chain : PoolChain
 by_outcome None rule chain other done = done refl
 by_outcome (Some refusal) rule chain other done = omega arith
 
-done_keeps : (chain : PoolChain) → IsSound chain → (who other : AccountId) (kind : PoolKind) → IsNoSlash kind → other ≢ who → (rule_of chain who kind).refusal ≡ None
+done_keeps : (chain : PoolChain) → IsSoundPool chain → (who other : AccountId) (kind : PoolKind) → IsNoSlash kind → other ≢ who → (rule_of chain who kind).refusal ≡ None
     → member_worth chain other ≤ member_worth (rule_of chain who kind).done other
 unfolding rule_of
 done_keeps chain sound who other (kinds.Join value) no_slash differ none =

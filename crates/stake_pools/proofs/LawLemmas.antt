@@ -11,7 +11,7 @@ use Rattle.stake_pools.specs.Members.{points_of}
 use Rattle.stake_pools.specs.Chain.{active_of, all_points_of, worth_of}
 use Rattle.stake_pools.specs.Rules.{ItemRule, rule_of, payment_refusal, entry_refusal, join_rule, due_points, redeem_rule}
 use Rattle.stake_pools.specs.Step.{outcome_by, item_outcome}
-use Rattle.stake_pools.specs.Sound.{IsSound}
+use Rattle.stake_pools.specs.Sound.{IsSoundPool}
 use Rattle.stake_pools.specs.Laws.{KeptLaw, WorthLaw, KeepsPrice, JoinLaw, RedeemLaw, PaidLaw}
 use Rattle.stake_pools.proofs.Quotients.{entry_keeps, payout_keeps, shares_within}
 use Rattle.stake_pools.proofs.SoundLemmas.{neither, can_pay, join_active, join_points, redeems, sound_after}
@@ -36,7 +36,7 @@ entry_price a q v true e within =
     rw (none, nothing) (omega arith)
 entry_price a q v false e within = entry_keeps a q v
 
-pub join_keeps : (chain : PoolChain) → IsSound chain → (who : AccountId) (value : ℕ) → (join_rule chain who value).refusal ≡ None → KeepsPrice chain (join_rule chain who value).done
+pub join_keeps : (chain : PoolChain) → IsSoundPool chain → (who : AccountId) (value : ℕ) → (join_rule chain who value).refusal ≡ None → KeepsPrice chain (join_rule chain who value).done
 join_keeps chain sound who value none =
     let pays = can_pay chain who value (neither (payment_refusal chain who value) (entry_refusal chain who value) none).0 in
     rw (join_active chain who value pays.apart, join_points chain who value sound)
@@ -47,7 +47,7 @@ unfolding rule_of
 join_law chain sound who value =
     by_outcome (join_rule chain who value).refusal (join_rule chain who value) chain (join_keeps chain sound who value)
 
-pub redeem_keeps : (chain : PoolChain) → IsSound chain → (who : AccountId) → (redeem_rule chain who).refusal ≡ None → KeepsPrice chain (redeem_rule chain who).done
+pub redeem_keeps : (chain : PoolChain) → IsSoundPool chain → (who : AccountId) → (redeem_rule chain who).refusal ≡ None → KeepsPrice chain (redeem_rule chain who).done
 redeem_keeps chain sound who none =
     let is = redeems chain who sound none in
     rw (is.active, is.points) (payout_keeps (active_of chain) (all_points_of chain) (due_points chain who) is.within)

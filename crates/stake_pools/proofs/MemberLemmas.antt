@@ -1,5 +1,5 @@
 -- The members, after one of them is put in, changed or taken out.
-use Rattle.std.proofs.Common.{◌≡◌, ◌≢◌, ◌∙◌, ℕ, ◌+◌, ◌-◌, ◌^◌, ◌<◌, ◌≤◌, Bool, true, false, cond, ◌&&◌, nat_eq, List, [], ◌∷◌, refl, ap, sym, subst, arith, Option, Some, None, unwrap_or, option_map, sum_by, true≢false}
+use Rattle.std.proofs.Common.{◌≡◌, ◌≢◌, ◌∙◌, ℕ, ◌+◌, ◌-◌, ◌^◌, ◌<◌, ◌≤◌, Bool, true, false, cond, not, ◌&&◌, nat_eq, nat_lt, if◌then◌else◌, List, [], ◌∷◌, refl, ap, sym, subst, arith, Option, Some, None, unwrap_or, option_map, is_some, Result, Ok, Err, sum_by, true≢false}
 use Rattle.std.specs.BTreeMap.{insert_entry, is_at}
 use Rattle.std.specs.Cmp.{IsTotalOrder}
 use Rattle.std.specs.List.{AllByRecursion}
@@ -8,16 +8,23 @@ use Rattle.std.specs.Map.{keys_of, values_of, lookup, remove_entry, set_value}
 use Rattle.std.specs.declared.cmp.Ordering.{Ordering}
 use Rattle.std.specs.declared.cmp.Ordering.TheVariants.{Less, Equal, Greater}
 use Rattle.std.proofs.lemmas.Map.{lookup-none}
+use Rattle.std.proofs.lemmas.Map.Steps.{set_value_same}
 use Rattle.std.proofs.lemmas.Map.Entries.{none_below_head, sum_by-insert_entry, sum_by-remove_entry}
 use Rattle.std.proofs.lemmas.List.Sums.{sum_by-cons}
 use Rattle.std.proofs.lemmas.Map.Keys.{sorted_tail}
 use Rattle.std.proofs.lemmas.Grind.{common_steps}
 use Rattle.npos_base.specs.declared.account.AccountId.{AccountId}
 use Rattle.npos_base.specs.Account.{account_cmp}
+use Rattle.npos_base.specs.Refusal.{Meets, MeetsAlways}
 use Rattle.npos_base.proofs.AccountOrder.{account_total, account_apart}
 use Rattle.npos_base.proofs.EntryLemmas.{sorted_put, lookup_other}
 use Rattle.stake_pools.specs.declared.leaves.Leave.{Leave}
 use Rattle.stake_pools.specs.declared.member.Member.{Member}
+use Rattle.stake_pools.specs.declared.refusal.PoolRefusal.{PoolRefusal}
+use Rattle.stake_pools.specs.declared.refusal.PoolRefusal.TheVariants.{NotMember, LowPoints}
+use Rattle.stake_pools.specs.declared.stop.Stop.{Stop}
+use Rattle.stake_pools.specs.declared.stop.Stop.TheVariants as stops
+use Rattle.stake_pools.specs.Asking.{points_refusal, parting_refusal, undue_refusal, redeem_refusal, uncredited_refusal, claim_refusal}
 use Rattle.stake_pools.specs.Leaves.{leaving, is_empty, with_leave, due_leaves}
 use Rattle.stake_pools.specs.Members.{points_of, no_member, member_of, member_at, total, all_points, all_staying, has_nothing, with_member, changed, joined, left, redeemed, claimed}
 use Rattle.stake_pools.specs.Kept.{AreSummed}
@@ -287,3 +294,75 @@ pub left_found : (who : AccountId) (points release : ℕ) (member : Member) (mem
 left_found who points release member members ordered found =
     set_is_with who (left points release member) member members ordered found (leaves_stay points release member)
     ∙ ap (λ m. with_member who (left points release m) members) (sym (member_found who member members found))
+
+-- ---- what is asked of a member that is found
+
+unmapped : (due : Option PoolRefusal) → option_map stops.Refused due ≡ None → due ≡ None
+unmapped None none = refl
+unmapped (Some refusal) none = cc
+
+second_false : (a b : Bool) (x y : PoolRefusal) (rest : Option PoolRefusal) → (if a then Some x else if b then Some y else rest) ≡ None → b ≡ false
+second_false true b x y rest none = cc
+second_false false true x y rest none = cc
+second_false false false x y rest none = refl
+
+-- points that may leave stay until then
+pub parting_there : (who : AccountId) (points release : ℕ) (members : List (AccountId × Member)) → option_map stops.Refused (parting_refusal members who points release) ≡ None
+    → points ≤ (member_at members who).staying
+parting_there who points release members none =
+    let enough : nat_lt (member_at members who).staying points ≡ false =
+    second_false (not (is_some (member_of members who))) (nat_lt (member_at members who).staying points) NotMember LowPoints _ (unmapped (parting_refusal members who points release) none) in
+    grind (arith, common_steps, enough)
+
+module _ (who : AccountId) (member : Member) (members : List (AccountId × Member)) (found : member_of members who ≡ Some member) where
+  parting_is : (points release : ℕ) → parting_refusal members who points release ≡ points_refusal points release member
+  parting_is points release = rw found refl
+
+  pub redeem_is : (era : ℕ) → redeem_refusal members who era ≡ undue_refusal era member
+  redeem_is era = rw found refl
+
+  pub claim_is : claim_refusal members who ≡ uncredited_refusal member
+  claim_is = rw found refl
+
+  -- what the member answers is the answer of the members
+  pub leave_found : (points release : ℕ) (new : Member) (result : Result (Unit {0}) Stop) → IsStrictlySortedBy account_cmp (keys_of members)
+      → Meets stops.NoMemory (option_map stops.Refused (points_refusal points release member)) (left points release member) member new result
+      → Meets stops.NoMemory (option_map stops.Refused (parting_refusal members who points release)) (changed who (left points release) members) members (set_value (is_at (account_cmp who)) members new) result
+  leave_found points release new (Ok done) ordered meets = record {
+    ok = (
+      ap (option_map stops.Refused) (parting_is points release) ∙ meets.ok.0,
+      ap (set_value (is_at (account_cmp who)) members) meets.ok.1 ∙ left_found who points release member members ordered found,
+    );
+    refused = tt;
+    unchanged = tt;
+  }
+  leave_found points release new (Err error) ordered meets = record {
+    ok = tt;
+    refused = λ other. ap (option_map stops.Refused) (parting_is points release) ∙ meets.refused other;
+    unchanged = ap (set_value (is_at (account_cmp who)) members) meets.unchanged ∙ set_value_same (is_at (account_cmp who)) members member found;
+  }
+
+  pub refused_found : {T : Type 0} (due : Option PoolRefusal) (effect : List (AccountId × Member)) (new : Member) (refusal : PoolRefusal) → due ≡ Some refusal → new ≡ member
+      → MeetsAlways {T = T} due effect members (set_value (is_at (account_cmp who)) members new) (Err refusal)
+  refused_found due effect new refusal is same = record {
+    ok = tt;
+    refused = is;
+    unchanged = ap (set_value (is_at (account_cmp who)) members) same ∙ set_value_same (is_at (account_cmp who)) members member found;
+  }
+
+  pub settled_found : {T : Type 0} (change : Member → Member) (due : Option PoolRefusal) (new : Member) (value : T) → IsStrictlySortedBy account_cmp (keys_of members) → due ≡ None → new ≡ change member
+      → (done : Bool) → done ≡ has_nothing new
+      → MeetsAlways due (changed who change members) members (cond done (remove_entry (is_at (account_cmp who)) (set_value (is_at (account_cmp who)) members new)) (set_value (is_at (account_cmp who)) members new)) (Ok value)
+  settled_found change due new value ordered none is done nothing = record {
+    ok = (none, settled_with who change member new members ordered found is done nothing);
+    refused = tt;
+    unchanged = tt;
+  }
+
+-- a claim keeps the sums, and so does one that is refused
+pub summed_claim : {T : Type 0} (who : AccountId) (members new : List (AccountId × Member)) (points staying : ℕ) (due : Option PoolRefusal) (result : Result T PoolRefusal) → AreSummed members points staying
+    → MeetsAlways due (changed who claimed members) members new result → AreSummed new points staying
+summed_claim who members new points staying due (Ok value) summed meets =
+    subst (λ (es : List (AccountId × Member)). AreSummed es points staying) (sym meets.ok.1) (summed_claimed who members points staying summed)
+summed_claim who members new points staying due (Err refusal) summed meets =
+    subst (λ (es : List (AccountId × Member)). AreSummed es points staying) (sym meets.unchanged) summed

@@ -24,7 +24,7 @@ use Rattle.stake_pools.specs.Moves.{raised, lowered, invested, paid_out, burned}
 use Rattle.stake_pools.specs.Chain.{active_of, pot_of, all_points_of, worth_of}
 use Rattle.stake_pools.specs.Rules.{ItemRule, rule_of, is_member, payment_refusal, member_refusal, points_for, entry_refusal, join_rule, release_of, leave_rule, due_points, redeem_rule, reward_rule, credit_of, claim_rule, slash_of, slash_rule, next_era_rule}
 use Rattle.stake_pools.specs.Step.{outcome_by, item_outcome}
-use Rattle.stake_pools.specs.Sound.{IsSound}
+use Rattle.stake_pools.specs.Sound.{IsSoundPool}
 use Rattle.stake_pools.proofs.Quotients.{no_fewer, part_within, payout_within}
 use Rattle.stake_pools.proofs.LeaveLemmas.{leaving-with_leave, leaving-parts}
 use Rattle.stake_pools.proofs.MemberLemmas.{nothing_there, total-with_member, part_within as member_within, ordered-with_member, absent-with_member}
@@ -69,7 +69,7 @@ known_by true none = refl
 known_by false none = cc
 
 -- a member is not the pool
-pub member_apart : (chain : PoolChain) (who : AccountId) → IsSound chain → is_member chain who ≡ true → who ≢ chain.account
+pub member_apart : (chain : PoolChain) (who : AccountId) → IsSoundPool chain → is_member chain who ≡ true → who ≢ chain.account
 member_apart chain who sound known is =
     true≢false (sym known ∙ (ap (λ (a : AccountId). is_some (member_of chain.members a)) is ∙ ap is_some sound.apart))
 
@@ -120,7 +120,7 @@ row_invested who pool value book apart =
     ∙ ap (raised value) (row_in_other who (paid value) book.rows pool (λ is. apart (sym is)))
 
 -- a part of a pool's members, after one of them is put in its place
-module _ (chain : PoolChain) (sound : IsSound chain) (who : AccountId) (change : Member → Member) where
+module _ (chain : PoolChain) (sound : IsSoundPool chain) (who : AccountId) (change : Member → Member) where
   pub points_put : all_points (members.changed who change chain.members) + points_of (member_at chain.members who) ≡ all_points chain.members + points_of (change (member_at chain.members who))
   points_put = total-with_member points_of refl who (change (member_at chain.members who)) chain.members sound.ordered (λ e. (nothing_there (change (member_at chain.members who)) e).points)
 
@@ -128,7 +128,7 @@ module _ (chain : PoolChain) (sound : IsSound chain) (who : AccountId) (change :
   credits_put = total-with_member (λ m. m.credit) refl who (change (member_at chain.members who)) chain.members sound.ordered (λ e. (nothing_there (change (member_at chain.members who)) e).credit)
 
 -- the points of a join are at least its value
-pub entry_points_some : (chain : PoolChain) (who : AccountId) (value : ℕ) → IsSound chain → entry_refusal chain who value ≡ None → value ≤ points_for chain value
+pub entry_points_some : (chain : PoolChain) (who : AccountId) (value : ℕ) → IsSoundPool chain → entry_refusal chain who value ≡ None → value ≤ points_for chain value
 entry_points_some chain who value sound none =
     let q : ℕ = all_points_of chain in
     let a : ℕ = active_of chain in
@@ -147,10 +147,10 @@ entry_points_some chain who value sound none =
 free_within : (who : AccountId) (book : Ledger) → IsBalanced book → (row_at book who).free ≤ issuance_cap
 free_within who book balanced = omega (arith, row_within worth refl who book balanced.distinct, balanced.equation, balanced.capped)
 
-pub claim_there : (chain : PoolChain) (who : AccountId) → IsSound chain → credit_of chain who ≤ pot_of chain
+pub claim_there : (chain : PoolChain) (who : AccountId) → IsSoundPool chain → credit_of chain who ≤ pot_of chain
 claim_there chain who sound = omega (arith, member_within (λ m. m.credit) refl who chain.members, sound.covered)
 
-pub reward_fits : (chain : PoolChain) (who : AccountId) (value : ℕ) → IsSound chain → payment_refusal chain who value ≡ None → all_credits chain.members + value < 2 ^ 64
+pub reward_fits : (chain : PoolChain) (who : AccountId) (value : ℕ) → IsSoundPool chain → payment_refusal chain who value ≡ None → all_credits chain.members + value < 2 ^ 64
 reward_fits chain who value sound none =
     omega (
       arith,
@@ -208,10 +208,10 @@ balanced_slashed pool amount book balanced there = at (nat_eq amount 0) where
 pub join_active : (chain : PoolChain) (who : AccountId) (value : ℕ) → who ≢ chain.account → active_of (join_rule chain who value).done ≡ active_of chain + value
 join_active chain who value apart = ap (λ (row : Row). row.active) (row_invested who chain.account value chain.book apart)
 
-pub join_points : (chain : PoolChain) (who : AccountId) (value : ℕ) → IsSound chain → all_points_of (join_rule chain who value).done ≡ all_points_of chain + points_for chain value
+pub join_points : (chain : PoolChain) (who : AccountId) (value : ℕ) → IsSoundPool chain → all_points_of (join_rule chain who value).done ≡ all_points_of chain + points_for chain value
 join_points chain who value sound = omega (arith, points_put chain sound who (joined (points_for chain value)))
 
-sound_join : (chain : PoolChain) (who : AccountId) (value : ℕ) → IsSound chain → (join_rule chain who value).refusal ≡ None → IsSound (join_rule chain who value).done
+sound_join : (chain : PoolChain) (who : AccountId) (value : ℕ) → IsSoundPool chain → (join_rule chain who value).refusal ≡ None → IsSoundPool (join_rule chain who value).done
 sound_join chain who value sound none =
     let each = neither (payment_refusal chain who value) (entry_refusal chain who value) none in
     let pays = can_pay chain who value each.0 in
@@ -231,7 +231,7 @@ leaves_within chain who points none =
     let all = passed (nat_eq points 0) (not (is_member chain who)) (nat_lt (member_at chain.members who).staying points) ZeroValue NotMember LowPoints _ none in
     grind (arith, common_steps, all.2)
 
-pub leaves_points : (chain : PoolChain) (who : AccountId) (points : ℕ) → IsSound chain → (leave_rule chain who points).refusal ≡ None
+pub leaves_points : (chain : PoolChain) (who : AccountId) (points : ℕ) → IsSoundPool chain → (leave_rule chain who points).refusal ≡ None
     → all_points_of (leave_rule chain who points).done ≡ all_points_of chain
 leaves_points chain who points sound none =
     omega (
@@ -241,7 +241,7 @@ leaves_points chain who points sound none =
       leaves_within chain who points none,
     )
 
-sound_leave : (chain : PoolChain) (who : AccountId) (points : ℕ) → IsSound chain → (leave_rule chain who points).refusal ≡ None → IsSound (leave_rule chain who points).done
+sound_leave : (chain : PoolChain) (who : AccountId) (points : ℕ) → IsSoundPool chain → (leave_rule chain who points).refusal ≡ None → IsSoundPool (leave_rule chain who points).done
 sound_leave chain who points sound none =
     let all = passed (nat_eq points 0) (not (is_member chain who)) (nat_lt (member_at chain.members who).staying points) ZeroValue NotMember LowPoints _ none in
     let known : is_member chain who ≡ true = grind (arith, common_steps, all.1) in
@@ -262,7 +262,7 @@ pub record Redeems (chain : PoolChain) (who : AccountId) : Type 0 where
   pub active : active_of (redeem_rule chain who).done ≡ active_of chain - worth_of chain (due_points chain who)
   pub points : all_points_of (redeem_rule chain who).done ≡ all_points_of chain - due_points chain who
 
-pub redeems : (chain : PoolChain) (who : AccountId) → IsSound chain → (redeem_rule chain who).refusal ≡ None → Redeems chain who
+pub redeems : (chain : PoolChain) (who : AccountId) → IsSoundPool chain → (redeem_rule chain who).refusal ≡ None → Redeems chain who
 redeems chain who sound none =
     let known = known_by (is_member chain who) (neither (member_refusal chain who) _ none).0 in
     let apart = member_apart chain who sound known in
@@ -275,7 +275,7 @@ redeems chain who sound none =
       points = omega (arith, points_put chain sound who (redeemed chain.era), parts, within);
     }
 
-sound_redeem : (chain : PoolChain) (who : AccountId) → IsSound chain → (redeem_rule chain who).refusal ≡ None → IsSound (redeem_rule chain who).done
+sound_redeem : (chain : PoolChain) (who : AccountId) → IsSoundPool chain → (redeem_rule chain who).refusal ≡ None → IsSoundPool (redeem_rule chain who).done
 sound_redeem chain who sound none =
     let is = redeems chain who sound none in
     let amount : ℕ = worth_of chain (due_points chain who) in
@@ -297,7 +297,7 @@ stays_by n none = at (nat_eq n 0) refl none where
   at false e stays = above_zero n e
 
 -- neither the active stake nor the points
-pub reward_figures : (chain : PoolChain) (who : AccountId) (value : ℕ) → IsSound chain → (reward_rule chain who value).refusal ≡ None
+pub reward_figures : (chain : PoolChain) (who : AccountId) (value : ℕ) → IsSoundPool chain → (reward_rule chain who value).refusal ≡ None
     → (active_of (reward_rule chain who value).done ≡ active_of chain) × (all_points_of (reward_rule chain who value).done ≡ all_points_of chain)
 reward_figures chain who value sound none =
     let pays = can_pay chain who value (neither (payment_refusal chain who value) _ none).0 in (
@@ -305,7 +305,7 @@ reward_figures chain who value sound none =
       total-rewarded points_of value (all_staying chain.members) (λ m. refl) chain.members,
     )
 
-sound_reward : (chain : PoolChain) (who : AccountId) (value : ℕ) → IsSound chain → (reward_rule chain who value).refusal ≡ None → IsSound (reward_rule chain who value).done
+sound_reward : (chain : PoolChain) (who : AccountId) (value : ℕ) → IsSoundPool chain → (reward_rule chain who value).refusal ≡ None → IsSoundPool (reward_rule chain who value).done
 sound_reward chain who value sound none =
     let each = neither (payment_refusal chain who value) _ none in
     let pays = can_pay chain who value each.0 in
@@ -320,7 +320,7 @@ sound_reward chain who value sound none =
       backed = let figures = reward_figures chain who value sound none in omega (arith, figures.0, figures.1, sound.backed);
     }
 
-pub claim_figures : (chain : PoolChain) (who : AccountId) → IsSound chain → (claim_rule chain who).refusal ≡ None
+pub claim_figures : (chain : PoolChain) (who : AccountId) → IsSoundPool chain → (claim_rule chain who).refusal ≡ None
     → (active_of (claim_rule chain who).done ≡ active_of chain) × (all_points_of (claim_rule chain who).done ≡ all_points_of chain)
 claim_figures chain who sound none =
     let known = known_by (is_member chain who) (neither (member_refusal chain who) _ none).0 in (
@@ -328,7 +328,7 @@ claim_figures chain who sound none =
       omega (arith, points_put chain sound who claimed),
     )
 
-sound_claim : (chain : PoolChain) (who : AccountId) → IsSound chain → (claim_rule chain who).refusal ≡ None → IsSound (claim_rule chain who).done
+sound_claim : (chain : PoolChain) (who : AccountId) → IsSoundPool chain → (claim_rule chain who).refusal ≡ None → IsSoundPool (claim_rule chain who).done
 sound_claim chain who sound none =
     let known = known_by (is_member chain who) (neither (member_refusal chain who) _ none).0 in
     let apart = member_apart chain who sound known in
@@ -344,7 +344,7 @@ sound_claim chain who sound none =
       backed = let figures = claim_figures chain who sound none in omega (arith, figures.0, figures.1, sound.backed);
     }
 
-sound_slash : (chain : PoolChain) (who : AccountId) (amount : ℕ) → IsSound chain → IsSound (slash_rule chain who amount).done
+sound_slash : (chain : PoolChain) (who : AccountId) (amount : ℕ) → IsSoundPool chain → IsSoundPool (slash_rule chain who amount).done
 sound_slash chain who amount sound =
     let row = row_burned chain.account (slash_of chain amount) chain.book in
     record {
@@ -356,7 +356,7 @@ sound_slash chain who amount sound =
       backed = omega (arith, ap (λ (r : Row). r.active) row, sound.backed);
     }
 
-sound_era : (chain : PoolChain) (who : AccountId) → IsSound chain → IsSound (next_era_rule chain who).done
+sound_era : (chain : PoolChain) (who : AccountId) → IsSoundPool chain → IsSoundPool (next_era_rule chain who).done
 sound_era chain who sound = record {
   balanced = sound.balanced;
   ordered = sound.ordered;
@@ -366,7 +366,7 @@ sound_era chain who sound = record {
   backed = sound.backed;
 }
 
-pub sound_done : (chain : PoolChain) (who : AccountId) (kind : PoolKind) → IsSound chain → (rule_of chain who kind).refusal ≡ None → IsSound (rule_of chain who kind).done
+pub sound_done : (chain : PoolChain) (who : AccountId) (kind : PoolKind) → IsSoundPool chain → (rule_of chain who kind).refusal ≡ None → IsSoundPool (rule_of chain who kind).done
 unfolding rule_of
 sound_done chain who (kinds.Join value) sound none = sound_join chain who value sound none
 sound_done chain who (kinds.Leave points) sound none = sound_leave chain who points sound none
@@ -376,11 +376,11 @@ sound_done chain who kinds.Claim sound none = sound_claim chain who sound none
 sound_done chain who (kinds.Slash amount) sound none = sound_slash chain who amount sound
 sound_done chain who kinds.NextEra sound none = sound_era chain who sound
 
-outcome_sound : (refusal : Option PoolRefusal) (rule : ItemRule) (chain : PoolChain) → IsSound chain → (refusal ≡ None → IsSound rule.done) → IsSound (outcome_by refusal rule chain).state
+outcome_sound : (refusal : Option PoolRefusal) (rule : ItemRule) (chain : PoolChain) → IsSoundPool chain → (refusal ≡ None → IsSoundPool rule.done) → IsSoundPool (outcome_by refusal rule chain).state
 outcome_sound None rule chain sound done = done refl
 outcome_sound (Some refusal) rule chain sound done = sound
 
 -- each item keeps a pool sound
-pub sound_after : (chain : PoolChain) (who : AccountId) (kind : PoolKind) → IsSound chain → IsSound (item_outcome chain who kind).state
+pub sound_after : (chain : PoolChain) (who : AccountId) (kind : PoolKind) → IsSoundPool chain → IsSoundPool (item_outcome chain who kind).state
 sound_after chain who kind sound =
     outcome_sound (rule_of chain who kind).refusal (rule_of chain who kind) chain sound (sound_done chain who kind sound)

@@ -11,15 +11,15 @@ use Rattle.stake_pools.specs.Chain.{active_of, all_points_of, member_worth, all_
 use Rattle.stake_pools.specs.Genesis.{pool_fault, pool_chain}
 use Rattle.stake_pools.specs.Rules.{due_points}
 use Rattle.stake_pools.specs.Step.{item_outcome, after_items}
-use Rattle.stake_pools.specs.Sound.{IsSound}
+use Rattle.stake_pools.specs.Sound.{IsSoundPool}
 
 -- A pool starts sound, and every list of items leaves it so: the books balance, the credits are in the pot,
 -- and the active stake is at most the points.
 abbrev pub StartLaw : Type 0
-StartLaw = (genesis : PoolGenesis) → pool_fault genesis ≡ None → IsSound (pool_chain genesis)
+StartLaw = (genesis : PoolGenesis) → pool_fault genesis ≡ None → IsSoundPool (pool_chain genesis)
 
 abbrev pub KeptLaw : Type 0
-KeptLaw = (chain : PoolChain) → IsSound chain → (items : List PoolItem) → IsSound (after_items chain items)
+KeptLaw = (chain : PoolChain) → IsSoundPool chain → (items : List PoolItem) → IsSoundPool (after_items chain items)
 
 -- what the points of all members are worth, each member's on its own, is there
 abbrev pub WorthLaw : Type 0
@@ -31,11 +31,11 @@ KeepsPrice old new = active_of old * all_points_of new ≤ active_of new * all_p
 
 -- nobody's points lose by another's joining, nor by another's redeeming
 abbrev pub JoinLaw : Type 0
-JoinLaw = (chain : PoolChain) → IsSound chain → (who : AccountId) (value : ℕ)
+JoinLaw = (chain : PoolChain) → IsSoundPool chain → (who : AccountId) (value : ℕ)
     → KeepsPrice chain (item_outcome chain who (Join value)).state
 
 abbrev pub RedeemLaw : Type 0
-RedeemLaw = (chain : PoolChain) → IsSound chain → (who : AccountId)
+RedeemLaw = (chain : PoolChain) → IsSoundPool chain → (who : AccountId)
     → KeepsPrice chain (item_outcome chain who Redeem).state
 
 -- No item but a slash lowers what another's points are worth.
@@ -44,7 +44,7 @@ IsNoSlash (Slash amount) = ⊥
 IsNoSlash kind = Unit {0}
 
 abbrev pub UndilutedLaw : Type 0
-UndilutedLaw = (chain : PoolChain) → IsSound chain → (who other : AccountId) (kind : PoolKind)
+UndilutedLaw = (chain : PoolChain) → IsSoundPool chain → (who other : AccountId) (kind : PoolKind)
     → IsNoSlash kind → other ≢ who
     → member_worth chain other ≤ member_worth (item_outcome chain who kind).state other
 

@@ -4,6 +4,7 @@ pub mod Moves
 pub mod Input
 pub mod InputLaws
 pub mod Refusals
+pub mod Asking
 pub mod Genesis
 pub mod Chain
 pub mod Rules

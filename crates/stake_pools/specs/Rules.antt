@@ -12,9 +12,10 @@ use Rattle.stake_pools.specs.declared.input.PoolKind.TheVariants as kinds
 use Rattle.stake_pools.specs.declared.line.PoolLine.{PoolLine}
 use Rattle.stake_pools.specs.declared.line.PoolLine.TheVariants as lines
 use Rattle.stake_pools.specs.declared.refusal.PoolRefusal.{PoolRefusal}
-use Rattle.stake_pools.specs.declared.refusal.PoolRefusal.TheVariants.{LowFunds, ZeroValue, SameAccount, NotRoot, NotMember, LowPoints, NotDue, TooManyMembers, TooManyLeaves, PoolWiped, TooManyPoints, NoStayer, NothingDue, LastEra}
+use Rattle.stake_pools.specs.declared.refusal.PoolRefusal.TheVariants.{LowFunds, ZeroValue, SameAccount, NotRoot, TooManyMembers, PoolWiped, TooManyPoints, NoStayer, LastEra}
 use Rattle.stake_pools.specs.declared.chain.PoolChain.{PoolChain}
-use Rattle.stake_pools.specs.Leaves.{leaving, has_due, is_full_for, due_leaves}
+use Rattle.stake_pools.specs.Asking.{absent_refusal, parting_refusal, undue_refusal, uncredited_refusal}
+use Rattle.stake_pools.specs.Leaves.{leaving, due_leaves}
 use Rattle.stake_pools.specs.Members.{member_of, member_at, all_staying, changed, joined, left, redeemed, all_rewarded, claimed}
 use Rattle.stake_pools.specs.Moves.{invested, paid_out, burned}
 use Rattle.stake_pools.specs.Chain.{active_of, all_points_of, worth_of}
@@ -43,7 +44,7 @@ abbrev pub root_refusal : PoolChain → AccountId → Option PoolRefusal
 root_refusal chain who = if same_account who chain.account then None else Some NotRoot
 
 abbrev pub member_refusal : PoolChain → AccountId → Option PoolRefusal
-member_refusal chain who = if is_member chain who then None else Some NotMember
+member_refusal chain who = absent_refusal chain.members who
 
 -- the points for a value: as many as its part of the active stake is of all points, rounded down
 abbrev pub points_for : PoolChain → ℕ → ℕ
@@ -74,10 +75,7 @@ release_of chain = chain.era + chain.bonding
 abbrev pub leave_refusal : PoolChain → AccountId → ℕ → Option PoolRefusal
 leave_refusal chain who points =
     if points == 0 then Some ZeroValue
-    else if not (is_member chain who) then Some NotMember
-    else if nat_lt (member_at chain.members who).staying points then Some LowPoints
-    else if is_full_for (release_of chain) (member_at chain.members who).leaves then Some TooManyLeaves
-    else None
+    else parting_refusal chain.members who points (release_of chain)
 
 abbrev pub leave_rule : PoolChain → AccountId → ℕ → ItemRule
 leave_rule chain who points = record {
@@ -91,8 +89,7 @@ abbrev pub due_points : PoolChain → AccountId → ℕ
 due_points chain who = leaving (due_leaves chain.era (member_at chain.members who).leaves)
 
 abbrev pub due_refusal : PoolChain → AccountId → Option PoolRefusal
-due_refusal chain who =
-    if has_due chain.era (member_at chain.members who).leaves then None else Some NotDue
+due_refusal chain who = undue_refusal chain.era (member_at chain.members who)
 
 abbrev pub redeem_rule : PoolChain → AccountId → ItemRule
 redeem_rule chain who = record {
@@ -122,7 +119,7 @@ abbrev pub credit_of : PoolChain → AccountId → ℕ
 credit_of chain who = (member_at chain.members who).credit
 
 abbrev pub credit_refusal : PoolChain → AccountId → Option PoolRefusal
-credit_refusal chain who = if credit_of chain who == 0 then Some NothingDue else None
+credit_refusal chain who = uncredited_refusal (member_at chain.members who)
 
 abbrev pub claim_rule : PoolChain → AccountId → ItemRule
 claim_rule chain who = record {

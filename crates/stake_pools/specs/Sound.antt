@@ -8,7 +8,7 @@ use Rattle.stake_pools.specs.declared.chain.PoolChain.{PoolChain}
 use Rattle.stake_pools.specs.Members.{member_of, all_credits}
 use Rattle.stake_pools.specs.Chain.{pool_row, active_of, pot_of, all_points_of}
 
-pub record IsSound (chain : PoolChain) : Type 0 where
+pub record IsSoundPool (chain : PoolChain) : Type 0 where
   pub balanced : IsBalanced chain.book
   -- each member stands once
   pub ordered : IsStrictlySortedBy account_cmp (keys_of chain.members)

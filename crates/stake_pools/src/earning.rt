@@ -1,8 +1,7 @@
 //! How members earn.
-ghost use Rattle.std.specs.Prelude.{◌≡◌, IfErr, IfOk, OnOk, None, Some};
-ghost use Rattle.stake_pools.specs.Rules.{reward_rule, credit_of, claim_rule};
+ghost use Rattle.stake_pools.specs.Rules.{reward_rule, claim_rule};
 ghost use Rattle.stake_pools.specs.Step.{Follows, Tells};
-ghost use Rattle.stake_pools.specs.Sound.{IsSound};
+ghost use Rattle.stake_pools.specs.Sound.{IsSoundPool};
 
 use crate::moves::send;
 use crate::sharing::check_payment;
@@ -14,7 +13,7 @@ use npos_base::AccountId;
 /// they are rounded down stays in the pot.
 #[tactic(auto, using(crate::proofs::SoundLemmas::reward_fits))]
 pub fn reward(chain: &mut PoolChain, who: AccountId, value: u64) -> Result<Option<PoolLine>, Stop>
-    requires { IsSound chain.old }
+    requires { IsSoundPool chain.old }
     ensures rule { Follows (reward_rule chain.old who value) chain.old chain.new result }
     ensures told { Tells (reward_rule chain.old who value) result }
 {
@@ -27,30 +26,14 @@ pub fn reward(chain: &mut PoolChain, who: AccountId, value: u64) -> Result<Optio
     Ok(None)
 }
 
-/// What the account may claim.
-fn claimable(chain: &PoolChain, who: AccountId) -> Result<u64, PoolRefusal>
-    ensures ok { OnOk result ((claim_rule chain.now who).refusal ≡ None) }
-    ensures credit { IfOk result (λ credit. credit ≡ credit_of chain.now who) }
-    ensures refused { IfErr result (λ refusal. (claim_rule chain.now who).refusal ≡ Some refusal) }
-{
-    let Some(member) = chain.members.get(who) else {
-        return Err(PoolRefusal::NotMember);
-    };
-    if member.credit == 0 {
-        return Err(PoolRefusal::NothingDue);
-    }
-    Ok(member.credit)
-}
-
 /// Pays the account's credit from the pot.
 #[tactic(auto, using(crate::proofs::SoundLemmas::claim_there))]
 pub fn claim(chain: &mut PoolChain, who: AccountId) -> Result<Option<PoolLine>, Stop>
-    requires { IsSound chain.old }
+    requires { IsSoundPool chain.old }
     ensures rule { Follows (claim_rule chain.old who) chain.old chain.new result }
     ensures told { Tells (claim_rule chain.old who) result }
 {
-    let amount = claimable(chain, who)?;
+    let amount = chain.members.claim(who)?;
     send(&mut chain.book, chain.account, who, amount)?;
-    chain.members.claim(who);
     Ok(Some(PoolLine::Paid { who, amount }))
 }

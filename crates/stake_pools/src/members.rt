@@ -1,13 +1,17 @@
 //! The members of a pool, each found by its account.
-ghost use Rattle.std.specs.Prelude.{◌≡◌, ◌+◌, ◌*◌, ◌/◌, ◌^◌, ◌<◌, ◌≤◌, [], length, is_some, true, IfSome, OnErr, OnOk, if◌then◌else◌};
+ghost use Rattle.std.specs.Prelude.{◌≡◌, ◌+◌, ◌*◌, ◌/◌, ◌^◌, ◌<◌, ◌≤◌, [], length, is_some, option_map, IfOk, OnErr, OnOk, if◌then◌else◌};
 ghost use Rattle.std.specs.BTreeMap.{is_at};
 ghost use Rattle.std.specs.Map.{remove_entry};
 ghost use Rattle.npos_base.specs.Account.{account_cmp};
-ghost use Rattle.std.specs.Option.{option_copied};
+ghost use Rattle.npos_base.specs.Refusal.{Meets, MeetsAlways};
+ghost use Rattle.stake_pools.specs.declared.stop.Stop.TheVariants as stops;
+ghost use Rattle.stake_pools.specs.Asking.{parting_refusal, redeem_refusal, claim_refusal};
 ghost use Rattle.stake_pools.specs.Leaves.{leaving, due_leaves};
 ghost use Rattle.stake_pools.specs.Members.{points_of, member_of, member_at, all_points, all_staying, all_credits, changed, joined, left, redeemed, all_rewarded, claimed};
 
+use crate::PoolRefusal;
 use crate::member::Member;
+use crate::stop::Stop;
 use npos_base::{AccountId, NoMemory};
 use std::alloc::Global;
 use std::collections::BTreeMap;
@@ -84,6 +88,64 @@ fn dismiss(entries: &mut BTreeMap<AccountId, Member>, who: AccountId, is_done: b
     }
 }
 
+/// Moves staying points of the account among these entries to a leave with this release.
+fn leave(
+    entries: &mut BTreeMap<AccountId, Member>,
+    who: AccountId,
+    points: u64,
+    release: u64,
+) -> Result<(), Stop>
+    requires { points_of (member_at entries.old.entries who) < 2 ^ 64 }
+    ensures { Meets stops.NoMemory
+        (option_map stops.Refused (parting_refusal entries.old.entries who points release))
+        (changed who (left points release) entries.old.entries)
+        entries.old.entries entries.new.entries result }
+{
+    let Some(member) = entries.get_mut(&who) else {
+        return Err(Stop::Refused(PoolRefusal::NotMember));
+    };
+    member.leave(points, release)
+}
+
+/// Takes out the leaves of the account among these entries that are paid out in this era.
+fn redeem(
+    entries: &mut BTreeMap<AccountId, Member>,
+    who: AccountId,
+    era: u64,
+) -> Result<u64, PoolRefusal>
+    requires { points_of (member_at entries.old.entries who) < 2 ^ 64 }
+    ensures meets { MeetsAlways (redeem_refusal entries.old.entries who era)
+        (changed who (redeemed era) entries.old.entries)
+        entries.old.entries entries.new.entries result }
+    ensures points { IfOk result (λ points. points
+        ≡ leaving (due_leaves era (member_at entries.old.entries who).leaves)) }
+{
+    let Some(member) = entries.get_mut(&who) else {
+        return Err(PoolRefusal::NotMember);
+    };
+    let points = member.redeem(era)?;
+    let is_done = member.has_nothing();
+    dismiss(entries, who, is_done);
+    Ok(points)
+}
+
+/// Takes the credit of the account among these entries.
+fn claim(entries: &mut BTreeMap<AccountId, Member>, who: AccountId) -> Result<u64, PoolRefusal>
+    ensures meets { MeetsAlways (claim_refusal entries.old.entries who)
+        (changed who claimed entries.old.entries)
+        entries.old.entries entries.new.entries result }
+    ensures credit { IfOk result
+        (λ credit. credit ≡ (member_at entries.old.entries who).credit) }
+{
+    let Some(member) = entries.get_mut(&who) else {
+        return Err(PoolRefusal::NotMember);
+    };
+    let credit = member.claim()?;
+    let is_done = member.has_nothing();
+    dismiss(entries, who, is_done);
+    Ok(credit)
+}
+
 impl Members {
     /// No members.
     pub fn new(alloc: Global) -> Members
@@ -104,14 +166,11 @@ impl Members {
         self.entries.len()
     }
 
-    /// The member of this account.
-    #[tactic(auto, using(crate::proofs::MemberLemmas::found_within))]
-    pub fn get(&self, who: AccountId) -> Option<&Member>
-        ensures member { option_copied result ≡ member_of self.now who }
-        ensures within { IfSome result (λ member. points_of member.now ≤ all_points self.now) }
-        ensures fits { all_points self.now < 2 ^ 64 }
+    /// Whether the account is a member.
+    pub fn has(&self, who: AccountId) -> bool
+        ensures { result ≡ is_some (member_of self.now who) }
     {
-        self.entries.get(&who)
+        self.entries.contains_key(&who)
     }
 
     /// All points.
@@ -150,35 +209,28 @@ impl Members {
     }
 
     /// Moves staying points of the account to a leave with this release.
-    pub fn leave(&mut self, who: AccountId, points: u64, release: u64) -> Result<(), NoMemory>
-        requires some { 0 < points }
-        requires staying { points ≤ (member_at self.old who).staying }
-        ensures ok { OnOk result (self.new ≡ changed who (left points release) self.old) }
-        ensures err { OnErr result (self.new ≡ self.old) }
+    pub fn leave(&mut self, who: AccountId, points: u64, release: u64) -> Result<(), Stop>
+        ensures { Meets stops.NoMemory
+            (option_map stops.Refused (parting_refusal self.old who points release))
+            (changed who (left points release) self.old) self.old self.new result }
     {
-        let Some(member) = self.entries.get_mut(&who) else {
-            unreachable!()
-        };
-        member.leaves.add(points, release)?;
-        member.staying -= points;
+        leave(&mut self.entries, who, points, release)?;
         self.staying -= points;
         Ok(())
     }
 
-    /// Takes out the account's leaves that are paid out in this era, which have so many points. Who
-    /// has nothing then is no member any more.
-    pub fn redeem(&mut self, who: AccountId, era: u64, points: u64)
-        requires known { is_some (member_of self.old who) ≡ true }
-        requires due { points ≡ leaving (due_leaves era (member_at self.old who).leaves) }
-        ensures { self.new ≡ changed who (redeemed era) self.old }
+    /// Takes out the account's leaves that are paid out in this era, and answers how many points
+    /// they have. Who has nothing then is no member any more.
+    pub fn redeem(&mut self, who: AccountId, era: u64) -> Result<u64, PoolRefusal>
+        ensures meets { MeetsAlways (redeem_refusal self.old who era)
+            (changed who (redeemed era) self.old) self.old self.new result }
+        ensures points { IfOk result (λ points. points
+            ≡ leaving (due_leaves era (member_at self.old who).leaves)) }
+        ensures within { IfOk result (λ points. points ≤ all_points self.old) }
     {
-        let Some(member) = self.entries.get_mut(&who) else {
-            unreachable!()
-        };
-        member.leaves.release(era);
-        let is_done = member.has_nothing();
-        dismiss(&mut self.entries, who, is_done);
+        let points = redeem(&mut self.entries, who, era)?;
         self.points -= points;
+        Ok(points)
     }
 
     /// Adds to each credit the part of the value that the member's staying points are of all of
@@ -195,16 +247,12 @@ impl Members {
         });
     }
 
-    /// Takes the account's credit. Who has nothing then is no member any more.
-    pub fn claim(&mut self, who: AccountId)
-        requires { is_some (member_of self.old who) ≡ true }
-        ensures { self.new ≡ changed who claimed self.old }
+    /// Takes the account's credit, and answers it. Who has nothing then is no member any more.
+    pub fn claim(&mut self, who: AccountId) -> Result<u64, PoolRefusal>
+        ensures meets { MeetsAlways (claim_refusal self.old who) (changed who claimed self.old)
+            self.old self.new result }
+        ensures credit { IfOk result (λ credit. credit ≡ (member_at self.old who).credit) }
     {
-        let Some(member) = self.entries.get_mut(&who) else {
-            unreachable!()
-        };
-        member.credit = 0;
-        let is_done = member.has_nothing();
-        dismiss(&mut self.entries, who, is_done);
+        claim(&mut self.entries, who)
     }
 }

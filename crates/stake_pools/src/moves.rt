@@ -28,10 +28,8 @@ fn bond(book: &mut Book, pool: AccountId, value: u64)
     requires there { value ≤ (row_at book.old pool).free }
     ensures { book.new ≡ changed pool (activated value) book.old }
 {
-    if book.bonded(pool) {
-        let Ok(()) = book.bond_extra(pool, value) else {
-            unreachable!()
-        };
+    // most often the pool is bonded
+    if book.bond_extra(pool, value).is_ok() {
         return;
     }
     let Ok(()) = book.bond(pool, value, 0) else {

@@ -6,7 +6,7 @@ ghost use Rattle.stake_pools.specs.declared.pool.PoolBlock.TheVariants.{NoMemory
 ghost use Rattle.stake_pools.specs.Chain.{active_of, pot_of, all_points_of};
 ghost use Rattle.stake_pools.specs.Members.{all_credits};
 ghost use Rattle.stake_pools.specs.Genesis.{pool_fault, pool_chain, IsFault};
-ghost use Rattle.stake_pools.specs.Sound.{IsSound};
+ghost use Rattle.stake_pools.specs.Sound.{IsSoundPool};
 ghost use Rattle.stake_pools.specs.Step.{in_order};
 ghost use Rattle.stake_pools.specs.Life.{AppliesWell, IsBlocked};
 
@@ -68,13 +68,13 @@ pub struct Pool {
 impl Model for Pool {
     ghost use Rattle.std.specs.Prelude.{◌≡◌, false};
     ghost use Rattle.stake_pools.specs.Life.{Life};
-    ghost use Rattle.stake_pools.specs.Sound.{IsSound};
+    ghost use Rattle.stake_pools.specs.Sound.{IsSoundPool};
 
     ghost Value = { Life };
 
     ghost view = { λ p. record { state = p.chain; spent = p.spent } };
 
-    ghost invariant = { λ p. p.spent ≡ false → IsSound p.chain };
+    ghost invariant = { λ p. p.spent ≡ false → IsSoundPool p.chain };
 }
 
 impl Pool {
@@ -101,7 +101,7 @@ impl Pool {
             AppliesWell self.old self.new who kind (in_order told)) }
         ensures blocked { IfErr result (IsBlocked self.old self.new) }
         ensures spent { self.old.spent ≡ true → result ≡ Err blocks.Spent }
-        ensures sound { OnOk result (IsSound self.new.state) }
+        ensures sound { OnOk result (IsSoundPool self.new.state) }
     {
         if self.spent {
             return Err(PoolBlock::Spent);
@@ -118,7 +118,7 @@ impl Pool {
             AppliesWell self.old self.new who kind receipt.lines) }
         ensures blocked { IfErr result (IsBlocked self.old self.new) }
         ensures spent { self.old.spent ≡ true → result ≡ Err blocks.Spent }
-        ensures sound { OnOk result (IsSound self.new.state) }
+        ensures sound { OnOk result (IsSoundPool self.new.state) }
     {
         let told = self.take(who, kind)?;
         self.spent = true;
@@ -132,7 +132,7 @@ impl Pool {
     /// The books.
     pub fn book(&self) -> &Book
         ensures book { result.now ≡ self.now.state.book }
-        ensures sound { self.now.spent ≡ false → IsSound self.now.state }
+        ensures sound { self.now.spent ≡ false → IsSoundPool self.now.state }
     {
         &self.chain.book
     }

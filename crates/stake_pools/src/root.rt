@@ -2,7 +2,7 @@
 ghost use Rattle.std.specs.Prelude.{◌≡◌, IfErr, IfOk, OnOk, None, Some};
 ghost use Rattle.stake_pools.specs.Rules.{root_refusal, slash_of, slash_rule, next_era_rule};
 ghost use Rattle.stake_pools.specs.Step.{Follows, Tells};
-ghost use Rattle.stake_pools.specs.Sound.{IsSound};
+ghost use Rattle.stake_pools.specs.Sound.{IsSoundPool};
 
 use crate::moves::burn;
 use crate::stop::Stop;
@@ -23,7 +23,7 @@ fn check_root(chain: &PoolChain, who: AccountId) -> Result<(), PoolRefusal>
 
 /// Burns up to the amount of what the pool has active. The pot is not touched.
 pub fn slash(chain: &mut PoolChain, who: AccountId, amount: u64) -> Result<Option<PoolLine>, Stop>
-    requires { IsSound chain.old }
+    requires { IsSoundPool chain.old }
     ensures rule { Follows (slash_rule chain.old who amount) chain.old chain.new result }
     ensures told { Tells (slash_rule chain.old who amount) result }
 {

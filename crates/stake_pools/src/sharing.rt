@@ -1,10 +1,8 @@
 //! How members join and leave.
-ghost use Rattle.std.specs.Prelude.{◌≡◌, ◌≤◌, IfErr, IfOk, OnOk, None, Some};
-ghost use Rattle.stake_pools.specs.Leaves.{leaving};
-ghost use Rattle.stake_pools.specs.Chain.{active_of, all_points_of, worth_of};
-ghost use Rattle.stake_pools.specs.Rules.{payment_refusal, entry_refusal, points_for, join_rule, release_of, leave_refusal, leave_rule, member_refusal, due_refusal, due_points, redeem_rule};
+ghost use Rattle.std.specs.Prelude.{◌≡◌, ◌*◌, ◌/◌, ◌≤◌, IfErr, IfOk, OnOk, None, Some};
+ghost use Rattle.stake_pools.specs.Rules.{payment_refusal, entry_refusal, points_for, join_rule, release_of, leave_rule, redeem_rule};
 ghost use Rattle.stake_pools.specs.Step.{Follows, Tells};
-ghost use Rattle.stake_pools.specs.Sound.{IsSound};
+ghost use Rattle.stake_pools.specs.Sound.{IsSoundPool};
 
 use crate::members::MOST_MEMBERS;
 use crate::moves::{invest, pay_out};
@@ -32,13 +30,13 @@ pub fn check_payment(chain: &PoolChain, who: AccountId, value: u64) -> Result<()
 /// The points for the value, where the account may join with it.
 #[tactic(auto, using(crate::proofs::SoundLemmas::entry_points_some))]
 fn entry_points(chain: &PoolChain, who: AccountId, value: u64) -> Result<u64, PoolRefusal>
-    requires { IsSound chain.now }
+    requires { IsSoundPool chain.now }
     ensures ok { OnOk result (entry_refusal chain.now who value ≡ None) }
     ensures points { IfOk result (λ points. points ≡ points_for chain.now value) }
     ensures no_fewer { IfOk result (λ points. value ≤ points) }
     ensures refused { IfErr result (λ refusal. entry_refusal chain.now who value ≡ Some refusal) }
 {
-    if chain.members.count() >= MOST_MEMBERS && chain.members.get(who).is_none() {
+    if chain.members.count() >= MOST_MEMBERS && !chain.members.has(who) {
         return Err(PoolRefusal::TooManyMembers);
     }
     let all = chain.members.points();
@@ -58,7 +56,7 @@ fn entry_points(chain: &PoolChain, who: AccountId, value: u64) -> Result<u64, Po
 
 /// The account joins with the value, for points at their price.
 pub fn join(chain: &mut PoolChain, who: AccountId, value: u64) -> Result<Option<PoolLine>, Stop>
-    requires { IsSound chain.old }
+    requires { IsSoundPool chain.old }
     ensures rule { Follows (join_rule chain.old who value) chain.old chain.new result }
     ensures told { Tells (join_rule chain.old who value) result }
 {
@@ -76,82 +74,44 @@ fn release(chain: &PoolChain) -> u64
     u64::from(chain.era) + u64::from(chain.bonding)
 }
 
-/// What keeps the points from leaving.
-fn check_leave(chain: &PoolChain, who: AccountId, points: u64) -> Result<(), PoolRefusal>
-    ensures ok { OnOk result (leave_refusal chain.now who points ≡ None) }
-    ensures refused { IfErr result (λ refusal. leave_refusal chain.now who points ≡ Some refusal) }
-{
-    if points == 0 {
-        return Err(PoolRefusal::ZeroValue);
-    }
-    let Some(member) = chain.members.get(who) else {
-        return Err(PoolRefusal::NotMember);
-    };
-    if member.staying < points {
-        return Err(PoolRefusal::LowPoints);
-    }
-    if member.leaves.is_full_for(release(chain)) {
-        return Err(PoolRefusal::TooManyLeaves);
-    }
-    Ok(())
-}
-
 /// The points leave, and are paid out when the bonding is over.
 pub fn leave(chain: &mut PoolChain, who: AccountId, points: u64) -> Result<Option<PoolLine>, Stop>
-    requires { IsSound chain.old }
+    requires { IsSoundPool chain.old }
     ensures rule { Follows (leave_rule chain.old who points) chain.old chain.new result }
     ensures told { Tells (leave_rule chain.old who points) result }
 {
-    check_leave(chain, who, points)?;
+    if points == 0 {
+        return Err(Stop::Refused(PoolRefusal::ZeroValue));
+    }
     let release = release(chain);
     chain.members.leave(who, points, release)?;
     Ok(None)
 }
 
-/// The points of the account that are due.
-#[tactic(auto, using(crate::proofs::LeaveLemmas::leaving_parts))]
-fn due(chain: &PoolChain, who: AccountId) -> Result<u64, PoolRefusal>
-    ensures member { OnOk result (member_refusal chain.now who ≡ None) }
-    ensures ok { OnOk result (due_refusal chain.now who ≡ None) }
-    ensures points { IfOk result (λ points. points ≡ due_points chain.now who) }
-    ensures within { IfOk result (λ points. points ≤ all_points_of chain.now) }
-    ensures refused { IfErr result (λ refusal.
-        (redeem_rule chain.now who).refusal ≡ Some refusal) }
-{
-    let Some(member) = chain.members.get(who) else {
-        return Err(PoolRefusal::NotMember);
-    };
-    let era = u64::from(chain.era);
-    if !member.leaves.has_due(era) {
-        return Err(PoolRefusal::NotDue);
-    }
-    Ok(member.leaves.due(era))
-}
-
-/// What so many points are worth. No points are worth nothing, also where there are none.
+/// What so many of all points are worth of what is active. No points are worth nothing, also where
+/// there are none.
 #[tactic(auto, using(crate::proofs::Quotients::part_within, crate::proofs::Quotients::nothing_of))]
-fn worth(chain: &PoolChain, points: u64) -> u64
-    requires { points ≤ all_points_of chain.now }
-    ensures worth { result ≡ worth_of chain.now points }
-    ensures within { result ≤ active_of chain.now }
+fn worth(active: u64, points: u64, all: u64) -> u64
+    requires { points ≤ all }
+    ensures worth { result ≡ active * points / all }
+    ensures within { result ≤ active }
 {
     if points == 0 {
         return 0;
     }
-    let worth = u128::from(chain.active()) * u128::from(points)
-        / u128::from(chain.members.points());
+    let worth = u128::from(active) * u128::from(points) / u128::from(all);
     worth as u64
 }
 
 /// Pays out the points of the account that are due.
 pub fn redeem(chain: &mut PoolChain, who: AccountId) -> Result<Option<PoolLine>, Stop>
-    requires { IsSound chain.old }
+    requires { IsSoundPool chain.old }
     ensures rule { Follows (redeem_rule chain.old who) chain.old chain.new result }
     ensures told { Tells (redeem_rule chain.old who) result }
 {
-    let points = due(chain, who)?;
-    let amount = worth(chain, points);
+    let all = chain.members.points();
+    let points = chain.members.redeem(who, u64::from(chain.era))?;
+    let amount = worth(chain.active(), points, all);
     pay_out(&mut chain.book, chain.account, who, chain.era, amount)?;
-    chain.members.redeem(who, u64::from(chain.era), points);
     Ok(Some(PoolLine::Paid { who, amount }))
 }

@@ -2,7 +2,7 @@
 ghost use Rattle.std.specs.Prelude.{◌≡◌, IfOk, OnOk};
 ghost use Rattle.stake_pools.specs.Rules.{rule_of};
 ghost use Rattle.stake_pools.specs.Step.{Follows, Tells, in_order, item_outcome};
-ghost use Rattle.stake_pools.specs.Sound.{IsSound};
+ghost use Rattle.stake_pools.specs.Sound.{IsSoundPool};
 
 use crate::earning::{claim, reward};
 use crate::root::{next_era, slash};
@@ -14,7 +14,7 @@ use npos_base::{AccountId, NoMemory};
 /// Does what the item asks, and answers the line that tells more of it, if there is one.
 #[tactic(auto, unfolding(crate::specs::Rules::rule_of))]
 fn act(chain: &mut PoolChain, who: AccountId, kind: PoolKind) -> Result<Option<PoolLine>, Stop>
-    requires { IsSound chain.old }
+    requires { IsSoundPool chain.old }
     ensures rule { Follows (rule_of chain.old who kind) chain.old chain.new result }
     ensures told { Tells (rule_of chain.old who kind) result }
 {
@@ -35,7 +35,7 @@ pub fn take_item(
     who: AccountId,
     kind: PoolKind,
 ) -> Result<PoolLines, NoMemory>
-    requires { IsSound chain.old }
+    requires { IsSoundPool chain.old }
     ensures state { OnOk result (chain.new ≡ (item_outcome chain.old who kind).state) }
     ensures lines { IfOk result
         (λ told. in_order told ≡ (item_outcome chain.old who kind).lines) }

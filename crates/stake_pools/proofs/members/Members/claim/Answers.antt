@@ -1,30 +1,7 @@
-use Rattle.std.proofs.Common.{rules, ◌≡◌, ◌∙◌, Bool, cond, List, Some, refl, ap, sym, subst}
-use Rattle.std.specs.BTreeMap.{is_at}
-use Rattle.std.specs.Map.{set_value, remove_entry}
-use Rattle.npos_base.specs.declared.account.AccountId.{AccountId}
-use Rattle.npos_base.specs.Account.{account_cmp}
-use Rattle.stake_pools.specs.declared.member.Member.{Member}
-use Rattle.stake_pools.specs.Kept.{AreSummed}
-use Rattle.stake_pools.specs.Members.{member_of, claimed}
-use Rattle.stake_pools.proofs.MemberLemmas.{summed_seen, settled_with, summed_claimed}
+use Rattle.stake_pools.proofs.MemberLemmas.{summed_claim}
 use Rattle.stake_pools.proofs.members.Members.claim.Goals as goal
-
-pub returns : goal.returns
-returns c =
-    let members : List (AccountId × Member) = c.args.self.now in
-    let kept = summed_seen c.self.inside.entries.entries members c.self.inside.points c.self.inside.staying c.self.view_is c.self.invariant in
-    let after : Member = claimed c.in-Some.member.now in
-    let put : (c.get_mut.follows.lender after).entries ≡ set_value (is_at (account_cmp c.args.who)) c.self.inside.entries.entries after = search rules in
-    let seen = put ∙ ap (λ (es : List (AccountId × Member)). set_value (is_at (account_cmp c.args.who)) es after) c.self.view_is in
-    let found : member_of members c.args.who ≡ Some c.in-Some.member.now =
-    ap (λ (es : List (AccountId × Member)). member_of es c.args.who) (sym c.self.view_is) ∙ (search rules) in
-    let done : Bool = c.has_nothing-is_done.result in
-    c.dismiss.ensures ∙ (ap (λ (es : List (AccountId × Member)). cond done (remove_entry (is_at (account_cmp c.args.who)) es) es) seen
-    ∙ settled_with c.args.who claimed c.in-Some.member.now after members kept.ordered found refl done c.has_nothing-is_done.ensures)
 
 pub invariant_of-self : goal.invariant_of-self
 invariant_of-self c =
-    let members : List (AccountId × Member) = c.args.self.now in
-    let kept = summed_seen c.self.inside.entries.entries members c.self.inside.points c.self.inside.staying c.self.view_is c.self.invariant in
-    subst (λ (es : List (AccountId × Member)). AreSummed es c.self.inside.points c.self.inside.staying) (sym (returns c))
-    (summed_claimed c.args.who members c.self.inside.points c.self.inside.staying kept)
+    summed_claim c.args.who c.self.inside.entries.entries c.claim.new.entries.entries c.self.inside.points c.self.inside.staying _ c.claim.result c.self.invariant
+    c.claim.ensures.meets
