@@ -21,7 +21,7 @@ use Rattle.bundle_reports.specs.Mining.{target_at, line_of, weights_lines, IsMin
 use Rattle.npos_base.specs.declared.no_memory.NoMemory.{NoMemory}
 use Rattle.compact_solution.specs.Solution.{Entry, entries_of, solution_form}
 use Rattle.election_check.specs.Steps.{size_fault}
-use Rattle.election_check.specs.Packed.{expanded, entries_fault, expand_fault, given, verdict_packed}
+use Rattle.election_check.specs.Packed.{expanded, entries_fault, expand_fault, weights_unless, verdict_packed}
 use Rattle.election_check.specs.Laws.{packed_of}
 use Rattle.compact_solution.specs.declared.packing.PackFault.{PackFault}
 use Rattle.compact_solution.specs.Packing.{packed, IsPackable}
@@ -99,9 +99,9 @@ module _ (snapshot : Snapshot) (weights : Weights) (stakes members : List ℕ) (
 -- ## A solution
 
 pub whole_as : (snapshot checker : Snapshot) (solution : List (List Entry)) (weights : Weights) → checker ≡ snapshot → expand_fault snapshot solution ≡ None
-    → weights ≡ given (expand_fault checker solution) (expanded checker solution) → weights ≡ expanded snapshot solution
+    → weights ≡ weights_unless (expand_fault checker solution) (expanded checker solution) → weights ≡ expanded snapshot solution
 whole_as snapshot checker solution weights same none is =
-    is ∙ (ap (λ (s : Snapshot). given (expand_fault s solution) (expanded s solution)) same ∙ ap (λ fault. given fault (expanded snapshot solution)) none)
+    is ∙ (ap (λ (s : Snapshot). weights_unless (expand_fault s solution) (expanded s solution)) same ∙ ap (λ fault. weights_unless fault (expanded snapshot solution)) none)
 
 pub whole_feasible : (snapshot : Snapshot) (solution : List (List Entry)) (weights : Weights) → expand_fault snapshot solution ≡ None → weights ≡ expanded snapshot solution
     → IsFeasible snapshot weights

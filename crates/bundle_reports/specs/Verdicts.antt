@@ -8,7 +8,7 @@ use Rattle.election_snapshot.specs.declared.fault.SnapshotFault.{SnapshotFault}
 use Rattle.election_snapshot.specs.declared.fault.SnapshotFault.TheVariants as faults
 use Rattle.election_check.specs.declared.verdict.Verdict.{Verdict}
 use Rattle.election_check.specs.declared.verdict.Verdict.TheVariants as verdicts
-use Rattle.election_check.specs.Number.{number_of}
+use Rattle.election_check.specs.Number.{verdict_number}
 use Rattle.npos_base.specs.declared.account.AccountId.{AccountId}
 use Rattle.told_lines.specs.Texts.{newline, account_text, number_text, numbers_line}
 
@@ -18,7 +18,7 @@ score_numbers score = score.minimal ∷ score.sum ∷ score.squares ∷ []
 -- what a verdict tells besides its number
 abbrev pub verdict_details : Verdict → List ℕ
 verdict_details verdicts.Yes = []
-verdict_details (verdicts.Undecodable at why) = at ∷ reasons.number_of why ∷ []
+verdict_details (verdicts.Undecodable at why) = at ∷ reasons.why_number why ∷ []
 verdict_details (verdicts.NoVoter voter) = voter ∷ []
 verdict_details (verdicts.NoTarget target) = target ∷ []
 verdict_details (verdicts.VoterTwice voter) = voter ∷ []
@@ -32,7 +32,7 @@ verdict_details (verdicts.Overspent voter) = voter ∷ []
 
 -- a verdict in numbers: its own, and what it tells besides
 abbrev pub verdict_numbers : Verdict → List ℕ
-verdict_numbers verdict = number_of verdict ∷ verdict_details verdict
+verdict_numbers verdict = verdict_number verdict ∷ verdict_details verdict
 
 abbrev pub verdict_line : Verdict → List ℕ
 verdict_line verdict = numbers_line (codes "verdict") (verdict_numbers verdict)

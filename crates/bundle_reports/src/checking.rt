@@ -1,5 +1,5 @@
 //! What `check` makes of the work on an election.
-ghost use Rattle.std.specs.Prelude.{◌≡◌, ◌≤◌, ◌++◌, length, IfOk};
+ghost use Rattle.std.specs.Prelude.{◌≡◌, IfOk};
 ghost use Rattle.election_check.specs.Plain.{verdict_plain};
 ghost use Rattle.election_check.specs.Packed.{verdict_packed};
 ghost use Rattle.bundle_reports.specs.Bundles.{work_report};
@@ -9,49 +9,9 @@ use crate::answers::{Answer, told, unsolved};
 use block_wire::Work;
 use election_check::{Checker, Verdict};
 use election_snapshot::Snapshot;
-use npos_base::{Edge, NoMemory, Score};
+use npos_base::{Edge, List, NoMemory, Score};
 use std::alloc::Global;
 use weight_book::Weights;
-
-/// Appends the members, for which there is room.
-fn push_members(weights: &mut Weights, members: &[u16])
-    requires { length members.now ≤ weights.old.member_spare }
-    ensures members { weights.new.plain.committee ≡ weights.old.plain.committee ++ members.now }
-    ensures edges { weights.new.plain.edges ≡ weights.old.plain.edges }
-    ensures spare { weights.new.edge_spare ≡ weights.old.edge_spare }
-{
-    for member in members {
-        weights.push_member(*member);
-    }
-}
-
-/// Appends the edges, for which there is room.
-fn push_edges(weights: &mut Weights, edges: &[Edge])
-    requires { length edges.now ≤ weights.old.edge_spare }
-    ensures edges { weights.new.plain.edges ≡ weights.old.plain.edges ++ edges.now }
-    ensures members { weights.new.plain.committee ≡ weights.old.plain.committee }
-{
-    for edge in edges {
-        weights.push_edge(*edge);
-    }
-}
-
-/// A committee and edges as weights.
-fn weights_of(
-    alloc: Global,
-    snapshot: &Snapshot,
-    committee: &[u16],
-    edges: &[Edge],
-) -> Result<Weights, NoMemory>
-    ensures { IfOk result (λ weights. weights.plain
-        ≡ record { committee = committee.now; edges = edges.now }) }
-{
-    let mut weights = Weights::with_room(alloc, snapshot)?;
-    weights.reserve(committee.len(), edges.len())?;
-    push_members(&mut weights, committee);
-    push_edges(&mut weights, edges);
-    Ok(weights)
-}
 
 /// A checker for this snapshot.
 pub fn checker_of(alloc: Global, snapshot: Snapshot) -> Result<Checker, NoMemory>
@@ -67,13 +27,13 @@ pub fn checker_of(alloc: Global, snapshot: Snapshot) -> Result<Checker, NoMemory
 pub fn plain_verdict(
     alloc: Global,
     snapshot: Snapshot,
-    committee: &[u16],
-    edges: &[Edge],
+    committee: List<u16>,
+    edges: List<Edge>,
 ) -> Result<Verdict, NoMemory>
     ensures { IfOk result (λ verdict. verdict
-        ≡ verdict_plain snapshot (record { committee = committee.now; edges = edges.now })) }
+        ≡ verdict_plain snapshot (record { committee = committee; edges = edges })) }
 {
-    let weights = weights_of(alloc, &snapshot, committee, edges)?;
+    let weights = Weights::of(alloc, snapshot.target_count(), committee, edges)?;
     let mut checker = checker_of(alloc, snapshot)?;
     Ok(checker.verdict(&weights))
 }
@@ -96,19 +56,19 @@ pub fn packed_verdict(
 pub fn check_work(
     alloc: Global,
     snapshot: Snapshot,
-    work: &Work,
+    work: Work,
     size: u64,
 ) -> Result<Answer, NoMemory>
-    ensures { IfOk result (λ answer. report_of answer ≡ work_report size snapshot work.now) }
+    ensures { IfOk result (λ answer. report_of answer ≡ work_report size snapshot work) }
 {
     match work {
         Work::Nothing => unsolved(alloc, size.saturating_sub(1)),
         Work::Packed { claim, bytes } => {
-            let verdict = packed_verdict(alloc, snapshot, claim, bytes.as_slice())?;
+            let verdict = packed_verdict(alloc, snapshot, &claim, bytes.as_slice())?;
             told(Vec::new(alloc), verdict)
         }
         Work::Plain { committee, edges } => {
-            let verdict = plain_verdict(alloc, snapshot, committee.as_slice(), edges.as_slice())?;
+            let verdict = plain_verdict(alloc, snapshot, committee, edges)?;
             told(Vec::new(alloc), verdict)
         }
     }

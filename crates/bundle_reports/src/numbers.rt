@@ -1,7 +1,7 @@
 //! The lines that tell of an election.
 ghost use Rattle.std.specs.Prelude.{◌≡◌, ◌≢◌, [], ◌∷◌, ◌++◌, flat_map, codes, OnOk};
 ghost use Rattle.election_snapshot.specs.declared.fault.SnapshotFault.TheVariants as faults;
-ghost use Rattle.told_lines.specs.Texts.{number_text, numbers_line};
+ghost use Rattle.told_lines.specs.Texts.{number_text, numbers_line, Keeps};
 ghost use Rattle.bundle_reports.specs.Verdicts.{member_line, score_numbers, score_line, solution_line, lost_line, verdict_details, verdict_numbers, verdict_line, fault_numbers, snapshot_line};
 ghost use Rattle.bundle_reports.specs.Demo.{judged_line, size_line};
 
@@ -14,7 +14,8 @@ use told_lines::{Piece, tell};
 
 /// Appends the line of a member with its support.
 pub fn tell_member(text: &mut Vec<u8>, who: AccountId, support: u128) -> Result<(), NoMemory>
-    ensures { OnOk result (text.new.items ≡ text.old.items ++ member_line who support) }
+    ensures text { OnOk result (text.new.items ≡ text.old.items ++ member_line who support) }
+    ensures kept { Keeps text.old.items text.new.items }
 {
     tell(
         text,
@@ -29,8 +30,9 @@ pub fn tell_member(text: &mut Vec<u8>, who: AccountId, support: u128) -> Result<
 
 /// Appends the three numbers of a score.
 fn tell_numbers(text: &mut Vec<u8>, score: &Score) -> Result<(), NoMemory>
-    ensures { OnOk result (text.new.items ≡ text.old.items
+    ensures text { OnOk result (text.new.items ≡ text.old.items
         ++ flat_map number_text (score_numbers score.now)) }
+    ensures kept { Keeps text.old.items text.new.items }
 {
     tell(
         text,
@@ -111,8 +113,9 @@ pub fn tell_lost(text: &mut Vec<u8>, member: u16) -> Result<(), NoMemory>
 
 /// Appends what a verdict tells besides its number.
 fn tell_details(text: &mut Vec<u8>, verdict: Verdict) -> Result<(), NoMemory>
-    ensures { OnOk result (text.new.items ≡ text.old.items
+    ensures text { OnOk result (text.new.items ≡ text.old.items
         ++ flat_map number_text (verdict_details verdict)) }
+    ensures kept { Keeps text.old.items text.new.items }
 {
     match verdict {
         Verdict::Yes => Ok(()),
@@ -150,13 +153,15 @@ fn tell_details(text: &mut Vec<u8>, verdict: Verdict) -> Result<(), NoMemory>
 }
 
 /// Appends a line of these words, with the numbers of a verdict behind them.
+#[tactic(auto, using(told_lines::proofs::KeptLemmas::kept_on))]
 pub fn tell_verdict_behind(
     text: &mut Vec<u8>,
     words: &'static str,
     verdict: Verdict,
 ) -> Result<(), NoMemory>
-    ensures { OnOk result (text.new.items ≡ text.old.items
+    ensures text { OnOk result (text.new.items ≡ text.old.items
         ++ numbers_line words.now (verdict_numbers verdict)) }
+    ensures kept { Keeps text.old.items text.new.items }
 {
     tell(
         text,
@@ -171,7 +176,8 @@ pub fn tell_verdict_behind(
 
 /// Appends the line of a verdict.
 pub fn tell_verdict(text: &mut Vec<u8>, verdict: Verdict) -> Result<(), NoMemory>
-    ensures { OnOk result (text.new.items ≡ text.old.items ++ verdict_line verdict) }
+    ensures text { OnOk result (text.new.items ≡ text.old.items ++ verdict_line verdict) }
+    ensures kept { Keeps text.old.items text.new.items }
 {
     tell_verdict_behind(text, "verdict", verdict)
 }

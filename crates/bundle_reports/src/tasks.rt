@@ -22,7 +22,7 @@ fn report_on(alloc: Global, election: Election, task: Task, size: u64) -> Result
 {
     let Election { snapshot, work } = election;
     match task {
-        Task::Check => check_work(alloc, snapshot, &work, size),
+        Task::Check => check_work(alloc, snapshot, work, size),
         Task::Mine(miner) => mine(alloc, snapshot, miner),
     }
 }

@@ -1,5 +1,6 @@
 //! The line of bytes that are refused.
 ghost use Rattle.std.specs.Prelude.{◌≡◌, ◌++◌, OnOk};
+ghost use Rattle.told_lines.specs.Texts.{Keeps};
 ghost use Rattle.bundle_reports.specs.Texts.{fault_line, word_of};
 
 use npos_base::NoMemory;
@@ -21,7 +22,8 @@ fn word(why: Why) -> &'static str
 
 /// Appends the line of bytes that are refused.
 pub fn tell_fault(text: &mut Vec<u8>, at: u64, why: Why) -> Result<(), NoMemory>
-    ensures { OnOk result (text.new.items ≡ text.old.items ++ fault_line at why) }
+    ensures text { OnOk result (text.new.items ≡ text.old.items ++ fault_line at why) }
+    ensures kept { Keeps text.old.items text.new.items }
 {
     tell(
         text,

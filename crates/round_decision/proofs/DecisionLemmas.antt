@@ -1,5 +1,5 @@
 -- The submissions of a round, judged one after the other.
-use Rattle.std.proofs.Common.{◌≡◌, ℕ, suc, ◌+◌, Bool, true, false, not, List, [], ◌∷◌, ◌++◌, take, drop, map, refl, sym, ◌∙◌, ap, subst, arith, append_assoc, true≢false}
+use Rattle.std.proofs.Common.{◌≡◌, ℕ, suc, ◌+◌, Bool, true, false, not, List, [], ◌∷◌, ◌++◌, take, drop, map, refl, sym, ◌∙◌, ap, subst, arith, append_assoc, true≢false, Result, Ok, Err, OnErr}
 use Rattle.std.specs.List.{prefix_len}
 use Rattle.stake_ledger.specs.Ledger.{Ledger}
 use Rattle.submission_queue.specs.declared.submission.Submission.{Submission}
@@ -12,8 +12,9 @@ use Rattle.quota_fill.specs.Filled.{filled}
 use Rattle.weight_book.specs.Weights.{Weights}
 use Rattle.block_receipts.specs.declared.line.Line.{Line}
 use Rattle.block_receipts.specs.declared.line.Line.TheVariants as lines
-use Rattle.round_decision.specs.Deposits.{all_burned}
-use Rattle.round_decision.specs.Decision.{judged, is_yes, fails, losers, others, decided_weights, forfeit_line, paid_out, paid_lines, rising, seat_line, books_decided, deposit_lines}
+use Rattle.std.proofs.lemmas.List.{append-nil}
+use Rattle.round_decision.specs.Deposits.{burned, all_burned}
+use Rattle.round_decision.specs.Decision.{judged, is_yes, fails, losers, others, decided_weights, forfeit_line, paid_out, paid_lines, rising, seat_line, books_decided, deposit_lines, Stops}
 
 no_yes : (verdict : Verdict) → (verdict ≡ verdicts.Yes → ⊥) → is_yes verdict ≡ false
 no_yes verdicts.Yes other = absurd (other refl)
@@ -97,18 +98,16 @@ module _ (number amount : ℕ) (snapshot : Snapshot) (items : List Submission) (
   lost_books none = burnt ∙ (λ i. paid_out amount (sym none i) (all_burned (losers snapshot items) book))
 
   module _ (told found : List Line) (forfeits : found ≡ told ++ map (forfeit_line snapshot) (losers snapshot items)) where
-    pub won_lines : (winner : Submission) (rest : List Submission) (paid pushed : List Line) → others snapshot items ≡ winner ∷ rest
-        → paid ≡ found ++ paid_lines amount (winner ∷ rest) left → pushed ≡ paid ++ lines.SeatSigned number winner.number ∷ []
+    pub won_lines : (winner : Submission) (rest : List Submission) (pushed : List Line) → others snapshot items ≡ winner ∷ rest
+        → pushed ≡ found ++ (paid_lines amount (winner ∷ rest) left ++ lines.SeatSigned number winner.number ∷ [])
         → pushed ≡ told ++ deposit_lines number amount snapshot items book
-    won_lines winner rest paid pushed kept pays pushes =
+    won_lines winner rest pushed kept pays =
         let gone : List Line = map (forfeit_line snapshot) (losers snapshot items) in
-        let pay : List Line = paid_lines amount (winner ∷ rest) left in
-        pushes
-        ∙ (ap (λ xs. xs ++ lines.SeatSigned number winner.number ∷ []) (pays ∙ ap (λ xs. xs ++ pay) forfeits)
-        ∙ (ap (λ xs. xs ++ lines.SeatSigned number winner.number ∷ []) (append_assoc told gone pay)
-        ∙ (append_assoc told (gone ++ pay) (lines.SeatSigned number winner.number ∷ [])
-        ∙ (ap (λ xs. told ++ xs) (append_assoc gone pay (lines.SeatSigned number winner.number ∷ []))
-        ∙ (λ i. told ++ (gone ++ (paid_lines amount (sym kept i) (burnt i) ++ seat_line number (sym kept i) ∷ [])))))))
+        let pay : List Line = paid_lines amount (winner ∷ rest) left ++ lines.SeatSigned number winner.number ∷ [] in
+        pays
+        ∙ (ap (λ xs. xs ++ pay) forfeits
+        ∙ (append_assoc told gone pay
+        ∙ (λ i. told ++ (gone ++ (paid_lines amount (sym kept i) (burnt i) ++ seat_line number (sym kept i) ∷ [])))))
 
     pub lost_lines : (pushed : List Line) → others snapshot items ≡ [] → pushed ≡ found ++ lines.SeatFill number ∷ []
         → pushed ≡ told ++ deposit_lines number amount snapshot items book
@@ -130,3 +129,26 @@ pub lost_weights : (snapshot now : Snapshot) (items : List Submission) (weights 
     → weights ≡ rising snapshot (decided_weights snapshot (others snapshot items))
 lost_weights snapshot now items weights none same is =
     is ∙ ((λ i. rising (same i) (filled (same i))) ∙ (λ i. rising snapshot (decided_weights snapshot (sym none i))))
+
+-- ## Where a decision stops
+
+-- nothing has happened yet
+pub stops_here : (snapshot : Snapshot) (items : List Submission) (book : Ledger) (told : List Line) → Stops snapshot items book book told told
+stops_here snapshot items book told = (0, refl, sym (append-nil told))
+
+-- one that does not hold lost its deposit, and the decision stopped behind it
+pub stops_later : (snapshot : Snapshot) (item : Submission) (rest : List Submission) (book now : Ledger) (told told_now : List Line) → fails snapshot item ≡ true
+    → Stops snapshot rest (burned book item) now (told ++ forfeit_line snapshot item ∷ []) told_now → Stops snapshot (item ∷ rest) book now told told_now
+stops_later snapshot item rest book now told told_now fails stops =
+    let count = stops.0 in
+    let first : take (suc count) (losers snapshot (item ∷ rest)) ≡ item ∷ take count (losers snapshot rest) = ap (take (suc count)) (fails_first snapshot item rest fails).0 in (
+      suc count,
+      stops.1 ∙ sym (ap (λ xs. all_burned xs book) first),
+      stops.2
+          ∙ (append_assoc told (forfeit_line snapshot item ∷ []) (map (forfeit_line snapshot) (take count (losers snapshot rest)))
+          ∙ sym (ap (λ xs. told ++ map (forfeit_line snapshot) xs) first)),
+    )
+
+pub on_err : {T E : Type 0} {P : Type 0} (result : Result T E) → P → OnErr result P
+on_err (Ok value) holds = tt
+on_err (Err error) holds = holds

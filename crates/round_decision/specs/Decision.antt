@@ -1,6 +1,6 @@
 -- The decision of a round: the submissions are judged by rank, the first that holds wins, and its
 -- committee is seated, or the fill where none holds.
-use Rattle.std.specs.Prelude.{ℕ, Bool, true, false, not, min, List, [], ◌∷◌, ◌++◌, length, map, filter, take, drop, get_or}
+use Rattle.std.specs.Prelude.{◌≡◌, ℕ, Bool, true, false, not, min, List, [], ◌∷◌, ◌++◌, length, map, filter, take, drop, get_or}
 use Rattle.std.specs.List.{prefix_len, range_with_len}
 use Rattle.stake_ledger.specs.Ledger.{Ledger}
 use Rattle.stake_ledger.specs.Calls.{minted_free, room_of}
@@ -100,3 +100,10 @@ deposit_lines number reward snapshot items book =
     map (forfeit_line snapshot) (losers snapshot items)
     ++ (paid_lines reward (others snapshot items) (all_burned (losers snapshot items) book)
     ++ seat_line number (others snapshot items) ∷ [])
+
+-- A decision that stopped, for want of memory: so many of the submissions that do not hold have lost
+-- their deposits, the first ones by rank, and that is told. Nothing else has changed in the books.
+abbrev pub Stops : Snapshot → List Submission → Ledger → Ledger → List Line → List Line → Type 0
+Stops snapshot items book now lines lines_now = (count : ℕ)
+    × (now ≡ all_burned (take count (losers snapshot items)) book)
+    × (lines_now ≡ lines ++ map (forfeit_line snapshot) (take count (losers snapshot items)))

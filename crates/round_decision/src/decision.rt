@@ -1,5 +1,6 @@
 //! The decision of a round.
-ghost use Rattle.std.specs.Prelude.{◌≡◌, ◌++◌, ◌<◌, ◌≤◌, [], ◌∷◌, length, drop, is_some, true, map, slice_get, OnOk, IfOk, IfSome};
+ghost use Rattle.std.specs.Prelude.{◌≡◌, ℕ, ◌+◌, ◌++◌, ◌<◌, ◌≤◌, [], ◌∷◌, length, drop, take, is_some, true, map, slice_get, OnOk, OnErr, IfOk, IfSome};
+ghost use Rattle.std.specs.Vec.{vec_len, vec_capacity};
 ghost use Rattle.stake_ledger.specs.Ledger.{row_at, row_of};
 ghost use Rattle.submission_queue.specs.Ranking.{empty_queue};
 ghost use Rattle.weight_book.specs.Weights.{no_weights};
@@ -11,9 +12,9 @@ ghost use Rattle.election_check.specs.Plain.{verdict_plain};
 ghost use Rattle.quota_fill.specs.Filled.{filled};
 ghost use Rattle.block_receipts.specs.declared.line.Line.TheVariants as told;
 ghost use Rattle.round_decision.specs.Deposits.{AreHeld, burned, all_burned};
-ghost use Rattle.round_decision.specs.Decision.{judged, losers, others, decided_weights, forfeit_line, reward_in, rewarded, paid_out, paid_lines, rising, member_line, member_lines, books_decided, deposit_lines};
+ghost use Rattle.round_decision.specs.Decision.{judged, losers, others, decided_weights, forfeit_line, reward_in, rewarded, paid_out, paid_lines, rising, member_line, member_lines, books_decided, deposit_lines, Stops};
 
-use crate::deposits::{return_all, return_deposit};
+use crate::deposits::{give_back, return_all};
 use block_receipts::Line;
 use election_check::laws::{a_packed_yes_is_a_plain_yes, a_plain_yes_is_passing};
 use election_check::{Checker, Elected, Verdict};
@@ -36,7 +37,8 @@ fn checker_of(alloc: Global, snapshot: Snapshot) -> Result<Checker, NoMemory>
     }
 }
 
-/// The deposit of a submission that does not hold is gone.
+/// The deposit of a submission that does not hold is gone. Where there is no memory for the line
+/// that tells it, nothing has changed.
 fn forfeit(
     book: &mut Book,
     lines: &mut Vec<Line>,
@@ -47,18 +49,22 @@ fn forfeit(
     ensures book { OnOk result (book.new ≡ burned book.old item.now) }
     ensures line { OnOk result (lines.new.items
         ≡ lines.old.items ++ told.Forfeit item.now.number item.now.deposit verdict ∷ []) }
+    ensures unchanged { OnErr result (book.new ≡ book.old) }
+    ensures untold { OnErr result (lines.new.items ≡ lines.old.items) }
 {
+    lines.reserve(1)?;
     book.burn_deposit(item.who, item.deposit);
-    lines.push(Line::Forfeit {
+    lines.push_reserved(Line::Forfeit {
         number: item.number,
         deposit: item.deposit,
         verdict,
-    })?;
+    });
     Ok(())
 }
 
 /// Judges the submissions by rank up to the first that holds, which is the winner. The deposits of
-/// those before it are burned. The weights of its solution are then in `weights`.
+/// those before it are burned, also where memory is refused before it is found. The weights of its
+/// solution are then in `weights`.
 #[tactic(auto, using(crate::proofs::DepositLemmas::front, crate::proofs::DepositLemmas::held_within))]
 fn find_winner(
     alloc: Global,
@@ -80,6 +86,8 @@ fn find_winner(
     ensures lines { OnOk result (lines.new.items ≡ lines.old.items
         ++ map (forfeit_line checker.old) (losers checker.old queue.old.items)) }
     ensures held { OnOk result (AreHeld book.new (others checker.old queue.old.items)) }
+    ensures so_far { Stops checker.old queue.old.items book.old book.new lines.old.items
+        lines.new.items }
     ensures weights { IfOk result (λ winner. IfSome winner
         (λ item. weights.new.plain ≡ weights_decoded checker.old (decoded item.bytes))) }
     ensures valid { IfOk result (λ winner. IfSome winner
@@ -99,48 +107,57 @@ fn find_winner(
     Ok(None)
 }
 
-/// Mints the reward of the winner, or as much of it as may still be issued.
-fn reward(
-    book: &mut Book,
-    lines: &mut Vec<Line>,
-    winner: &Submission,
-    reward: u64,
-) -> Result<(), NoMemory>
-    requires { is_some (row_of book.old winner.now.who) ≡ true }
-    ensures book { OnOk result (book.new ≡ rewarded reward book.old winner.now) }
-    ensures line { OnOk result (lines.new.items
-        ≡ lines.old.items ++ told.Reward winner.now.number (reward_in reward book.old) ∷ []) }
+/// Mints the reward of the winner, or as much of it as may still be issued. There is room for the
+/// line that tells it.
+fn reward(book: &mut Book, lines: &mut Vec<Line>, winner: &Submission, reward: u64)
+    requires known { is_some (row_of book.old winner.now.who) ≡ true }
+    requires room { vec_len lines.old < vec_capacity lines.old }
+    ensures book { book.new ≡ rewarded reward book.old winner.now }
+    ensures line { lines.new.items
+        ≡ lines.old.items ++ told.Reward winner.now.number (reward_in reward book.old) ∷ [] }
+    ensures len { vec_len lines.new ≡ vec_len lines.old + 1 }
+    ensures capacity { vec_capacity lines.new ≡ vec_capacity lines.old }
 {
     let amount = reward.min(book.room());
     match book.mint_free(winner.who, amount) {
         Ok(()) => {}
         Err(_) => unreachable!(),
     }
-    lines.push(Line::Reward {
+    lines.push_reserved(Line::Reward {
         number: winner.number,
         amount,
-    })?;
-    Ok(())
+    });
 }
 
-/// The winner gets its deposit and the reward, and those behind it get their deposits.
+/// The winner gets its deposit and the reward, those behind it get their deposits, and it is told
+/// whose committee is seated. Where there is no memory for the lines, nothing has changed.
 fn pay_out(
     book: &mut Book,
     lines: &mut Vec<Line>,
     queue: &mut Queue,
     winner: &Submission,
     amount: u64,
+    round: u32,
 ) -> Result<(), NoMemory>
     requires { AreHeld book.old (winner.now ∷ queue.old.items) }
     ensures book { OnOk result
         (book.new ≡ paid_out amount (winner.now ∷ queue.old.items) book.old) }
     ensures lines { OnOk result (lines.new.items
-        ≡ lines.old.items ++ paid_lines amount (winner.now ∷ queue.old.items) book.old) }
+        ≡ lines.old.items ++ (paid_lines amount (winner.now ∷ queue.old.items) book.old
+        ++ told.SeatSigned round winner.now.number ∷ [])) }
     ensures queue { OnOk result (queue.new ≡ empty_queue queue.old.places) }
+    ensures unchanged { OnErr result (book.new ≡ book.old) }
+    ensures untold { OnErr result (lines.new.items ≡ lines.old.items) }
 {
-    return_deposit(book, lines, winner)?;
-    reward(book, lines, winner, amount)?;
-    return_all(book, lines, queue)
+    lines.reserve(queue.items().len() + 3)?;
+    give_back(book, lines, winner);
+    reward(book, lines, winner, amount);
+    return_all(book, lines, queue);
+    lines.push_reserved(Line::SeatSigned {
+        round,
+        number: winner.number,
+    });
+    Ok(())
 }
 
 /// Seats the committee of weights that pass.
@@ -180,7 +197,8 @@ fn seat_winner(checker: Checker, weights: Weights, winner: &Submission) -> Elect
 }
 
 /// Settles the submissions of the round of this number, and elects its committee. The amount is the
-/// reward of the winner.
+/// reward of the winner. Where memory is refused, some of the submissions that do not hold have lost
+/// their deposits, the first ones by rank, which is told; nothing else has changed in the books.
 pub fn decide(
     alloc: Global,
     number: u32,
@@ -199,21 +217,19 @@ pub fn decide(
     ensures snapshot { IfOk result (λ elected. elected.snapshot ≡ snapshot) }
     ensures weights { IfOk result (λ elected. elected.weights.plain
         ≡ rising snapshot (decided_weights snapshot (others snapshot queue.old.items))) }
+    ensures stops { OnErr result (Stops snapshot queue.old.items book.old book.new
+        lines.old.items lines.new.items) }
 {
     let mut weights = Weights::with_room(alloc, &snapshot)?;
     let mut checker = checker_of(alloc, snapshot)?;
     match find_winner(alloc, &mut checker, &mut weights, queue, book, lines)? {
         Some(winner) => {
-            pay_out(book, lines, queue, &winner, amount)?;
-            lines.push(Line::SeatSigned {
-                round: number,
-                number: winner.number,
-            })?;
+            pay_out(book, lines, queue, &winner, amount, number)?;
             Ok(seat_winner(checker, weights, &winner))
         }
         None => {
-            lines.push(Line::SeatFill { round: number })?;
             let elected = seat_fill(alloc, checker)?;
+            lines.push(Line::SeatFill { round: number })?;
             Ok(elected)
         }
     }
@@ -231,11 +247,13 @@ fn member_line(elected: &Elected, member: u16) -> Line
     }
 }
 
-/// Tells the members by rising position.
+/// Tells the members by rising position. Where memory is refused, the first ones are told.
 #[tactic(auto, using(crate::proofs::SeatLemmas::member_next))]
 pub fn tell_members(lines: &mut Vec<Line>, elected: &Elected) -> Result<(), NoMemory>
-    ensures { OnOk result (lines.new.items
+    ensures lines { OnOk result (lines.new.items
         ≡ lines.old.items ++ member_lines elected.now.snapshot elected.now.weights.plain) }
+    ensures so_far { (count : ℕ) × (lines.new.items ≡ lines.old.items
+        ++ take count (member_lines elected.now.snapshot elected.now.weights.plain)) }
 {
     for member in elected.committee() {
         lines.push(member_line(elected, *member))?;

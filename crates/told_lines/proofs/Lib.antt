@@ -1,2 +1,3 @@
 pub mod DigitLemmas
 pub mod PutLemmas
+pub mod KeptLemmas

@@ -1,5 +1,5 @@
 -- The words and numbers of lines. Numbers are decimal, and every line ends with a newline.
-use Rattle.std.specs.Prelude.{ℕ, List, [], ◌∷◌, ◌++◌, flat_map, codes, decimal}
+use Rattle.std.specs.Prelude.{◌≡◌, ℕ, List, [], ◌∷◌, ◌++◌, length, take, flat_map, codes, decimal}
 use Rattle.hex.specs.Hex.{encode_lower}
 use Rattle.npos_base.specs.declared.account.AccountId.{AccountId}
 use Rattle.npos_base.specs.Account.{account_bytes}
@@ -30,3 +30,8 @@ ok_line index = codes "call " ++ (decimal index ++ codes " ok\n")
 -- words, and then numbers behind a blank each
 abbrev pub numbers_line : List ℕ → List ℕ → List ℕ
 numbers_line words numbers = words ++ (flat_map number_text numbers ++ newline)
+
+-- what was told before still stands, whatever follows it; a call whose memory is refused may have
+-- told a front of what it tells
+abbrev pub Keeps : List ℕ → List ℕ → Type 0
+Keeps old new = take (length old) new ≡ old

@@ -1,6 +1,6 @@
 //! The pieces of lines.
 ghost use Rattle.std.specs.Prelude.{◌≡◌, ◌++◌, flat_map, OnOk};
-ghost use Rattle.told_lines.specs.Texts.{account_text, number_text};
+ghost use Rattle.told_lines.specs.Texts.{account_text, number_text, Keeps};
 ghost use Rattle.told_lines.specs.Pieces.{piece_text};
 
 use crate::accounts::write_account;
@@ -21,8 +21,10 @@ pub enum Piece<'a> {
 }
 
 /// Appends an account.
+#[tactic(auto, using(crate::proofs::KeptLemmas::kept_behind, crate::proofs::KeptLemmas::kept_on))]
 fn tell_account(text: &mut Vec<u8>, who: AccountId) -> Result<(), NoMemory>
-    ensures { OnOk result (text.new.items ≡ text.old.items ++ account_text who) }
+    ensures text { OnOk result (text.new.items ≡ text.old.items ++ account_text who) }
+    ensures kept { Keeps text.old.items text.new.items }
 {
     let mut digits = [0; 64];
     write_account(&mut digits, who);
@@ -31,8 +33,10 @@ fn tell_account(text: &mut Vec<u8>, who: AccountId) -> Result<(), NoMemory>
 }
 
 /// Appends a number behind a blank.
+#[tactic(auto, using(crate::proofs::KeptLemmas::kept_behind, crate::proofs::KeptLemmas::kept_on))]
 fn tell_detail(text: &mut Vec<u8>, number: u128) -> Result<(), NoMemory>
-    ensures { OnOk result (text.new.items ≡ text.old.items ++ number_text number) }
+    ensures text { OnOk result (text.new.items ≡ text.old.items ++ number_text number) }
+    ensures kept { Keeps text.old.items text.new.items }
 {
     text.extend_from_slice(b" ")?;
     text.extend_from_slice(Buffer::new().format(number).as_bytes())?;
@@ -40,8 +44,10 @@ fn tell_detail(text: &mut Vec<u8>, number: u128) -> Result<(), NoMemory>
 }
 
 /// Appends one piece.
+#[tactic(auto, using(crate::proofs::KeptLemmas::kept_behind, crate::proofs::KeptLemmas::kept_on))]
 fn tell_piece(text: &mut Vec<u8>, piece: &Piece<'_>) -> Result<(), NoMemory>
-    ensures { OnOk result (text.new.items ≡ text.old.items ++ piece_text piece.now) }
+    ensures text { OnOk result (text.new.items ≡ text.old.items ++ piece_text piece.now) }
+    ensures kept { Keeps text.old.items text.new.items }
 {
     match piece {
         Piece::Words(words) => text.extend_from_slice(words.as_bytes())?,
@@ -53,8 +59,10 @@ fn tell_piece(text: &mut Vec<u8>, piece: &Piece<'_>) -> Result<(), NoMemory>
 }
 
 /// Appends the pieces in order. Where memory is refused, the text may end behind any of them.
+#[tactic(auto, using(crate::proofs::KeptLemmas::kept_behind, crate::proofs::KeptLemmas::kept_on))]
 pub fn tell(text: &mut Vec<u8>, pieces: &[Piece<'_>]) -> Result<(), NoMemory>
-    ensures { OnOk result (text.new.items ≡ text.old.items ++ flat_map piece_text pieces.now) }
+    ensures text { OnOk result (text.new.items ≡ text.old.items ++ flat_map piece_text pieces.now) }
+    ensures kept { Keeps text.old.items text.new.items }
 {
     for piece in pieces {
         tell_piece(text, piece)?;

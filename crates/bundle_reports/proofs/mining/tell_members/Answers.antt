@@ -14,5 +14,5 @@ loop-member-preserved c =
     = sym (get_or_from_slice_get c.args.snapshot.now.targets (get_or committee i 0) c.target.result no_account (search rules)) in
     let number : c.support.result ≡ support c.args.weights.now.plain.edges (get_or c.args.weights.now.plain.committee c.loop-member.member-index 0) = search rules in
     let h : c.loop-member.member-index < length c.args.weights.now.plain.committee = search rules in
-    c.in_ok-tell_member.ensures
+    c.in_ok-tell_member.ensures.text
     ∙ member_more c.args.snapshot.now c.args.weights.now.plain c.loop-member.text.items c.args.text.now.items i 0 c.target.result c.support.result h who number c.loop-member.invariant

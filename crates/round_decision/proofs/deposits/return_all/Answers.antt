@@ -1,4 +1,4 @@
-use Rattle.std.proofs.Common.{◌≡◌, ◌++◌, List, ◌∷◌, [], drop, ap, sym, subst, ◌∙◌, append_assoc}
+use Rattle.std.proofs.Common.{◌≡◌, ◌++◌, List, ◌∷◌, [], drop, ap, length, sym, subst, ◌∙◌, append_assoc, arith}
 use Rattle.stake_ledger.specs.Ledger.{Ledger}
 use Rattle.submission_queue.specs.declared.submission.Submission.{Submission}
 use Rattle.submission_queue.specs.Ranking.{Ranking}
@@ -12,7 +12,7 @@ items-preserved c =
     let item = c.in-Some.item in
     let first : c.items.queue.items ≡ item ∷ drop 1 c.items.queue.items = front c.items.queue.items item (sym c.take_best.ensures.best ∙ c.in-Some.is) in
     let rest : c.take_best.new.self.items ≡ drop 1 c.items.queue.items = ap (λ (q : Ranking). q.items) c.take_best.ensures.rest in
-    let goes = c.in_ok-return_deposit.ensures in
+    let goes = c.give_back.ensures in
     record {
       held = subst (λ (b : Ledger). AreHeld b c.take_best.new.self.items) (sym goes.book)
           (subst (AreHeld (returned book item)) (sym rest) (held_returned book c.items.queue.items item (drop 1 c.items.queue.items) c.items.invariant.held first));
@@ -21,4 +21,6 @@ items-preserved c =
           ∙ (append_assoc c.items.lines.items (return_line item ∷ []) (return_lines (drop 1 c.items.queue.items))
           ∙ (ap (λ (xs : List Submission). c.items.lines.items ++ return_lines xs) (sym first) ∙ c.items.invariant.lines));
       places = ap (λ (q : Ranking). q.places) c.take_best.ensures.rest ∙ c.items.invariant.places;
+      len = omega (arith, goes.len, ap length first, ap length rest, c.items.invariant.len);
+      capacity = goes.capacity ∙ c.items.invariant.capacity;
     }

@@ -1,4 +1,5 @@
-use Rattle.std.proofs.Common.{◌≡◌, ◌++◌, length}
+use Rattle.std.proofs.Common.{◌≡◌, ◌+◌, ◌++◌, length}
+use Rattle.std.specs.Vec.{vec_len, vec_capacity}
 use Rattle.round_decision.specs.Deposits.{AreHeld, all_returned, return_lines}
 use Rattle.round_decision.proofs.deposits.return_all.Given as goal
 
@@ -8,6 +9,8 @@ invariant-items l = record {
   book : all_returned l.queue.items l.book ≡ all_returned l.fn.queue.items l.fn.book;
   lines : l.lines.items ++ return_lines l.queue.items ≡ l.fn.lines.items ++ return_lines l.fn.queue.items;
   places : l.queue.places ≡ l.fn.queue.places;
+  len : vec_len l.lines + length l.queue.items ≡ vec_len l.fn.lines + length l.fn.queue.items;
+  capacity : vec_capacity l.lines ≡ vec_capacity l.fn.lines;
 }
 
 abbrev pub decreases-items : goal.decreases-items

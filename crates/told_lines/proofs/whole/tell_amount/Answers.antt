@@ -38,8 +38,8 @@ write_account-requires c =
     before 64 blank (slice_set buf blank 32) (omega (arith, few, start))
     (omega (arith, few, start, length-set buf blank 32))
 
-pub returns : goal.returns
-returns c =
+pub returns-clause-text : goal.returns-clause-text
+returns-clause-text c =
     let few = short c.args.amount c.ranges.amount.fits in
     let start = c.write_digits-blank.ensures.start in
     let blank = c.write_digits-blank.result - 1 in

@@ -29,8 +29,8 @@ copy_from_slice-requires c =
     (omega (arith, few, c.write_digits-digits.ensures.start, ap (λ n. length (decimal n)) c.from.ensures))
     (long c.write_digits-digits.result c.from.result c.write_digits-digits.new.buf c.write_digits-digits.ensures.written)
 
-pub returns : goal.returns
-returns c =
+pub returns-clause-text : goal.returns-clause-text
+returns-clause-text c =
     let few = short c.args.index c.ranges.index.fits in
     let start = c.write_digits-digits.ensures.start in
     let same = ap (λ n. length (decimal n)) c.from.ensures in
