@@ -4,8 +4,8 @@
 ghost use Rattle.std.specs.Prelude.{◌≡◌, map, IfOk, IfErr, string_bytes};
 ghost use Rattle.std.specs.Process.{exit_status};
 ghost use Rattle.npos_cli.specs.declared.status.Status.{Status};
-ghost use Rattle.npos_cli.specs.Status.{number_of};
-ghost use Rattle.npos_cli.specs.Ran.{traffic};
+ghost use Rattle.npos_cli.specs.Status.{status_number};
+ghost use Rattle.npos_cli.specs.Ran.{traffic, calls};
 ghost use Rattle.npos_cli.specs.Says.{Says};
 
 use npos_base::{NoMemory, Sink, Source, StdinSource, StdoutSink};
@@ -46,9 +46,10 @@ fn finish<S: Source, K: Sink>(
     sink: &mut K,
 ) -> ExitCode
     ensures says { IfOk words (λ words. (status : Status)
-        × (exit_status result ≡ number_of status)
+        × (exit_status result ≡ status_number status)
         × Says (map string_bytes words.items) (traffic S.left K.told S.faults K.faults
-        source.old source.new sink.old sink.new) (source.new ≡ source.old) (sink.new ≡ sink.old)
+        source.old source.new sink.old sink.new)
+        (calls S.asked K.tried source.old source.new sink.old sink.new) (source.new ≡ source.old) (sink.new ≡ sink.old)
         status) }
     ensures no_words { IfErr words (λ number. (exit_status result ≡ number)
         × (source.new ≡ source.old) × (sink.new ≡ sink.old)) }

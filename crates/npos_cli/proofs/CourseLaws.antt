@@ -1,10 +1,10 @@
 -- How a replay comes on that reads piece by piece and writes block by block, and how it ends.
-use Rattle.std.proofs.Common.{◌≡◌, inl, inr, ◌≤◌, ◌+◌, ◌-◌, ℕ, Bool, false, List, [], ◌++◌, length, take, drop, Option, Some, None, Result, Ok, Err, refl, sym, ◌∙◌, ap, subst, append_assoc, arith, length-append, true≢false}
+use Rattle.std.proofs.Common.{◌≡◌, inl, inr, ◌≤◌, ◌+◌, ◌-◌, ℕ, Bool, true, false, List, [], ◌++◌, length, take, drop, Option, Some, None, Result, Ok, Err, refl, sym, ◌∙◌, ap, subst, append_assoc, arith, length-append, true≢false}
 use Rattle.std.proofs.lemmas.List.{append-nil, take-append-drop, take-append-le}
 use Rattle.npos_base.specs.Outside.{Told, Appends}
 use Rattle.scale_wire.specs.declared.fault.Why.TheVariants.{Short}
 use Rattle.scale_wire.specs.declared.fault.WireFault.{WireFault}
-use Rattle.scale_wire.specs.Reading.{Place}
+use Rattle.scale_wire.specs.Reading.{Place, IsRead}
 use Rattle.block_wire.specs.declared.genesis.Genesis.{Genesis}
 use Rattle.npos_runtime.specs.declared.chain.Chain.{Chain}
 use Rattle.npos_cli.specs.declared.replaying.Stop.TheVariants.{More, Last}
@@ -15,11 +15,12 @@ use Rattle.npos_cli.specs.Replay.{Spot, Starts, Reaches, all_seated, Replayed, I
 use Rattle.npos_cli.specs.declared.output.Output.{Output}
 use Rattle.npos_cli.specs.Outputs.{machine_of}
 use Rattle.npos_cli.specs.Chain.{npos_machine}
-use Rattle.npos_cli.specs.Ahead.{HasSeen, FeedsMore, CutsGenesis, AwaitsGenesis, Begins}
+use Rattle.block_wire.specs.Genesis.{genesis_form}
+use Rattle.npos_cli.specs.Ahead.{HasSeen, FeedsMore, CutsGenesis, AwaitsGenesis, AwaitsMore, Begins}
 use Rattle.npos_cli.specs.Turning.{spot, grown, WritesOn, InGenesis, Behind, KeepsUp}
-use Rattle.npos_cli.specs.Owed.{IsAll, LeftAfter, DeliversFront, FindsReplay, BeginsReplay, IsOwedReplay, Puts, FlushesBy}
+use Rattle.npos_cli.specs.Owed.{IsAll, LeftAfter, TakesAtMost, DeliversFront, FindsReplay, BeginsReplay, IsOwedReplay, Puts, FlushesBy}
 use Rattle.npos_cli.specs.Report.{ReplayOwes, replay_status}
-use Rattle.npos_cli.specs.Streaming.{Course, Finished, CutBy, Halts, Delivered, HasWritten}
+use Rattle.npos_cli.specs.Streaming.{Course, Finished, CutBy, Halts, Delivered, HasWritten, ReadsWhile}
 use Rattle.npos_cli.proofs.ChainLaws.{genesis_laws, turn_laws}
 use Rattle.npos_cli.proofs.ReplayLaws.{reaches_itself, unreadable}
 use Rattle.npos_cli.proofs.WholeLaws.{passes_grow, start_grows, whole_grows, reached_front, undecided_whole}
@@ -50,6 +51,36 @@ has_written taken written keeps text whole =
     let front = whole_grows npos_machine genesis_laws turn_laws (take size keeps.earlier) (drop size keeps.earlier) text keeps.text
     (subst (λ (bytes : List ℕ). IsWhole npos_machine bytes text) first whole) earlier in
     (front.0 ++ keeps.before.0, keeps.before.1 ∙ (ap (λ (t : List ℕ). t ++ keeps.before.0) front.1 ∙ append_assoc text front.0 keeps.before.0))
+
+-- nothing was read yet
+pub awaits_first : (left : Option (List ℕ)) (gave : ℕ) → AwaitsMore left left gave
+awaits_first left gave = record {
+  earlier = [];
+  last = [];
+  taken = left_none left [] refl;
+  last_read = omega arith;
+  one_piece = omega arith;
+  cut = (0, inl (refl, refl));
+}
+
+-- and then one piece more
+pub awaits_more : (left mid now : Option (List ℕ)) (taken : List ℕ) (ended : Bool) (gave : ℕ) → HasSeen left mid taken false ended → CutsGenesis taken → TakesAtMost gave mid now → gave ≤ 65536
+    → AwaitsMore left now gave
+awaits_more left mid now taken ended gave seen cut few one_piece = record {
+  earlier = taken;
+  last = few.0;
+  taken = left_join left mid now taken few.0 seen.taken few.1;
+  last_read = few.2;
+  one_piece = omega (arith, few.2, one_piece);
+  cut = cut;
+}
+
+-- bytes that are a genesis are not cut within it
+pub open_read : (ended : Bool) (place next : Place) (genesis : Genesis) → (ended ≡ true → CutsGenesis place.rest) → IsRead genesis_form place genesis next → ended ≡ false
+open_read false place next genesis cut read = refl
+open_read true place next genesis cut read =
+    let c = cut refl in
+    absurd (unreadable npos_machine genesis_laws turn_laws place.rest genesis next.rest c.0 Short read.in_range read.whole c.1)
 
 -- the next piece of the genesis was not read
 pub begins_unread : (left mid now : Option (List ℕ)) (here read place : Place) (taken : List ℕ) (ended : Bool) (halt : Halt) → HasSeen left mid taken false ended → CutsGenesis taken
@@ -115,6 +146,20 @@ module _ (output : Output) where
     unsure = InGenesis awaits.4.0 awaits.4.1 refl;
     before = ([], refl);
   }
+
+  pub awaits_wary : (left now : Option (List ℕ)) (gave : ℕ) → AwaitsMore left now gave → ReadsWhile (machine_of output) left now gave
+  awaits_wary left now gave awaits = record {
+    earlier = awaits.earlier;
+    last = awaits.last;
+    text = [];
+    taken = awaits.taken;
+    last_read = awaits.last_read;
+    one_piece = awaits.one_piece;
+    unsure = InGenesis awaits.cut.0 awaits.cut.1 refl;
+  }
+
+  pub wary_first : (left : Option (List ℕ)) (gave : ℕ) → ReadsWhile (machine_of output) left left gave
+  wary_first left gave = awaits_wary left left gave (awaits_first left gave)
 
   pub genesis_halts : (left now : Option (List ℕ)) (told : Option Told) (taken : List ℕ) (halt : Halt) → LeftAfter left now taken → AwaitsGenesis taken → CutBy (machine_of output) halt taken []
       → Halts (machine_of output) left now told told halt
@@ -201,6 +246,18 @@ module _ (output : Output) where
             before = front_itself (course.written ++ writes.2.0);
           };
         }
+
+    -- the next piece was asked for, whatever came of it
+    pub wary_on : (now : Option (List ℕ)) (gave : ℕ) → WritesOn (machine_of output) ended p q told new line (Ok More) → TakesAtMost gave mid now → gave ≤ 65536 → ReadsWhile (machine_of output) left now gave
+    wary_on now gave writes few one_piece = record {
+      earlier = course.taken;
+      last = few.0;
+      text = course.written ++ writes.2.0;
+      taken = left_join left mid now course.taken few.0 course.seen.taken few.1;
+      last_read = few.2;
+      one_piece = omega (arith, few.2, one_piece);
+      unsure = Behind course.start q course.starts (reaches_join output course.start p q course.written writes.2.0 course.reaches writes.2.1) writes.1;
+    }
 
     -- the replay is known
     pub course_last : (faulty : Bool) → WritesOn (machine_of output) ended p q told new line (Ok (Last faulty)) → Finished (machine_of output) left mid old new line faulty

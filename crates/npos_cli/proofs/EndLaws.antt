@@ -1,5 +1,6 @@
 -- From what a run comes to, to what is said of its status.
-use Rattle.std.proofs.Common.{◌≡◌, ◌≢◌, ◌⊎◌, inl, inr, ◌<◌, Option, Some, Result, Ok, Err, IfErr, IfSome, refl, subst, arith}
+use Rattle.std.proofs.Common.{◌≡◌, ◌≢◌, ◌⊎◌, inl, inr, ◌<◌, true, Option, Some, Result, Ok, Err, IfErr, IfSome, refl, subst, arith}
+use Rattle.npos_base.specs.declared.outside.Tried.{Tried}
 use Rattle.npos_base.specs.Outside.{Rose}
 use Rattle.npos_cli.specs.declared.job.Job.{Job}
 use Rattle.npos_cli.specs.declared.job.Job.TheVariants as jobs
@@ -13,7 +14,7 @@ use Rattle.npos_cli.specs.declared.halt.Halt.{Halt}
 use Rattle.npos_cli.specs.declared.halt.Halt.TheVariants as halts
 use Rattle.npos_cli.specs.Status.{halted_by, end_of}
 use Rattle.npos_cli.specs.Report.{ReadsInput, IsAnswer, IsJudged}
-use Rattle.npos_cli.specs.Owed.{AnswersFor, IsDrained, KeepsFlushed}
+use Rattle.npos_cli.specs.Owed.{AnswersFor, IsDrained, KeepsFlushed, Settles}
 use Rattle.npos_cli.specs.Streaming.{HaltedReading, HaltedWriting, HaltedStarving}
 use Rattle.npos_cli.specs.Ran.{Traffic, Ran}
 use Rattle.npos_cli.proofs.StatusLaws.{found_answers}
@@ -59,6 +60,23 @@ module _ (job : Option Job) (t : Traffic) where
   write_fails (Err halts.WriteFault) ran rose = refl
   write_fails (Err halts.ReadFault) ran rose = absurd (omega (arith, ran.write_faults, rose))
   write_fails (Err halts.NoMemory) ran rose = absurd (omega (arith, ran.write_faults, rose))
+
+  pub no_read_fault : (result : Result Status Halt) → Ran job t result → end_of result ≢ statuses.ReadFault → t.read_faults_now ≡ t.read_faults
+  no_read_fault (Ok status) ran other = ran.read_faults
+  no_read_fault (Err halts.ReadFault) ran other = absurd (other refl)
+  no_read_fault (Err halts.WriteFault) ran other = ran.read_faults
+  no_read_fault (Err halts.NoMemory) ran other = ran.read_faults
+
+  pub no_write_fault : (result : Result Status Halt) → Ran job t result → end_of result ≢ statuses.WriteFault → t.write_faults_now ≡ t.write_faults
+  no_write_fault (Ok status) ran other = ran.write_faults
+  no_write_fault (Err halts.WriteFault) ran other = absurd (other refl)
+  no_write_fault (Err halts.ReadFault) ran other = ran.write_faults
+  no_write_fault (Err halts.NoMemory) ran other = ran.write_faults
+
+  -- an answer comes behind a flush
+  pub flushed_last : (before now : Tried) (result : Result Status Halt) → Ran job t result → Settles before now result → IsAnswer (end_of result) → now.flushed ≡ true
+  flushed_last before now (Ok status) ran settles answer = settles.flushed
+  flushed_last before now (Err halt) ran settles answer = absurd (no_answer halt answer)
 
   pub nothing_written : (Unwritten : Type 0) (result : Result Status Halt) → Ran job t result → IfErr result (λ halt. halt ≢ halts.WriteFault → Unwritten)
       → (end_of result ≡ statuses.ReadFault) ⊎ (end_of result ≡ statuses.NoMemory) → Unwritten

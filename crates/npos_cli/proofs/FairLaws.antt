@@ -6,7 +6,7 @@ use Rattle.stake_pools.specs.declared.fault.PoolFault.{PoolFault}
 use Rattle.stake_pools.specs.declared.chain.PoolChain.{PoolChain}
 use Rattle.stake_pools.specs.Genesis.{pool_fault, pool_chain}
 use Rattle.stake_pools.specs.Step.{after_items}
-use Rattle.stake_pools.specs.Sound.{IsSound}
+use Rattle.stake_pools.specs.Sound.{IsSoundPool}
 use Rattle.stake_pools.specs.Laws.{StartLaw, KeptLaw, WorthLaw, JoinLaw, RedeemLaw, UndilutedLaw, PaidLaw}
 use Rattle.npos_cli.specs.Replay.{Spot, Passes, behind}
 use Rattle.npos_cli.specs.Pools.{PoolRun, pool_started, pool_machine, PoolsAreFair}
@@ -27,9 +27,9 @@ started_is (Some fault) genesis run e = cc
 pub fair : StartLaw → KeptLaw → WorthLaw → JoinLaw → RedeemLaw → UndilutedLaw → PaidLaw → (bytes : List ℕ) → PoolsAreFair bytes
 fair starts_sound keeps worths joins redeems undiluted paid bytes start place text starts reaches =
     let is = started_is (pool_fault starts.genesis) starts.genesis start.state starts.state_is in
-    let first : IsSound start.state.pool = subst IsSound (sym is.1) (starts_sound starts.genesis is.0) in
-    let sound : IsSound place.state.pool =
-    subst IsSound (sym (pool_after reaches.blocks start place text reaches.passes)) (keeps start.state.pool first reaches.blocks) in
+    let first : IsSoundPool start.state.pool = subst IsSoundPool (sym is.1) (starts_sound starts.genesis is.0) in
+    let sound : IsSoundPool place.state.pool =
+    subst IsSoundPool (sym (pool_after reaches.blocks start place text reaches.passes)) (keeps start.state.pool first reaches.blocks) in
     record {
       sound = sound;
       worths = worths place.state.pool;

@@ -5,7 +5,10 @@ use Rattle.npos_base.specs.Outside.{Takes, IsAtEnd}
 use Rattle.scale_wire.specs.Reading.{Place}
 use Rattle.npos_cli.specs.declared.halt.Halt.TheVariants.{ReadFault, NoMemory}
 use Rattle.npos_cli.specs.Ahead.{FeedsMore}
-use Rattle.npos_cli.proofs.EdgeLaws.{left_none, left_taken}
+use Rattle.npos_base.specs.declared.outside.Asked.{Asked}
+use Rattle.npos_base.specs.Outside.{given_more, given_none}
+use Rattle.npos_cli.specs.Owed.{TakesAtMost}
+use Rattle.npos_cli.proofs.EdgeLaws.{left_none, left_taken, takes_none, takes_no_more}
 
 -- nothing was read
 pub feeds_nothing : (left : Option (List ℕ)) (old : Place) → FeedsMore left left old old (Err NoMemory)
@@ -31,3 +34,20 @@ pub feeds_lost : (left now : Option (List ℕ)) (old new : Place) (n : ℕ) (buf
     → n ≤ length buffer → length buffer ≤ 65536 → FeedsMore left now old new (Err NoMemory)
 feeds_lost left now old new n buffer gives within few =
     (take n buffer, left_taken left now n (take n buffer) gives.0, omega (arith, length-take-le n buffer within), tt)
+
+-- what one read gave, by what it is told to have given
+pub gave_few : (left now : Option (List ℕ)) (before after : Asked) (n : ℕ) (buffer : List ℕ) → Takes left now n (take n buffer) × (n ≡ 0 → 0 < length buffer → IsAtEnd left)
+    → n ≤ length buffer → after ≡ given_more before (length buffer) n → TakesAtMost after.last left now
+gave_few left now before after n buffer gives within is =
+    let last : after.last ≡ n = ap (λ (a : Asked). a.last) is in
+    (take n buffer, left_taken left now n (take n buffer) gives.0, omega (arith, length-take-le n buffer within, last))
+
+-- it gave no more than a piece
+pub gave_piece : (before after : Asked) (n : ℕ) (buffer : List ℕ) → n ≤ length buffer → length buffer ≤ 65536 → after ≡ given_more before (length buffer) n → after.last ≤ 65536
+gave_piece before after n buffer within few is =
+    let last : after.last ≡ n = ap (λ (a : Asked). a.last) is in omega (arith, within, few, last)
+
+-- a failed read gave nothing
+pub gave_none : (before after : Asked) → after ≡ given_none before → after.last ≤ 65536
+gave_none before after is =
+    let last : after.last ≡ 0 = ap (λ (a : Asked). a.last) is in omega (arith, last)

@@ -19,11 +19,9 @@ use Rattle.npos_cli.specs.declared.output.Output.TheVariants.{Receipts, Checkpoi
 use Rattle.npos_cli.specs.Report.{ReplayOwes, JobOwes, ReadsInput, ReadsBundle, IsJudged, replay_status}
 use Rattle.npos_cli.specs.Replay.{Machine}
 use Rattle.npos_cli.specs.Chain.{npos_machine}
-use Rattle.npos_cli.specs.Checkpoints.{checkpoint_machine}
 use Rattle.npos_cli.specs.Outputs.{machine_of}
-use Rattle.npos_cli.specs.Owed.{LeftAfter, FindsFor, AnswersFor, BeginsFor, IsDrained, TakesAtMost, DeliversFront, KeepsFlushed, Counts, Ends}
-use Rattle.npos_cli.specs.Turning.{KeepsUp}
-use Rattle.npos_cli.specs.Streaming.{Halts, ReplayEnds, ReadsWhile}
+use Rattle.npos_cli.specs.Owed.{FindsFor, AnswersFor, BeginsFor, IsDrained, TakesAtMost, DeliversFront, KeepsFlushed, Counts, Ends}
+use Rattle.npos_cli.specs.Streaming.{Halts, ReplayEnds}
 use Rattle.npos_cli.specs.Ran.{Traffic, HaltedBy, Ran, DemoEnds}
 use Rattle.npos_cli.proofs.EdgeLaws.{unflushed, takes_none}
 use Rattle.npos_cli.proofs.RunLaws.{found_unread, nothing_asked, front_found, front_delivered}
@@ -51,7 +49,6 @@ on_ok (Err e) P Q turns holds = tt
 -- what holds of a run of such a job, however it ends
 pub record AtEnd (job : Option Job) (t : Traffic) : Type 0 where
   pub other : job ≡ Some jobs.Replay → ⊥
-  pub silent : job ≡ Some jobs.Checkpoint → ⊥
   pub few : ReadsBundle job → TakesAtMost 16777217 t.left t.left_now
 
 module _ (job : Option Job) (t : Traffic) (at_end : AtEnd job t) where
@@ -66,8 +63,6 @@ module _ (job : Option Job) (t : Traffic) (at_end : AtEnd job t) where
     reads = reads;
     unflushed = keeps;
     halted = λ e. absurd (at_end.other e);
-    wary = λ e. absurd (at_end.other e);
-    wary_checkpoint = λ e. absurd (at_end.silent e);
     drained = tt;
     few = at_end.few;
     accepted = λ task e. tt;
@@ -105,8 +100,6 @@ module _ (job : Option Job) (t : Traffic) (at_end : AtEnd job t) where
         reads = tt;
         unflushed = tt;
         halted = λ e. tt;
-        wary = λ e. absurd (at_end.other e);
-        wary_checkpoint = λ e. absurd (at_end.silent e);
         drained = subst (λ (s : Status). IsJudged s → ReadsInput job → IsDrained t.left t.left_now) (sym ends.0) drained;
         few = at_end.few;
         accepted = λ task e. subst (λ (s : Status). s ≡ statuses.Done → IfSome t.left (IsSound task)) (sym ends.0) (accepted task e);
@@ -120,7 +113,7 @@ module _ (job : Option Job) (t : Traffic) (at_end : AtEnd job t) where
 pub usage_ran : (t : Traffic) (result : Result Status Halt) → Ends usage_line statuses.Usage t.told t.told_now result → t.read_faults_now ≡ t.read_faults
     → Counts halts.WriteFault t.write_faults t.write_faults_now result → Ran None t result
 usage_ran t result ends no_read write_faults =
-    ended_ran None t (record { other = λ e. cc; silent = λ e. cc; few = λ reads. absurd reads }) usage_line statuses.Usage result (nothing_asked None t.left refl) ends no_read write_faults
+    ended_ran None t (record { other = λ e. cc; few = λ reads. absurd reads }) usage_line statuses.Usage result (nothing_asked None t.left refl) ends no_read write_faults
     (λ judged. absurd judged) (λ task e. cc) (λ e. cc)
 
 -- the usage line takes no memory
@@ -160,7 +153,7 @@ module _ (seed voters seats : ℕ) (t : Traffic) where
   owed = found_unread demo_job t.left demo_line statuses.Done (λ bytes. record { text_is = refl; status_is = refl })
 
   at_end : AtEnd demo_job t
-  at_end = record { other = λ e. cc; silent = λ e. cc; few = λ reads. absurd reads }
+  at_end = record { other = λ e. cc; few = λ reads. absurd reads }
 
   pub demo_ran : (result : Result Status Halt) → DemoEnds demo_line t.told t.told_now result → t.read_faults_now ≡ t.read_faults
       → Counts halts.WriteFault t.write_faults t.write_faults_now result → Ran demo_job t result
@@ -173,22 +166,6 @@ module _ (seed voters seats : ℕ) (t : Traffic) where
   demo_ran (Err halts.ReadFault) ends no_read write_faults = absurd ends
 
 -- ## A replay
-
-keeps_wary : {G B S E : Type 0} (m : Machine G B S E) (left now : Option (List ℕ)) (taken written : List ℕ) → LeftAfter left now taken → KeepsUp m taken written → ReadsWhile m left now
-keeps_wary m left now taken written left_is keeps = record {
-  earlier = keeps.earlier;
-  last = keeps.last;
-  text = keeps.text;
-  taken = subst (λ (bytes : List ℕ). LeftAfter left now bytes) keeps.split left_is;
-  one_piece = keeps.one_piece;
-  unsure = keeps.unsure;
-}
-
--- however a replay ends, no more was read than was needed
-ends_wary : {G B S E : Type 0} (m : Machine G B S E) (left now : Option (List ℕ)) (old new : Option Told) (result : Result Status Halt) → ReplayEnds m left now old new result
-    → ReadsWhile m left now
-ends_wary m left now old new (Ok status) done = keeps_wary m left now done.taken done.written done.left_is done.keeps_up
-ends_wary m left now old new (Err halt) cut = keeps_wary m left now cut.taken cut.written cut.left_is cut.keeps_up
 
 ends_unflushed : {G B S E : Type 0} (m : Machine G B S E) (left now : Option (List ℕ)) (old new : Option Told) (result : Result Status Halt) → ReplayEnds m left now old new result
     → OnErr result (KeepsFlushed old new)
@@ -244,15 +221,6 @@ halted_of : (output : Output) (t : Traffic) (result : Result Status Halt) → Re
 halted_of Receipts t result ends e = ends_halted t result ends
 halted_of Checkpoint t result ends e = cc
 
-wary_of : (output : Output) (left now : Option (List ℕ)) → ReadsWhile (machine_of output) left now → Some (replaying output) ≡ Some jobs.Replay → ReadsWhile npos_machine left now
-wary_of Receipts left now wary e = wary
-wary_of Checkpoint left now wary e = cc
-
-silent_of : (output : Output) (left now : Option (List ℕ)) → ReadsWhile (machine_of output) left now → Some (replaying output) ≡ Some jobs.Checkpoint
-    → ReadsWhile checkpoint_machine left now
-silent_of Receipts left now wary e = cc
-silent_of Checkpoint left now wary e = wary
-
 answers_of : (output : Output) (t : Traffic) (result : Result Status Halt) → ReplayEnds (machine_of output) t.left t.left_now t.told t.told_now result
     → IfOk result (AnswersFor (Some (replaying output)) t.left t.told t.told_now)
 answers_of output t (Ok status) done =
@@ -270,7 +238,6 @@ front_of output t (Err halt) cut = λ text status owed. cut.front text status (�
 pub replay_ran : (output : Output) (t : Traffic) (result : Result Status Halt) → ReplayEnds (machine_of output) t.left t.left_now t.told t.told_now result
     → Counts halts.ReadFault t.read_faults t.read_faults_now result → Counts halts.WriteFault t.write_faults t.write_faults_now result → Ran (Some (replaying output)) t result
 replay_ran output t result ends read_faults write_faults =
-    let wary = ends_wary (machine_of output) t.left t.left_now t.told t.told_now result ends in
     record {
       answers = answers_of output t result ends;
       front = front_of output t result ends;
@@ -279,8 +246,6 @@ replay_ran output t result ends read_faults write_faults =
       reads = on_err result (λ halt. halt ≡ halts.ReadFault → ReadsInput (Some (replaying output))) (λ halt e. reads_by output);
       unflushed = ends_unflushed (machine_of output) t.left t.left_now t.told t.told_now result ends;
       halted = halted_of output t result ends;
-      wary = wary_of output t.left t.left_now wary;
-      wary_checkpoint = silent_of output t.left t.left_now wary;
       drained = on_ok result (λ status. IsJudged status → IsDrained t.left t.left_now) (λ status. IsJudged status → ReadsInput (Some (replaying output)) → IsDrained t.left t.left_now)
           (λ status drained judged reads. drained judged) (ends_drained (machine_of output) t.left t.left_now t.told t.told_now result ends);
       few = few_by output t.left t.left_now;
@@ -304,7 +269,6 @@ pub starved_ran : (job : Option Job) (left : Option (List ℕ)) (told : Option T
     }) (Err halts.NoMemory)
 starved_ran job left told read_faults write_faults =
     let first = begins_starved Receipts left told in
-    let silent = begins_starved Checkpoint left told in
     record {
       answers = tt;
       front = λ text status owed. front_none told text;
@@ -313,8 +277,6 @@ starved_ran job left told read_faults write_faults =
       reads = λ e. cc;
       unflushed = kept_flushed told;
       halted = λ e. (first.taken, first.left_is, first.written, first.told, first.cut);
-      wary = λ e. keeps_wary npos_machine left left first.taken first.written first.left_is first.keeps_up;
-      wary_checkpoint = λ e. keeps_wary checkpoint_machine left left silent.taken silent.written silent.left_is silent.keeps_up;
       drained = tt;
       few = λ bundle. takes_none left 16777217;
       accepted = λ task e. tt;

@@ -15,6 +15,7 @@ pub mod FaultLaws
 pub mod SeatLaws
 pub mod CrowdingLaws
 pub mod FeedLaws
+pub mod AskLaws
 pub mod CourseLaws
 pub mod JobLaws
 pub mod EndLaws

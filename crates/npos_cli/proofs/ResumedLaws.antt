@@ -7,7 +7,7 @@ use Rattle.npos_runtime.specs.Deposits.{DepositsGoOnLaw}
 use Rattle.npos_runtime.specs.DeferredLaws.{QueuedLaw, AppliedLaw, TakenInAllLaw}
 use Rattle.npos_runtime.specs.EraLaws.{chain_at, PaidOnLaw, ToldOnLaw, SlashLaw, OnceOnLaw, DuesOnLaw}
 use Rattle.npos_runtime.specs.History.{CanTake}
-use Rattle.npos_runtime.specs.Laws.{IsSound, SeatedSoundLaw, NoneCrowdedOutLaw}
+use Rattle.npos_runtime.specs.Laws.{IsSeatedSoundly, SeatedSoundLaw, NoneCrowdedOutLaw}
 use Rattle.npos_runtime.specs.Outcome.{Election}
 use Rattle.npos_runtime.specs.Restoring.{state_fault}
 use Rattle.npos_runtime.specs.Savable.{IsSavable, RestoredLaw}
@@ -55,12 +55,12 @@ books_go_on restored bytes start place text starts reaches =
 
 pub seats_go_on : RestoredLaw → SeatedSoundLaw → (bytes : List ℕ) → ResumedSeatsAreSound bytes
 seats_go_on restored law bytes out (BadGenesis at why bad o) =
-    subst (λ (out : Outcome Chain Election). All IsSound out.seated) (sym o) (λ k d below. absurd (omega (arith, below)))
+    subst (λ (out : Outcome Chain Election). All IsSeatedSoundly out.seated) (sym o) (λ k d below. absurd (omega (arith, below)))
 seats_go_on restored law bytes out (FaultyGenesis state rest line in_range whole faulty o) =
-    subst (λ (out : Outcome Chain Election). All IsSound out.seated) (sym o) (λ k d below. absurd (omega (arith, below)))
+    subst (λ (out : Outcome Chain Election). All IsSeatedSoundly out.seated) (sym o) (λ k d below. absurd (omega (arith, below)))
 seats_go_on restored law bytes out (Replayed p q text line faulty starts reaches stops o) =
-    subst (λ (out : Outcome Chain Election). All IsSound out.seated) (sym o)
-    (subst (All IsSound) (sym (seated_are p.state reaches.blocks))
+    subst (λ (out : Outcome Chain Election). All IsSeatedSoundly out.seated) (sym o)
+    (subst (All IsSeatedSoundly) (sym (seated_are p.state reaches.blocks))
     (law p.state reaches.blocks (can_take restored bytes p starts q text reaches)))
 
 pub rounds_go_on : RestoredLaw → SeatingsLaw → (bytes : List ℕ) → ResumedRoundsAreSeated bytes

@@ -6,30 +6,30 @@ use Rattle.npos_runtime.specs.declared.chain.Chain.{Chain}
 use Rattle.npos_runtime.specs.Outcome.{Election}
 use Rattle.npos_runtime.specs.Step.{step}
 use Rattle.npos_runtime.specs.Live.{IsLive}
-use Rattle.npos_runtime.specs.Laws.{IsSound, SoundStepLaw}
+use Rattle.npos_runtime.specs.Laws.{IsSeatedSoundly, SoundStepLaw}
 use Rattle.npos_runtime.specs.Seatings.{SeatingsLaw}
 use Rattle.npos_cli.specs.Replay.{Spot, Passes, behind, all_seated, Outcome, BadGenesis, FaultyGenesis, Replayed}
 use Rattle.npos_cli.specs.Chain.{npos_machine}
 use Rattle.npos_cli.specs.Headline.{SeatsAreSound, RoundsAreSeated}
 use Rattle.npos_cli.proofs.BookLaws.{live_turn, live_start, can_take}
 
-none_sound : All IsSound []
+none_sound : All IsSeatedSoundly []
 none_sound k d lt = absurd (omega (arith, lt))
 
 module _ (law : SoundStepLaw) where
   passes_sound : (blocks : List Block) (p q : Spot Chain) (text : List ℕ) → Passes npos_machine blocks p q text → IsLive p.state
-      → All IsSound (all_seated npos_machine p.state blocks)
+      → All IsSeatedSoundly (all_seated npos_machine p.state blocks)
   passes_sound [] p q text passes live = none_sound
   passes_sound (block ∷ blocks) p q text passes live =
-      All-append IsSound (step p.state block).seated (all_seated npos_machine (step p.state block).state blocks) (law p.state block live)
+      All-append IsSeatedSoundly (step p.state block).seated (all_seated npos_machine (step p.state block).state blocks) (law p.state block live)
       (passes_sound blocks (behind npos_machine p block passes.0) q passes.2 passes.3 (live_turn p block passes.0 passes.1 live))
 
   pub seats_sound : (bytes : List ℕ) → SeatsAreSound bytes
-  seats_sound bytes out (BadGenesis at why bad o) = subst (λ (out : Outcome Chain Election). All IsSound out.seated) (sym o) none_sound
+  seats_sound bytes out (BadGenesis at why bad o) = subst (λ (out : Outcome Chain Election). All IsSeatedSoundly out.seated) (sym o) none_sound
   seats_sound bytes out (FaultyGenesis genesis rest fault in_range whole faulty o) =
-      subst (λ (out : Outcome Chain Election). All IsSound out.seated) (sym o) none_sound
+      subst (λ (out : Outcome Chain Election). All IsSeatedSoundly out.seated) (sym o) none_sound
   seats_sound bytes out (Replayed p q text line faulty start reaches stops o) =
-      subst (λ (out : Outcome Chain Election). All IsSound out.seated) (sym o)
+      subst (λ (out : Outcome Chain Election). All IsSeatedSoundly out.seated) (sym o)
       (passes_sound reaches.blocks p q text reaches.passes (live_start bytes p start))
 
 pub told_sound : (left : Option (List ℕ)) → ((bytes : List ℕ) → SeatsAreSound bytes) → IfSome left SeatsAreSound

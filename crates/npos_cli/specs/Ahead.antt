@@ -53,6 +53,15 @@ abbrev pub AwaitsGenesis : List ℕ → Type 0
 AwaitsGenesis taken = (earlier : List ℕ) × (last : List ℕ) × (taken ≡ earlier ++ last) × (length last ≤ 65536)
     × CutsGenesis earlier
 
+-- without what the last read gave, bytes of the genesis are missing
+pub record AwaitsMore (left now : Option (List ℕ)) (gave : ℕ) : Type 0 where
+  pub earlier : List ℕ
+  pub last : List ℕ
+  pub taken : LeftAfter left now (earlier ++ last)
+  pub last_read : length last ≤ gave
+  pub one_piece : length last ≤ 65536
+  pub cut : CutsGenesis earlier
+
 -- The genesis of an input was read, or is refused whatever may follow; or a read failed where it is
 -- cut, or memory ran out.
 abbrev pub BeginsBy : Option (List ℕ) → Option (List ℕ) → List ℕ → Place

@@ -3,7 +3,7 @@ use Rattle.std.specs.Prelude.{ℕ, List, All, Option}
 use Rattle.npos_base.specs.Outside.{Told}
 use Rattle.npos_runtime.specs.declared.chain.Chain.{Chain}
 use Rattle.npos_runtime.specs.Outcome.{Election}
-use Rattle.npos_runtime.specs.Laws.{IsSound}
+use Rattle.npos_runtime.specs.Laws.{IsSeatedSoundly}
 use Rattle.npos_runtime.specs.Seatings.{SeatsHold}
 use Rattle.npos_cli.specs.Replay.{Outcome, IsReplay, Spot, Starts, Reaches}
 use Rattle.npos_cli.specs.Chain.{npos_machine}
@@ -14,7 +14,7 @@ use Rattle.npos_cli.specs.Owed.{Delivers}
 -- nominations, spends no voter beyond its stake, and is proportional.
 abbrev pub SeatsAreSound : List ℕ → Type 0
 SeatsAreSound bytes =
-    (out : Outcome Chain Election) → IsReplay npos_machine bytes out → All IsSound out.seated
+    (out : Outcome Chain Election) → IsReplay npos_machine bytes out → All IsSeatedSoundly out.seated
 
 -- Wherever a replay of these bytes has come, each round whose snapshot was taken was decided as many
 -- blocks later as submissions are taken: one committee was seated from that very snapshot, or its
@@ -29,5 +29,5 @@ pub record IsPromised (bytes : List ℕ) (old new : Option Told) : Type 0 where
   pub replay : Outcome Chain Election
   pub is_replay : IsReplay npos_machine bytes replay
   pub written : Delivers old new replay.text
-  pub committees : All IsSound replay.seated
+  pub committees : All IsSeatedSoundly replay.seated
   pub holdings : BooksBalance bytes

@@ -1,5 +1,7 @@
 -- How far a run goes with what it owes: which text reaches the sink, and what is left in the source.
-use Rattle.std.specs.Prelude.{◌≡◌, ◌⊎◌, ⊤, ℕ, ◌≤◌, ◌+◌, Bool, true, false, List, [], ◌++◌, length, take, Option, Some, None, Result, Ok, Err}
+use Rattle.std.specs.Prelude.{◌≡◌, ◌⊎◌, ⊤, ℕ, ◌≤◌, ◌+◌, Bool, true, false, List, [], ◌++◌, length, take, Option, Some, None, Result, Ok, Err, IfOk, OnOk}
+use Rattle.npos_base.specs.declared.outside.Asked.{Asked}
+use Rattle.npos_base.specs.declared.outside.Tried.{Tried}
 use Rattle.npos_base.specs.Outside.{Told, Rose, IsAtEnd, Appends, Flushes}
 use Rattle.npos_cli.specs.declared.halt.Halt.{Halt}
 use Rattle.npos_cli.specs.declared.halt.Halt.TheVariants as halts
@@ -60,12 +62,34 @@ abbrev pub ComesWith : {G B S E : Type 0} → Machine G B S E → List ℕ → B
 ComesWith {G} {B} {S} {E} m bytes faulty status answer rose =
     (out : Outcome S E) → IsReplay m bytes out → out.faulty ≡ faulty → Comes status answer rose
 
--- The count of faults of a source or of a sink over a part of a run: it rose where the part was cut
--- off by a fault of that kind, and stands else.
+-- The count of faults of a source or of a sink over a part of a run: it rose by one where the part was
+-- cut off by a fault of that kind, and stands else.
 abbrev pub Counts : {T : Type 0} → Halt → ℕ → ℕ → Result T Halt → Type 0
 Counts halts.ReadFault before now (Err halts.ReadFault) = Rose before now × (before ≤ now)
 Counts halts.WriteFault before now (Err halts.WriteFault) = Rose before now × (before ≤ now)
 Counts fault before now other = now ≡ before
+
+-- where no read had failed or found the end before, none was made behind one that did
+abbrev pub AsksInTime : Asked → Asked → Type 0
+AsksInTime before now = before.ended ≡ false → now.late ≡ before.late
+
+-- and none has failed or found the end yet
+abbrev pub AsksOn : Asked → Asked → Type 0
+AsksOn before now = before.ended ≡ false → (now.late ≡ before.late) × (now.ended ≡ false)
+
+-- reads up to one that says whether the input has ended
+pub record AsksOnce (before now : Asked) (result : Result Bool Halt) : Type 0 where
+  pub in_time : AsksInTime before now
+  pub goes_on : IfOk result (λ ended. ended ≡ false → AsksOn before now)
+
+-- where no write or flush had failed before, none was made behind one that did
+abbrev pub TriesInTime : Tried → Tried → Type 0
+TriesInTime before now = before.failed ≡ false → now.late ≡ before.late
+
+-- what ends a run: nothing is tried on the sink behind a failure, and an Ok comes behind a flush
+pub record Settles {T : Type 0} (before now : Tried) (result : Result T Halt) : Type 0 where
+  pub in_time : TriesInTime before now
+  pub flushed : OnOk result (now.flushed ≡ true)
 
 -- A text that ends a run with this status was delivered; or a front of it, and a write or the flush
 -- failed.

@@ -13,7 +13,7 @@ use Rattle.stake_pools.specs.Chain.{active_of, pot_of, all_points_of, member_wor
 use Rattle.stake_pools.specs.Genesis.{pool_fault, pool_chain, fault_numbers}
 use Rattle.stake_pools.specs.Step.{item_outcome}
 use Rattle.stake_pools.specs.Rules.{due_points}
-use Rattle.stake_pools.specs.Sound.{IsSound}
+use Rattle.stake_pools.specs.Sound.{IsSoundPool}
 use Rattle.stake_pools.specs.Laws.{KeepsPrice, IsNoSlash}
 use Rattle.stake_pools.specs.declared.input.PoolKind.{PoolKind}
 use Rattle.stake_pools.specs.declared.input.PoolKind.TheVariants.{Join, Redeem}
@@ -78,7 +78,7 @@ pool_machine = record {
 -- for; what the members' points are worth is there; nobody who joins or redeems lowers the price of a
 -- point, nobody is diluted by another but by a slash, and nobody is paid more than its part.
 pub record IsFair (pool : PoolChain) : Type 0 where
-  pub sound : IsSound pool
+  pub sound : IsSoundPool pool
   pub worths : 0 < all_points_of pool → all_worths pool ≤ active_of pool
   pub joins : (who : AccountId) (value : ℕ) → KeepsPrice pool (item_outcome pool who (Join value)).state
   pub redeems : (who : AccountId) → KeepsPrice pool (item_outcome pool who Redeem).state

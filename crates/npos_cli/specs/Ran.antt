@@ -1,5 +1,7 @@
 -- What a run of one job comes to: an answer, or what cut it off.
 use Rattle.std.specs.Prelude.{◌≡◌, ◌≢◌, ℕ, List, Option, Some, Result, Ok, Err, IfOk, IfErr, OnErr, IfSome}
+use Rattle.npos_base.specs.declared.outside.Asked.{Asked}
+use Rattle.npos_base.specs.declared.outside.Tried.{Tried}
 use Rattle.npos_base.specs.Outside.{Told}
 use Rattle.npos_cli.specs.declared.job.Job.{Job}
 use Rattle.npos_cli.specs.declared.job.Job.TheVariants as jobs
@@ -10,12 +12,10 @@ use Rattle.npos_cli.specs.declared.status.Status.{Status}
 use Rattle.npos_cli.specs.declared.status.Status.TheVariants as statuses
 use Rattle.npos_cli.specs.declared.halt.Halt.{Halt}
 use Rattle.npos_cli.specs.declared.halt.Halt.TheVariants as halts
-use Rattle.npos_cli.specs.Chain.{npos_machine}
-use Rattle.npos_cli.specs.Checkpoints.{checkpoint_machine}
 use Rattle.npos_cli.specs.Report.{ReadsInput, ReadsBundle, IsJudged}
 use Rattle.bundle_reports.specs.Tasks.{IsSound}
 use Rattle.npos_cli.specs.Owed.{AnswersFor, BeginsFor, IsDrained, TakesAtMost, Delivers, DeliversFront, KeepsFlushed, Counts}
-use Rattle.npos_cli.specs.Streaming.{HaltedReading, HaltedWriting, HaltedStarving, ReadsWhile}
+use Rattle.npos_cli.specs.Streaming.{HaltedReading, HaltedWriting, HaltedStarving}
 
 -- What is told of source and sink before and after a part of a run: the bytes that are left, those
 -- that were written, and how many faults each has had.
@@ -42,6 +42,21 @@ traffic left told read_faults write_faults source source_now sink sink_now = rec
   write_faults_now = write_faults sink_now;
 }
 
+-- What is told of the calls of source and sink before and after a run.
+pub record Calls : Type 0 where
+  pub asked : Asked
+  pub asked_now : Asked
+  pub tried : Tried
+  pub tried_now : Tried
+
+abbrev pub calls : {S K : Type 0} → (S → Asked) → (K → Tried) → S → S → K → K → Calls
+calls asked tried source source_now sink sink_now = record {
+  asked = asked source;
+  asked_now = asked source_now;
+  tried = tried sink;
+  tried_now = tried sink_now;
+}
+
 -- what was taken and written of a replay that was cut off
 abbrev pub HaltedBy : Halt → Traffic → Type 0
 HaltedBy halts.ReadFault t = HaltedReading t.left t.left_now t.told t.told_now
@@ -56,8 +71,6 @@ pub record Ran (job : Option Job) (t : Traffic) (result : Result Status Halt) : 
   pub reads : IfErr result (λ halt. halt ≡ halts.ReadFault → ReadsInput job)
   pub unflushed : OnErr result (KeepsFlushed t.told t.told_now)
   pub halted : job ≡ Some jobs.Replay → IfErr result (λ halt. HaltedBy halt t)
-  pub wary : job ≡ Some jobs.Replay → ReadsWhile npos_machine t.left t.left_now
-  pub wary_checkpoint : job ≡ Some jobs.Checkpoint → ReadsWhile checkpoint_machine t.left t.left_now
   pub drained : IfOk result (λ status. IsJudged status → ReadsInput job → IsDrained t.left t.left_now)
   pub few : ReadsBundle job → TakesAtMost 16777217 t.left t.left_now
   pub accepted : (task : Task) → job ≡ Some (jobs.OnBundle task)

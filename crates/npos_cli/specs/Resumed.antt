@@ -11,7 +11,7 @@ use Rattle.npos_runtime.specs.declared.chain.Chain.{Chain}
 use Rattle.npos_runtime.specs.Outcome.{Election}
 use Rattle.npos_runtime.specs.Step.{after_blocks}
 use Rattle.npos_runtime.specs.Deposits.{DepositsGoOn}
-use Rattle.npos_runtime.specs.Laws.{IsSound}
+use Rattle.npos_runtime.specs.Laws.{IsSeatedSoundly}
 use Rattle.npos_runtime.specs.Seatings.{SeatsHold}
 use Rattle.npos_runtime.specs.Offers.{IsNoneCrowdedOut}
 use Rattle.npos_runtime.specs.EraLaws.{chain_at, over_blocks, paid_by, PaysAsTold, taken_by, due_by, TakesWhatIsDue, elected_for, stake_behind, elections_from}
@@ -34,7 +34,7 @@ ResumedBooksBalance bytes = (start place : Spot Chain) (text : List ℕ) → Sta
 -- beyond its stake, and is proportional.
 abbrev pub ResumedSeatsAreSound : List ℕ → Type 0
 ResumedSeatsAreSound bytes =
-    (out : Outcome Chain Election) → IsReplay resume_machine bytes out → All IsSound out.seated
+    (out : Outcome Chain Election) → IsReplay resume_machine bytes out → All IsSeatedSoundly out.seated
 
 -- each round whose snapshot is taken is decided as it began
 abbrev pub ResumedRoundsAreSeated : List ℕ → Type 0

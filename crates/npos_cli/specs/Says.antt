@@ -1,5 +1,5 @@
 -- All that `run` says of a run: its clauses, gathered for who calls it.
-use Rattle.std.specs.Prelude.{◌≡◌, ◌≢◌, ◌⊎◌, ◌<◌, false, ℕ, List, Some, IfSome}
+use Rattle.std.specs.Prelude.{◌≡◌, ◌≢◌, ◌⊎◌, ◌<◌, true, false, ℕ, List, Some, IfSome}
 use Rattle.npos_base.specs.Outside.{Rose}
 use Rattle.npos_cli.specs.declared.job.Job.TheVariants as jobs
 use Rattle.bundle_reports.specs.declared.asked.Task.{Task}
@@ -21,11 +21,11 @@ use Rattle.npos_cli.specs.Crowding.{NoneIsCrowdedOut}
 use Rattle.npos_cli.specs.Eras.{ErasAreKept}
 use Rattle.npos_cli.specs.Streams.{LeavesStream}
 use Rattle.npos_cli.specs.Streaming.{HaltedReading, HaltedWriting, HaltedStarving, ReadsWhile}
-use Rattle.npos_cli.specs.Owed.{Answers, BeginsToAnswer, IsDrained, TakesAtMost, KeepsFlushed}
-use Rattle.npos_cli.specs.Ran.{Traffic}
+use Rattle.npos_cli.specs.Owed.{Answers, BeginsToAnswer, IsDrained, TakesAtMost, KeepsFlushed, AsksInTime, TriesInTime}
+use Rattle.npos_cli.specs.Ran.{Traffic, Calls}
 
 -- `Unread` and `Unwritten` say that the source and the sink are as they were.
-pub record Says (words : List (List ℕ)) (t : Traffic) (Unread Unwritten : Type 0) (status : Status) : Type 0 where
+pub record Says (words : List (List ℕ)) (t : Traffic) (calls : Calls) (Unread Unwritten : Type 0) (status : Status) : Type 0 where
   pub answers : IsAnswer status → Answers words t.left t.told t.told_now status
   pub front : BeginsToAnswer words t.left t.told t.told_now
   pub read_fault : status ≡ statuses.ReadFault
@@ -33,6 +33,11 @@ pub record Says (words : List (List ℕ)) (t : Traffic) (Unread Unwritten : Type
   pub read_fault_comes : t.read_faults < t.read_faults_now → status ≡ statuses.ReadFault
   pub write_fault : status ≡ statuses.WriteFault → Rose t.write_faults t.write_faults_now
   pub write_fault_comes : t.write_faults < t.write_faults_now → status ≡ statuses.WriteFault
+  pub no_read_fault : status ≢ statuses.ReadFault → t.read_faults_now ≡ t.read_faults
+  pub no_write_fault : status ≢ statuses.WriteFault → t.write_faults_now ≡ t.write_faults
+  pub asks_in_time : AsksInTime calls.asked calls.asked_now
+  pub tries_in_time : TriesInTime calls.tried calls.tried_now
+  pub flushed_last : IsAnswer status → calls.tried_now.flushed ≡ true
   pub unwritten : (job_of words ≡ Some jobs.Replay → ⊥)
       → (status ≡ statuses.ReadFault) ⊎ (status ≡ statuses.NoMemory) → Unwritten
   pub unflushed : (IsAnswer status → ⊥) → KeepsFlushed t.told t.told_now
@@ -54,8 +59,8 @@ pub record Says (words : List (List ℕ)) (t : Traffic) (Unread Unwritten : Type
   pub whole_pool : job_of words ≡ Some jobs.Pools → LeavesStream pool_machine t.left
       → (Rose t.read_faults t.read_faults_now → ⊥) → (Rose t.write_faults t.write_faults_now → ⊥)
       → (status ≡ statuses.Done) ⊎ (status ≡ statuses.NoMemory)
-  pub wary : job_of words ≡ Some jobs.Replay → ReadsWhile npos_machine t.left t.left_now
-  pub wary_checkpoint : job_of words ≡ Some jobs.Checkpoint → ReadsWhile checkpoint_machine t.left t.left_now
+  pub wary : job_of words ≡ Some jobs.Replay → ReadsWhile npos_machine t.left t.left_now calls.asked_now.last
+  pub wary_checkpoint : job_of words ≡ Some jobs.Checkpoint → ReadsWhile checkpoint_machine t.left t.left_now calls.asked_now.last
   pub usage_memory : has_verb words ≡ false → status ≢ statuses.NoMemory
   pub unread : (ReadsInput (job_of words) → ⊥) → Unread
   pub drained : IsJudged status → ReadsInput (job_of words) → IsDrained t.left t.left_now

@@ -8,14 +8,14 @@ use Rattle.npos_cli.specs.declared.status.Status.{Status}
 use Rattle.npos_cli.specs.declared.status.Status.TheVariants.{Done, No, Usage, BadInput, ReadFault, WriteFault, NoMemory}
 
 -- the number of a status is the exit status of the program
-abbrev pub number_of : Status → ℕ
-number_of Done = 0
-number_of No = 1
-number_of Usage = 2
-number_of BadInput = 3
-number_of ReadFault = 4
-number_of WriteFault = 5
-number_of NoMemory = 6
+abbrev pub status_number : Status → ℕ
+status_number Done = 0
+status_number No = 1
+status_number Usage = 2
+status_number BadInput = 3
+status_number ReadFault = 4
+status_number WriteFault = 5
+status_number NoMemory = 6
 
 -- how a run ends that is cut off
 abbrev pub halted_by : Halt → Status

@@ -112,12 +112,20 @@ HaltedStarving left now old new =
     (taken : List ℕ) × LeftAfter left now taken × (written : List ℕ) × Appends old new written
     × WritesBlocks npos_machine taken written
 
--- All bytes taken but those of the last piece leave the end open: so no more is read once they hold
--- the cause of a fault line, or a byte behind the None.
-pub record ReadsWhile {G B S E : Type 0} (m : Machine G B S E) (left now : Option (List ℕ)) : Type 0 where
+-- What was taken before the last read, which gave so many bytes, leaves the end open: so no read is
+-- made once the bytes hold the cause of a fault line, or a byte behind the None.
+pub record ReadsWhile {G B S E : Type 0} (m : Machine G B S E) (left now : Option (List ℕ)) (gave : ℕ) : Type 0 where
   pub earlier : List ℕ
   pub last : List ℕ
   pub text : List ℕ
   pub taken : LeftAfter left now (earlier ++ last)
+  pub last_read : length last ≤ gave
   pub one_piece : length last ≤ 65536
   pub unsure : IsUndecided m earlier text
+
+-- whatever led to a place with no read too many goes on from there with none
+abbrev pub ReadsOnWhile : {G B S E : Type 0} → Machine G B S E → Option (List ℕ) → Option (List ℕ) → ℕ → ℕ
+    → Option Told → Spot S → Type 0
+ReadsOnWhile m mid now gave gave_now told here =
+    (left : Option (List ℕ)) (old : Option Told) → Course m left mid old told false here
+    → ReadsWhile m left mid gave → ReadsWhile m left now gave_now

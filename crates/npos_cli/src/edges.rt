@@ -1,7 +1,8 @@
 //! The edge of a run at which its text goes out.
 ghost use Rattle.std.specs.Prelude.{◌≡◌, [], MatchResult, IfErr, OnErr};
 ghost use Rattle.npos_cli.specs.declared.halt.Halt.TheVariants as halts;
-ghost use Rattle.npos_cli.specs.Owed.{Counts, Ends, Puts, FlushesBy};
+ghost use Rattle.npos_base.specs.Outside.{StopsTrying};
+ghost use Rattle.npos_cli.specs.Owed.{Counts, Ends, Puts, FlushesBy, Settles};
 
 use crate::Status;
 use crate::halt::Halt;
@@ -11,6 +12,7 @@ use npos_base::{Failed, Sink, put_all};
 pub fn put<K: Sink>(sink: &mut K, text: &[u8]) -> Result<(), Halt>
     ensures puts { Puts (K.told sink.old) (K.told sink.new) text.now result }
     ensures faults { Counts halts.WriteFault (K.faults sink.old) (K.faults sink.new) result }
+    ensures stops { StopsTrying (K.tried sink.old) (K.tried sink.new) result }
 {
     match put_all(sink, text) {
         Ok(()) => Ok(()),
@@ -19,10 +21,11 @@ pub fn put<K: Sink>(sink: &mut K, text: &[u8]) -> Result<(), Halt>
 }
 
 /// Writes the text, where there is any. Where there is none the sink is not called.
-#[tactic(auto, using(crate::proofs::EdgeLaws::puts_none))]
+#[tactic(auto, using(crate::proofs::EdgeLaws::puts_none, crate::proofs::AskLaws::stops_nothing))]
 pub fn put_some<K: Sink>(sink: &mut K, text: &[u8]) -> Result<(), Halt>
     ensures puts { Puts (K.told sink.old) (K.told sink.new) text.now result }
     ensures faults { Counts halts.WriteFault (K.faults sink.old) (K.faults sink.new) result }
+    ensures stops { StopsTrying (K.tried sink.old) (K.tried sink.new) result }
     ensures quiet { text.now ≡ [] → sink.new ≡ sink.old }
 {
     if text.is_empty() {
@@ -32,9 +35,11 @@ pub fn put_some<K: Sink>(sink: &mut K, text: &[u8]) -> Result<(), Halt>
 }
 
 /// Flushes the sink.
+#[tactic(auto, using(crate::proofs::AskLaws::settles_flushed, crate::proofs::AskLaws::settles_failed))]
 pub fn flush<K: Sink>(sink: &mut K) -> Result<(), Halt>
     ensures flushes { FlushesBy (K.told sink.old) (K.told sink.new) result }
     ensures faults { Counts halts.WriteFault (K.faults sink.old) (K.faults sink.new) result }
+    ensures settles { Settles (K.tried sink.old) (K.tried sink.new) result }
 {
     match sink.flush() {
         Ok(()) => Ok(()),
@@ -43,10 +48,11 @@ pub fn flush<K: Sink>(sink: &mut K) -> Result<(), Halt>
 }
 
 /// Writes a text that ends a run with this status, and flushes the sink.
-#[tactic(auto, using(crate::proofs::EdgeLaws::delivered, crate::proofs::EdgeLaws::not_flushed, crate::proofs::EdgeLaws::front_put, crate::proofs::EdgeLaws::put_unflushed, crate::proofs::EdgeLaws::still_unflushed))]
+#[tactic(auto, using(crate::proofs::EdgeLaws::delivered, crate::proofs::EdgeLaws::not_flushed, crate::proofs::EdgeLaws::front_put, crate::proofs::EdgeLaws::put_unflushed, crate::proofs::EdgeLaws::still_unflushed, crate::proofs::AskLaws::settles_behind, crate::proofs::AskLaws::settles_cut, crate::proofs::AskLaws::settles_flushed, crate::proofs::AskLaws::settles_failed))]
 pub fn deliver<K: Sink>(sink: &mut K, text: &[u8], status: Status) -> Result<Status, Halt>
     ensures ends { Ends text.now status (K.told sink.old) (K.told sink.new) result }
     ensures faults { Counts halts.WriteFault (K.faults sink.old) (K.faults sink.new) result }
+    ensures settles { Settles (K.tried sink.old) (K.tried sink.new) result }
 {
     if put_all(sink, text).is_err() {
         return Err(Halt::WriteFault);

@@ -1,7 +1,7 @@
 //! An input that is read whole, to its end or up to a limit.
 ghost use Rattle.std.specs.Prelude.{◌≡◌, ◌≢◌, ◌+◌, ◌<◌, ◌≤◌, ◌^◌, true, false, [], length, vec_len, IfOk, IfErr};
 ghost use Rattle.npos_cli.specs.declared.halt.Halt.TheVariants as halts;
-ghost use Rattle.npos_cli.specs.Owed.{Counts, LeftAfter, IsAll, IsDrained, TakesMore, TakesAtMost, ReadsUpTo};
+ghost use Rattle.npos_cli.specs.Owed.{Counts, LeftAfter, IsAll, IsDrained, TakesMore, TakesAtMost, ReadsUpTo, AsksInTime};
 
 use crate::halt::Halt;
 use crate::pieces::{PIECE, blank_piece, read_more};
@@ -10,13 +10,14 @@ use std::alloc::Global;
 
 /// Reads on until the input has ended or more than `most` bytes were read, but never more than one
 /// byte beyond.
-#[tactic(auto, using(crate::proofs::EdgeLaws::takes_none, crate::proofs::EdgeLaws::takes_so_far, crate::proofs::EdgeLaws::takes_more))]
+#[tactic(auto, using(crate::proofs::EdgeLaws::takes_none, crate::proofs::EdgeLaws::takes_so_far, crate::proofs::EdgeLaws::takes_more, crate::proofs::AskLaws::asks_nothing, crate::proofs::AskLaws::asks_more, crate::proofs::AskLaws::asks_last, crate::proofs::AskLaws::asks_so_far))]
 pub fn read_up_to<S: Source>(alloc: Global, source: &mut S, most: usize) -> Result<Vec<u8>, Halt>
     requires { most < 2 ^ 32 }
     ensures read { IfOk result
         (λ bytes. ReadsUpTo most (S.left source.old) (S.left source.new) bytes.items) }
     ensures few { TakesAtMost (most + 1) (S.left source.old) (S.left source.new) }
     ensures faults { Counts halts.ReadFault (S.faults source.old) (S.faults source.new) result }
+    ensures asks { AsksInTime (S.asked source.old) (S.asked source.new) }
     ensures unwritten { IfErr result (λ halt. halt ≢ halts.WriteFault) }
 {
     let mut bytes = Vec::new(alloc);
@@ -32,11 +33,12 @@ pub fn read_up_to<S: Source>(alloc: Global, source: &mut S, most: usize) -> Resu
 }
 
 /// Reads on until the input has ended.
-#[tactic(auto, using(crate::proofs::EdgeLaws::all_read, crate::proofs::EdgeLaws::takes_on))]
+#[tactic(auto, using(crate::proofs::EdgeLaws::all_read, crate::proofs::EdgeLaws::takes_on, crate::proofs::AskLaws::asks_nothing, crate::proofs::AskLaws::asks_more, crate::proofs::AskLaws::asks_last, crate::proofs::AskLaws::asks_so_far))]
 pub fn read_all<S: Source>(alloc: Global, source: &mut S) -> Result<Vec<u8>, Halt>
     ensures all { IfOk result (λ bytes. IsAll (S.left source.old) bytes.items) }
     ensures drained { IfOk result (λ _. IsDrained (S.left source.old) (S.left source.new)) }
     ensures faults { Counts halts.ReadFault (S.faults source.old) (S.faults source.new) result }
+    ensures asks { AsksInTime (S.asked source.old) (S.asked source.new) }
     ensures unwritten { IfErr result (λ halt. halt ≢ halts.WriteFault) }
 {
     let mut bytes = Vec::new(alloc);

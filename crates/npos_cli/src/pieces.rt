@@ -1,7 +1,7 @@
 //! An input that is read by pieces.
 ghost use Rattle.std.specs.Prelude.{◌≡◌, ◌≢◌, ◌+◌, ◌<◌, ◌≤◌, ◌^◌, false, length, vec_len, IfOk, IfErr};
 ghost use Rattle.npos_cli.specs.declared.halt.Halt.TheVariants as halts;
-ghost use Rattle.npos_cli.specs.Owed.{Counts, TakesMore, TakesAtMost};
+ghost use Rattle.npos_cli.specs.Owed.{Counts, TakesMore, TakesAtMost, AsksOnce};
 ghost use Rattle.npos_cli.specs.Ahead.{FeedsMore};
 
 use crate::halt::Halt;
@@ -21,7 +21,7 @@ pub fn blank_piece(alloc: Global, size: usize) -> Result<Vec<u8>, NoMemory>
 }
 
 /// Appends what one read gives, and answers whether the input has ended.
-#[tactic(auto, using(crate::proofs::EdgeLaws::takes_some, crate::proofs::EdgeLaws::takes_no_more))]
+#[tactic(auto, using(crate::proofs::EdgeLaws::takes_some, crate::proofs::EdgeLaws::takes_no_more, crate::proofs::AskLaws::asks_gave, crate::proofs::AskLaws::asks_lost, crate::proofs::AskLaws::asks_failed))]
 pub fn read_more<S: Source>(
     source: &mut S,
     piece: &mut [u8],
@@ -35,6 +35,7 @@ pub fn read_more<S: Source>(
     ensures within { vec_len bytes.new ≤ vec_len bytes.old + length piece.old }
     ensures few { TakesAtMost (length piece.old) (S.left source.old) (S.left source.new) }
     ensures faults { Counts halts.ReadFault (S.faults source.old) (S.faults source.new) result }
+    ensures asks { AsksOnce (S.asked source.old) (S.asked source.new) result }
     ensures unwritten { IfErr result (λ halt. halt ≢ halts.WriteFault) }
 {
     let count = match source.read(piece) {
@@ -48,7 +49,7 @@ pub fn read_more<S: Source>(
 }
 
 /// Reads once and feeds what came to the reader, and answers whether the input has ended.
-#[tactic(auto, using(crate::proofs::FeedLaws::feeds_nothing, crate::proofs::FeedLaws::feeds_none, crate::proofs::FeedLaws::feeds_some, crate::proofs::FeedLaws::feeds_lost))]
+#[tactic(auto, using(crate::proofs::FeedLaws::feeds_nothing, crate::proofs::FeedLaws::feeds_none, crate::proofs::FeedLaws::feeds_some, crate::proofs::FeedLaws::feeds_lost, crate::proofs::AskLaws::asks_gave, crate::proofs::AskLaws::asks_lost, crate::proofs::AskLaws::asks_failed, crate::proofs::FeedLaws::gave_piece, crate::proofs::FeedLaws::gave_none, crate::proofs::EdgeLaws::takes_no_more))]
 pub fn read_piece<S: Source>(
     source: &mut S,
     piece: &mut [u8],
@@ -61,6 +62,9 @@ pub fn read_piece<S: Source>(
     ensures further { IfOk result (λ ended. ended ≡ false
         → length reader.old.rest < length reader.new.rest) }
     ensures faults { Counts halts.ReadFault (S.faults source.old) (S.faults source.new) result }
+    ensures asks { AsksOnce (S.asked source.old) (S.asked source.new) result }
+    ensures few { TakesAtMost (S.asked source.new).last (S.left source.old) (S.left source.new) }
+    ensures one_piece { (S.asked source.new).last ≤ 65536 }
 {
     let Ok(count) = source.read(piece) else {
         return Err(Halt::ReadFault);

@@ -3,7 +3,7 @@ ghost use Rattle.std.specs.Prelude.{◌≡◌, ◌≢◌, ◌+◌, ◌^◌, ◌<
 ghost use Rattle.npos_cli.specs.declared.job.Job.TheVariants as jobs;
 ghost use Rattle.npos_cli.specs.declared.halt.Halt.TheVariants as halts;
 ghost use Rattle.npos_cli.specs.declared.going.Turn.TheVariants as turns;
-ghost use Rattle.npos_cli.specs.Owed.{FindsFor, IsDrained, Counts};
+ghost use Rattle.npos_cli.specs.Owed.{FindsFor, IsDrained, Counts, AsksInTime, Settles};
 ghost use Rattle.npos_cli.specs.Ran.{Ran, traffic};
 ghost use Rattle.npos_cli.specs.Report.{JobOwes};
 ghost use Rattle.npos_cli.specs.Status.{status_of};
@@ -127,6 +127,7 @@ fn answer_left<S: Source>(alloc: Global, source: &mut S) -> Result<Answer, Halt>
         answer.text.items (status_of answer.ending)) }
     ensures drained { IfOk result (λ _. IsDrained (S.left source.old) (S.left source.new)) }
     ensures faults { Counts halts.ReadFault (S.faults source.old) (S.faults source.new) result }
+    ensures asks { AsksInTime (S.asked source.old) (S.asked source.new) }
     ensures unwritten { IfErr result (λ halt. halt ≢ halts.WriteFault) }
 {
     let bytes = read_all(alloc, source)?;
@@ -143,6 +144,8 @@ pub fn pools<S: Source, K: Sink>(
     ensures ran { Ran (Some jobs.Pools) (traffic S.left K.told S.faults K.faults
         source.old source.new sink.old sink.new) result }
     ensures unwritten { IfErr result (λ halt. halt ≢ halts.WriteFault → sink.new ≡ sink.old) }
+    ensures asks { AsksInTime (S.asked source.old) (S.asked source.new) }
+    ensures settles { Settles (K.tried sink.old) (K.tried sink.new) result }
 {
     let answer = answer_left(alloc, source)?;
     deliver(sink, answer.text.as_slice(), status_of(answer.ending))

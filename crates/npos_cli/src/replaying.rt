@@ -1,16 +1,16 @@
 //! The replay of a stream: a genesis, and then a turn for each block until one is the last. It
 //! reads piece by piece, and writes what is told of each block before it reads again.
-ghost use Rattle.std.specs.Prelude.{◌≡◌, ◌≢◌, ◌+◌, ◌<◌, ◌≤◌, ℕ, List, Some, Ok, [], ◌∷◌, true, false, length, IfOk, IfErr, IsTrue, ◌↔◌};
+ghost use Rattle.std.specs.Prelude.{◌≡◌, ◌≢◌, ◌+◌, ◌<◌, ◌≤◌, ℕ, List, Some, Ok, [], ◌∷◌, true, false, length, IfOk, IfErr, OnOk, IsTrue, ◌↔◌};
 ghost use Rattle.npos_runtime.specs.Savable.{IsSavable};
-ghost use Rattle.npos_base.specs.Outside.{Appends};
+ghost use Rattle.npos_base.specs.Outside.{Appends, StopsTrying};
 ghost use Rattle.npos_cli.specs.declared.halt.Halt.TheVariants as halts;
 ghost use Rattle.npos_cli.specs.declared.replaying.Stop.TheVariants as stops;
 ghost use Rattle.npos_cli.specs.declared.output.Output.TheVariants as outputs;
 ghost use Rattle.npos_cli.specs.Outputs.{end_text, machine_of};
-ghost use Rattle.npos_cli.specs.Ahead.{Begins, first_place};
-ghost use Rattle.npos_cli.specs.Owed.{Counts};
+ghost use Rattle.npos_cli.specs.Ahead.{Begins, AwaitsMore, first_place};
+ghost use Rattle.npos_cli.specs.Owed.{Counts, AsksInTime, AsksOn, Settles};
 ghost use Rattle.npos_cli.specs.Report.{replay_status};
-ghost use Rattle.npos_cli.specs.Streaming.{Runs, RunsOn, ReplayEnds};
+ghost use Rattle.npos_cli.specs.Streaming.{Runs, RunsOn, ReplayEnds, ReadsWhile, ReadsOnWhile};
 ghost use Rattle.npos_cli.specs.Turning.{spot, IsNear, IsGoing, TakesTurn, WritesOn, StopsHere};
 
 use crate::Status;
@@ -42,13 +42,6 @@ enum Turn {
     Stopped(Stop),
 }
 
-/// Whether the bytes are a None alone. Whether a byte follows it is then not known.
-fn is_lone_none(bytes: &[u8]) -> bool
-    ensures { IsTrue result ↔ (bytes.now ≡ 0 ∷ []) }
-{
-    bytes.len() == 1 && bytes[0] == 0
-}
-
 /// Ends the replay behind the None: with what is told of the chain, or because a byte follows.
 fn tell_stop(
     alloc: Global,
@@ -61,7 +54,7 @@ fn tell_stop(
     ensures { IfOk result (StopsHere reader.now
         (end_text output runtime.now.state) text.old.items text.new.items) }
 {
-    if !reader.held().is_empty() {
+    if reader.len() > 0 {
         tell_fault(text, reader.at(), Why::Trailing)?;
         return Ok(Stop::Last { faulty: true });
     }
@@ -85,7 +78,7 @@ fn take_turn(
         (spot reader.new runtime.new.state) text.old.items text.new.items) }
     ensures unspent { IfOk result (λ turn. IsGoing turn → runtime.new.spent ≡ false) }
 {
-    if !ended && is_lone_none(reader.held()) {
+    if !ended && reader.is_lone_none() {
         return Ok(Turn::Stopped(Stop::More));
     }
     let (at, block) = match reader.take_block(ended) {
@@ -115,6 +108,7 @@ fn take_turn(
 
 /// Takes turns and writes what is told of each block, until bytes are missing or the replay ends
 /// with the line that is then the text.
+#[tactic(auto, using(crate::proofs::AskLaws::tries_nothing, crate::proofs::AskLaws::tries_last, crate::proofs::AskLaws::tries_so_far))]
 fn take_turns<K: Sink>(
     alloc: Global,
     output: Output,
@@ -131,6 +125,7 @@ fn take_turns<K: Sink>(
         text.new.items result }
     ensures unspent { IfOk result (λ stop. stop ≡ stops.More → runtime.new.spent ≡ false) }
     ensures faults { Counts halts.WriteFault (K.faults sink.old) (K.faults sink.new) result }
+    ensures stops { StopsTrying (K.tried sink.old) (K.tried sink.new) result }
     ensures quiet { output ≡ outputs.Checkpoint → sink.new ≡ sink.old }
 {
     // a law, which does nothing
@@ -146,6 +141,7 @@ fn take_turns<K: Sink>(
 
 /// Takes what is read until the replay ends, with a fault line or not. All but that line is then
 /// written.
+#[tactic(auto, using(crate::proofs::AskLaws::asks_nothing, crate::proofs::AskLaws::tries_nothing, crate::proofs::AskLaws::tries_last, crate::proofs::AskLaws::tries_so_far))]
 fn take_all<S: Source, K: Sink>(
     alloc: Global,
     output: Output,
@@ -163,8 +159,13 @@ fn take_all<S: Source, K: Sink>(
     requires near { IsNear (spot reader.old runtime.old.state) }
     ensures runs { RunsOn (machine_of output) (S.left source.old) (S.left source.new) (K.told sink.old)
         (K.told sink.new) (spot reader.old runtime.old.state) text.new.items result }
+    ensures wary { ReadsOnWhile (machine_of output) (S.left source.old) (S.left source.new)
+        (S.asked source.old).last (S.asked source.new).last (K.told sink.old)
+        (spot reader.old runtime.old.state) }
     ensures reads { Counts halts.ReadFault (S.faults source.old) (S.faults source.new) result }
     ensures writes { Counts halts.WriteFault (K.faults sink.old) (K.faults sink.new) result }
+    ensures asks { AsksInTime (S.asked source.old) (S.asked source.new) }
+    ensures stops { StopsTrying (K.tried sink.old) (K.tried sink.new) result }
     ensures quiet { output ≡ outputs.Checkpoint → sink.new ≡ sink.old }
 {
     // a law, which does nothing
@@ -179,6 +180,7 @@ fn take_all<S: Source, K: Sink>(
 }
 
 /// Reads the genesis, piece by piece.
+#[tactic(auto, using(crate::proofs::AskLaws::asks_nothing, crate::proofs::CourseLaws::awaits_first, crate::proofs::CourseLaws::awaits_none))]
 fn take_genesis<S: Source>(
     source: &mut S,
     reader: &mut StreamReader,
@@ -188,7 +190,11 @@ fn take_genesis<S: Source>(
     requires some { 0 < length piece.old }
     requires one_piece { length piece.old ≤ 65536 }
     ensures begins { Begins (S.left source.old) (S.left source.new) reader.new result }
+    ensures wary { AwaitsMore (S.left source.old) (S.left source.new) (S.asked source.new).last }
     ensures faults { Counts halts.ReadFault (S.faults source.old) (S.faults source.new) result }
+    ensures asks { AsksInTime (S.asked source.old) (S.asked source.new) }
+    ensures asks_on { IfOk result
+        (λ read. OnOk read (AsksOn (S.asked source.old) (S.asked source.new))) }
 {
     let mut ended = false;
     'pieces: loop {
@@ -203,6 +209,7 @@ fn take_genesis<S: Source>(
 
 /// Replays what is left in the source, and writes all but the last line, which is then the text.
 /// Answers whether that is a fault line.
+#[tactic(auto, using(crate::proofs::AskLaws::asks_last, crate::proofs::AskLaws::asks_so_far, crate::proofs::AskLaws::stops_nothing, crate::proofs::CourseLaws::awaits_wary))]
 fn tell_replay<S: Source, K: Sink>(
     alloc: Global,
     output: Output,
@@ -213,8 +220,12 @@ fn tell_replay<S: Source, K: Sink>(
     requires empty { text.old.items ≡ [] }
     ensures runs { Runs (machine_of output) (S.left source.old) (S.left source.new)
         (K.told sink.old) (K.told sink.new) text.new.items result }
+    ensures wary { ReadsWhile (machine_of output) (S.left source.old) (S.left source.new)
+        (S.asked source.new).last }
     ensures reads { Counts halts.ReadFault (S.faults source.old) (S.faults source.new) result }
     ensures writes { Counts halts.WriteFault (K.faults sink.old) (K.faults sink.new) result }
+    ensures asks { AsksInTime (S.asked source.old) (S.asked source.new) }
+    ensures stops { StopsTrying (K.tried sink.old) (K.tried sink.new) result }
     ensures quiet { output ≡ outputs.Checkpoint → sink.new ≡ sink.old }
 {
     // a law, which does nothing
@@ -259,6 +270,7 @@ fn replay_status(faulty: bool) -> Status
 }
 
 /// Replays what is left in the source, writes what it tells to the sink and flushes that once.
+#[tactic(auto, using(crate::proofs::AskLaws::settles_nothing, crate::proofs::AskLaws::settles_behind, crate::proofs::AskLaws::settles_cut))]
 pub fn replay<S: Source, K: Sink>(
     alloc: Global,
     output: Output,
@@ -267,8 +279,12 @@ pub fn replay<S: Source, K: Sink>(
 ) -> Result<Status, Halt>
     ensures ends { ReplayEnds (machine_of output) (S.left source.old) (S.left source.new)
         (K.told sink.old) (K.told sink.new) result }
+    ensures wary { ReadsWhile (machine_of output) (S.left source.old) (S.left source.new)
+        (S.asked source.new).last }
     ensures reads { Counts halts.ReadFault (S.faults source.old) (S.faults source.new) result }
     ensures writes { Counts halts.WriteFault (K.faults sink.old) (K.faults sink.new) result }
+    ensures asks { AsksInTime (S.asked source.old) (S.asked source.new) }
+    ensures settles { Settles (K.tried sink.old) (K.tried sink.new) result }
     ensures quiet { output ≡ outputs.Checkpoint
         → IfErr result (λ halt. halt ≢ halts.WriteFault → sink.new ≡ sink.old) }
 {

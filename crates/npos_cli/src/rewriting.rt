@@ -2,7 +2,7 @@
 ghost use Rattle.std.specs.Prelude.{◌≡◌, ◌≢◌, ◌+◌, Some, IfOk, IfErr};
 ghost use Rattle.npos_cli.specs.declared.job.Job.TheVariants as jobs;
 ghost use Rattle.npos_cli.specs.declared.halt.Halt.TheVariants as halts;
-ghost use Rattle.npos_cli.specs.Owed.{FindsFor, IsDrained, TakesAtMost, Counts};
+ghost use Rattle.npos_cli.specs.Owed.{FindsFor, IsDrained, TakesAtMost, Counts, AsksInTime, Settles};
 ghost use Rattle.npos_cli.specs.Ran.{Ran, traffic};
 ghost use Rattle.npos_cli.specs.Status.{status_of};
 ghost use Rattle.npos_cli.specs.Report.{IsJudged};
@@ -26,6 +26,7 @@ fn rewrite_answer<S: Source>(alloc: Global, source: &mut S, way: Rewriting) -> R
         → IsDrained (S.left source.old) (S.left source.new)) }
     ensures few { TakesAtMost 16777217 (S.left source.old) (S.left source.new) }
     ensures faults { Counts halts.ReadFault (S.faults source.old) (S.faults source.new) result }
+    ensures asks { AsksInTime (S.asked source.old) (S.asked source.new) }
     ensures unwritten { IfErr result (λ halt. halt ≢ halts.WriteFault) }
 {
     let bytes = read_up_to(alloc, source, MOST_BUNDLE)?;
@@ -43,6 +44,8 @@ pub fn rewrite<S: Source, K: Sink>(
     ensures ran { Ran (Some (jobs.Rewrite way)) (traffic S.left K.told S.faults K.faults
         source.old source.new sink.old sink.new) result }
     ensures unwritten { IfErr result (λ halt. halt ≢ halts.WriteFault → sink.new ≡ sink.old) }
+    ensures asks { AsksInTime (S.asked source.old) (S.asked source.new) }
+    ensures settles { Settles (K.tried sink.old) (K.tried sink.new) result }
 {
     let answer = rewrite_answer(alloc, source, way)?;
     deliver(sink, answer.text.as_slice(), status_of(answer.ending))

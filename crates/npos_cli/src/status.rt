@@ -1,6 +1,6 @@
 //! How a run ends.
 ghost use Rattle.std.specs.Prelude.{◌≡◌};
-ghost use Rattle.npos_cli.specs.Status.{number_of, status_of};
+ghost use Rattle.npos_cli.specs.Status.{status_number, status_of};
 ghost use Rattle.npos_cli.specs.declared.status.Status.TheVariants as statuses;
 
 use bundle_reports::Ending;
@@ -28,7 +28,7 @@ pub enum Status {
 impl Status {
     /// The number of the status, 0 to 6.
     pub fn number(&self) -> u8
-        ensures { result ≡ number_of self.now }
+        ensures { result ≡ status_number self.now }
     {
         match self {
             Status::Done => 0,

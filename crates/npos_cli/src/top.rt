@@ -1,5 +1,5 @@
 //! The top call.
-ghost use Rattle.std.specs.Prelude.{◌≡◌, ◌≢◌, ◌⊎◌, ◌<◌, false, None, Some, Err, map, IfOk, IfErr, IfSome, string_bytes};
+ghost use Rattle.std.specs.Prelude.{◌≡◌, ◌≢◌, ◌⊎◌, ◌<◌, true, false, None, Some, Err, map, IfOk, IfErr, IfSome, string_bytes};
 ghost use Rattle.npos_base.specs.Outside.{Rose};
 ghost use Rattle.npos_cli.specs.declared.job.Job.TheVariants as jobs;
 ghost use Rattle.bundle_reports.specs.declared.asked.Task.{Task as task_kind};
@@ -22,7 +22,7 @@ ghost use Rattle.npos_cli.specs.Streams.{LeavesStream};
 ghost use Rattle.bundle_reports.specs.Tasks.{IsSound};
 ghost use Rattle.npos_cli.specs.declared.status.Status.TheVariants as statuses;
 ghost use Rattle.npos_cli.specs.declared.halt.Halt.TheVariants as halts;
-ghost use Rattle.npos_cli.specs.Owed.{FindsFor, Answers, BeginsToAnswer, IsDrained, TakesAtMost, Counts, KeepsFlushed};
+ghost use Rattle.npos_cli.specs.Owed.{FindsFor, Answers, BeginsToAnswer, IsDrained, TakesAtMost, Counts, KeepsFlushed, AsksInTime, TriesInTime, Settles};
 ghost use Rattle.npos_cli.specs.Streaming.{HaltedReading, HaltedWriting, HaltedStarving, ReadsWhile};
 ghost use Rattle.bundle_reports.specs.Demo.{demo_report};
 ghost use Rattle.npos_cli.specs.Ran.{Ran, traffic, DemoEnds};
@@ -69,6 +69,7 @@ fn bundle_answer<S: Source>(alloc: Global, source: &mut S, task: Task) -> Result
     ensures passes { task ≡ tasks.Mine miners.Fill
         → IfOk result (λ answer. status_of answer.ending ≢ statuses.No) }
     ensures faults { Counts halts.ReadFault (S.faults source.old) (S.faults source.new) result }
+    ensures asks { AsksInTime (S.asked source.old) (S.asked source.new) }
     ensures unwritten { IfErr result (λ halt. halt ≢ halts.WriteFault) }
 {
     let bytes = read_up_to(alloc, source, MOST_BUNDLE)?;
@@ -87,6 +88,8 @@ fn report<S: Source, K: Sink>(
     ensures ran { Ran (Some (jobs.OnBundle task)) (traffic S.left K.told S.faults K.faults
         source.old source.new sink.old sink.new) result }
     ensures unwritten { IfErr result (λ halt. halt ≢ halts.WriteFault → sink.new ≡ sink.old) }
+    ensures asks { AsksInTime (S.asked source.old) (S.asked source.new) }
+    ensures settles { Settles (K.tried sink.old) (K.tried sink.new) result }
 {
     let answer = bundle_answer(alloc, source, task)?;
     deliver(sink, answer.text.as_slice(), status_of(answer.ending))
@@ -105,6 +108,7 @@ fn demo<K: Sink>(
         (K.told sink.new) result }
     ensures faults { Counts halts.WriteFault (K.faults sink.old) (K.faults sink.new) result }
     ensures unwritten { IfErr result (λ halt. halt ≢ halts.WriteFault → sink.new ≡ sink.old) }
+    ensures settles { Settles (K.tried sink.old) (K.tried sink.new) result }
 {
     let text = demo_text(alloc, seed, voters, seats)?;
     deliver(sink, text.as_slice(), Status::Done)
@@ -123,6 +127,12 @@ fn run_job<S: Source, K: Sink>(
     ensures unread { (ReadsInput job → ⊥) → source.new ≡ source.old }
     ensures unwritten { (job ≡ Some jobs.Replay → ⊥)
         → IfErr result (λ halt. halt ≢ halts.WriteFault → sink.new ≡ sink.old) }
+    ensures wary { job ≡ Some jobs.Replay → ReadsWhile npos_machine (S.left source.old)
+        (S.left source.new) (S.asked source.new).last }
+    ensures wary_checkpoint { job ≡ Some jobs.Checkpoint → ReadsWhile checkpoint_machine
+        (S.left source.old) (S.left source.new) (S.asked source.new).last }
+    ensures asks { AsksInTime (S.asked source.old) (S.asked source.new) }
+    ensures settles { Settles (K.tried sink.old) (K.tried sink.new) result }
     ensures usage_memory { job ≡ None → result ≢ Err halts.NoMemory }
 {
     match job {
@@ -157,6 +167,14 @@ fn run_words<S: Source, K: Sink>(
         → source.new ≡ source.old }
     ensures unwritten { (job_of (map string_bytes words.now) ≡ Some jobs.Replay → ⊥)
         → IfErr result (λ halt. halt ≢ halts.WriteFault → sink.new ≡ sink.old) }
+    ensures wary { job_of (map string_bytes words.now) ≡ Some jobs.Replay
+        → ReadsWhile npos_machine (S.left source.old) (S.left source.new)
+        (S.asked source.new).last }
+    ensures wary_checkpoint { job_of (map string_bytes words.now) ≡ Some jobs.Checkpoint
+        → ReadsWhile checkpoint_machine (S.left source.old) (S.left source.new)
+        (S.asked source.new).last }
+    ensures asks { AsksInTime (S.asked source.old) (S.asked source.new) }
+    ensures settles { Settles (K.tried sink.old) (K.tried sink.new) result }
     ensures usage_memory { has_verb (map string_bytes words.now) ≡ false
         → result ≢ Err halts.NoMemory }
 {
@@ -187,6 +205,13 @@ pub fn run<S: Source, K: Sink>(
         → Rose (K.faults sink.old) (K.faults sink.new) }
     ensures write_fault_comes { K.faults sink.old < K.faults sink.new
         → result ≡ Status.WriteFault }
+    ensures no_read_fault { result ≢ Status.ReadFault
+        → S.faults source.new ≡ S.faults source.old }
+    ensures no_write_fault { result ≢ Status.WriteFault
+        → K.faults sink.new ≡ K.faults sink.old }
+    ensures asks_in_time { AsksInTime (S.asked source.old) (S.asked source.new) }
+    ensures tries_in_time { TriesInTime (K.tried sink.old) (K.tried sink.new) }
+    ensures flushed_last { IsAnswer result → (K.tried sink.new).flushed ≡ true }
     ensures unwritten { (job_of (map string_bytes words.now) ≡ Some jobs.Replay → ⊥)
         → (result ≡ Status.ReadFault) ⊎ (result ≡ Status.NoMemory) → sink.new ≡ sink.old }
     ensures unflushed { (IsAnswer result → ⊥)
@@ -221,9 +246,11 @@ pub fn run<S: Source, K: Sink>(
         → (Rose (K.faults sink.old) (K.faults sink.new) → ⊥)
         → (result ≡ Status.Done) ⊎ (result ≡ Status.NoMemory) }
     ensures wary { job_of (map string_bytes words.now) ≡ Some jobs.Replay
-        → ReadsWhile npos_machine (S.left source.old) (S.left source.new) }
+        → ReadsWhile npos_machine (S.left source.old) (S.left source.new)
+        (S.asked source.new).last }
     ensures wary_checkpoint { job_of (map string_bytes words.now) ≡ Some jobs.Checkpoint
-        → ReadsWhile checkpoint_machine (S.left source.old) (S.left source.new) }
+        → ReadsWhile checkpoint_machine (S.left source.old) (S.left source.new)
+        (S.asked source.new).last }
     ensures usage_memory { has_verb (map string_bytes words.now) ≡ false
         → result ≢ Status.NoMemory }
     ensures unread { (ReadsInput (job_of (map string_bytes words.now)) → ⊥)

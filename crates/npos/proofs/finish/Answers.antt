@@ -1,20 +1,26 @@
 use Rattle.std.proofs.Common.{◌≡◌, Ok, map, string_bytes, rules}
 use Rattle.std.specs.Process.{exit_status}
-use Rattle.npos_cli.specs.Status.{number_of}
-use Rattle.npos_cli.specs.Ran.{Traffic, traffic}
+use Rattle.npos_cli.specs.Status.{status_number}
+use Rattle.npos_cli.specs.Ran.{Traffic, traffic, Calls, calls}
 use Rattle.npos_cli.specs.Says.{Says}
 use Rattle.npos.proofs.finish.Goals as goal
 
 pub returns-in-Ok-clause-says : goal.returns-in-Ok-clause-says
 returns-in-Ok-clause-says g c =
     let t : Traffic = traffic g.S.Source.left g.K.Sink.told g.S.Source.faults g.K.Sink.faults c.args.source.now c.run.new.source c.args.sink.now c.run.new.sink in
-    let says : Says (map string_bytes c.as_slice.result.now) t (c.run.new.source ≡ c.args.source.now) (c.run.new.sink ≡ c.args.sink.now) c.run.result = record {
+    let called : Calls = calls g.S.Source.asked g.K.Sink.tried c.args.source.now c.run.new.source c.args.sink.now c.run.new.sink in
+    let says : Says (map string_bytes c.as_slice.result.now) t called (c.run.new.source ≡ c.args.source.now) (c.run.new.sink ≡ c.args.sink.now) c.run.result = record {
       answers = c.run.ensures.answers;
       front = c.run.ensures.front;
       read_fault = c.run.ensures.read_fault;
       read_fault_comes = c.run.ensures.read_fault_comes;
       write_fault = c.run.ensures.write_fault;
       write_fault_comes = c.run.ensures.write_fault_comes;
+      no_read_fault = c.run.ensures.no_read_fault;
+      no_write_fault = c.run.ensures.no_write_fault;
+      asks_in_time = c.run.ensures.asks_in_time;
+      tries_in_time = c.run.ensures.tries_in_time;
+      flushed_last = c.run.ensures.flushed_last;
       unwritten = c.run.ensures.unwritten;
       unflushed = c.run.ensures.unflushed;
       halted_reading = c.run.ensures.halted_reading;
@@ -46,6 +52,6 @@ returns-in-Ok-clause-says g c =
       passes = c.run.ensures.passes;
     } in
     let words : c.args.words ≡ Ok c.in-Ok.words = search rules in
-    let ends : exit_status c.from.result ≡ number_of c.run.result = search rules in
-    let same : Says (map string_bytes c.in-Ok.words.items) t (c.run.new.source ≡ c.args.source.now) (c.run.new.sink ≡ c.args.sink.now) c.run.result = rw c.as_slice.ensures.value at says in
+    let ends : exit_status c.from.result ≡ status_number c.run.result = search rules in
+    let same : Says (map string_bytes c.in-Ok.words.items) t called (c.run.new.source ≡ c.args.source.now) (c.run.new.sink ≡ c.args.sink.now) c.run.result = rw c.as_slice.ensures.value at says in
     rw words (c.run.result, ends, same)

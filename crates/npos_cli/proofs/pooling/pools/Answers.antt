@@ -12,7 +12,7 @@ pub returns-in_err-answer-clause-ran : goal.returns-in_err-answer-clause-ran
 returns-in_err-answer-clause-ran g c =
     let p = err_from_is_err_and c.from_residual.result c.from_residual.ensures.1 in
     rw (p.1, p.2) (unwritten_ran (Some jobs.Pools) (traffic g.S.Source.left g.K.Sink.told g.S.Source.faults g.K.Sink.faults c.args.source.now c.answer_left.new.source c.args.sink.now c.args.sink.now)
-    (record { other = λ e. cc; silent = λ e. cc; few = λ reads. absurd reads }) c.in_err-answer.field-0.0 refl refl (λ e. tt) c.in_err-answer.ensures.faults c.in_err-answer.ensures.unwritten)
+    (record { other = λ e. cc; few = λ reads. absurd reads }) c.in_err-answer.field-0.0 refl refl (λ e. tt) c.in_err-answer.ensures.faults c.in_err-answer.ensures.unwritten)
 
 -- what is owed was delivered, or a front of it
 pub returns-clause-ran : goal.returns-clause-ran
@@ -21,7 +21,7 @@ returns-clause-ran g c =
     let ends : Ends answer.text.items (status_of answer.ending) (g.K.Sink.told c.args.sink.now) (g.K.Sink.told c.deliver.new.sink) c.deliver.result =
     rw (c.as_slice.ensures.value, c.status_of.ensures) at c.deliver.ensures.ends in
     ended_ran (Some jobs.Pools) (traffic g.S.Source.left g.K.Sink.told g.S.Source.faults g.K.Sink.faults c.args.source.now c.answer_left.new.source c.args.sink.now c.deliver.new.sink)
-    (record { other = λ e. cc; silent = λ e. cc; few = λ reads. absurd reads }) answer.text.items (status_of answer.ending) c.deliver.result c.in_ok-answer.ensures.due ends c.in_ok-answer.ensures.faults
+    (record { other = λ e. cc; few = λ reads. absurd reads }) answer.text.items (status_of answer.ending) c.deliver.result c.in_ok-answer.ensures.due ends c.in_ok-answer.ensures.faults
     c.deliver.ensures.faults (λ judged _. c.in_ok-answer.ensures.drained)
     (λ task e. cc)
     (λ e. cc)

@@ -7,7 +7,8 @@ use Rattle.npos_cli.specs.Turning.{spot, WritesOn}
 use Rattle.npos_cli.proofs.TurnLaws.{ends_alike, nearer_end}
 use Rattle.npos_cli.proofs.NearLaws.{reaches_near, cut_room}
 use Rattle.npos_cli.proofs.SavableLaws.{savable_reaches}
-use Rattle.npos_cli.proofs.CourseLaws.{course_on, course_last, course_cut, course_unread}
+use Rattle.npos_cli.proofs.AskLaws.{asks_last, asks_more, tries_more}
+use Rattle.npos_cli.proofs.CourseLaws.{course_on, course_last, course_cut, course_unread, wary_on}
 use Rattle.npos_cli.proofs.replaying.take_all.Goals as goal
 
 pub returns-in_err-faulty-clause-runs : goal.returns-in_err-faulty-clause-runs
@@ -32,6 +33,20 @@ returns-in_err-ended-in-More-clause-runs g c =
     rw (p.1, p.2) (λ left old course. course_unread c.args.output left (g.S.Source.left c.pieces.source) old (g.K.Sink.told c.pieces.sink) c.pieces.ended (spot c.pieces.reader c.pieces.runtime.state)
     (spot c.take_turns.new.reader c.take_turns.new.runtime.state) (g.K.Sink.told c.take_turns.new.sink) c.take_turns.new.text.items (c.pieces.invariant.course left old course)
     (g.S.Source.left c.read_piece.new.source) c.take_turns.new.reader c.read_piece.new.reader c.in_err-ended-in-More.field-0.0 writes c.in_err-ended-in-More.ensures.feeds)
+
+pub returns-in_err-ended-in-More-clause-wary : goal.returns-in_err-ended-in-More-clause-wary
+returns-in_err-ended-in-More-clause-wary g c =
+    let writes : WritesOn (machine_of c.args.output) c.pieces.ended (spot c.pieces.reader c.pieces.runtime.state) (spot c.take_turns.new.reader c.take_turns.new.runtime.state) (g.K.Sink.told c.pieces.sink) (g.K.Sink.told c.take_turns.new.sink)
+    c.take_turns.new.text.items (Ok More) = search rules in
+    λ left old course few. wary_on c.args.output left (g.S.Source.left c.pieces.source) old (g.K.Sink.told c.pieces.sink) c.pieces.ended (spot c.pieces.reader c.pieces.runtime.state)
+    (spot c.take_turns.new.reader c.take_turns.new.runtime.state) (g.K.Sink.told c.take_turns.new.sink) c.take_turns.new.text.items (c.pieces.invariant.course left old course)
+    (g.S.Source.left c.read_piece.new.source) (g.S.Source.asked c.read_piece.new.source).last writes c.in_err-ended-in-More.ensures.few c.in_err-ended-in-More.ensures.one_piece
+
+pub returns-in_err-ended-in-More-clause-asks : goal.returns-in_err-ended-in-More-clause-asks
+returns-in_err-ended-in-More-clause-asks g c =
+    let writes : WritesOn (machine_of c.args.output) c.pieces.ended (spot c.pieces.reader c.pieces.runtime.state) (spot c.take_turns.new.reader c.take_turns.new.runtime.state) (g.K.Sink.told c.pieces.sink) (g.K.Sink.told c.take_turns.new.sink)
+    c.take_turns.new.text.items (Ok More) = search rules in
+    asks_last (g.S.Source.asked c.args.source.now) (g.S.Source.asked c.pieces.source) (g.S.Source.asked c.read_piece.new.source) (c.pieces.invariant.asks_on writes.0) c.in_err-ended-in-More.ensures.asks.in_time
 
 pub read_piece-requires-clause-room : goal.read_piece-requires-clause-room
 read_piece-requires-clause-room g c =
@@ -69,6 +84,14 @@ pieces-preserved g c =
           (near.0, omega (arith, near.1, ap (λ (p : Place). p.at) c.in_ok-ended-in-More.ensures.feeds.3.0));
       reads = c.in_ok-ended-in-More.ensures.faults ∙ c.pieces.invariant.reads;
       writes = c.in_ok-faulty.ensures.faults ∙ c.pieces.invariant.writes;
+      asks = asks_last (g.S.Source.asked c.args.source.now) (g.S.Source.asked c.pieces.source) (g.S.Source.asked c.read_piece.new.source) (c.pieces.invariant.asks_on writes.0)
+          c.in_ok-ended-in-More.ensures.asks.in_time;
+      asks_on = λ going. asks_more (g.S.Source.asked c.args.source.now) (g.S.Source.asked c.pieces.source) (g.S.Source.asked c.read_piece.new.source) (c.pieces.invariant.asks_on writes.0)
+          (c.in_ok-ended-in-More.ensures.asks.goes_on going);
+      tries = tries_more (g.K.Sink.tried c.args.sink.now) (g.K.Sink.tried c.pieces.sink) (g.K.Sink.tried c.take_turns.new.sink) _ c.pieces.invariant.tries c.in_ok-faulty.ensures.stops;
+      wary = (λ left old course few. wary_on c.args.output left (g.S.Source.left c.pieces.source) old (g.K.Sink.told c.pieces.sink) c.pieces.ended (spot c.pieces.reader c.pieces.runtime.state)
+          (spot c.take_turns.new.reader c.take_turns.new.runtime.state) (g.K.Sink.told c.take_turns.new.sink) c.take_turns.new.text.items (c.pieces.invariant.course left old course)
+          (g.S.Source.left c.read_piece.new.source) (g.S.Source.asked c.read_piece.new.source).last writes c.in_ok-ended-in-More.ensures.few c.in_ok-ended-in-More.ensures.one_piece);
       quiet = λ silent. c.in_ok-faulty.ensures.quiet silent ∙ c.pieces.invariant.quiet silent;
       course = λ left old course. course_on c.args.output left (g.S.Source.left c.pieces.source) old (g.K.Sink.told c.pieces.sink) c.pieces.ended (spot c.pieces.reader c.pieces.runtime.state)
           (spot c.take_turns.new.reader c.take_turns.new.runtime.state) (g.K.Sink.told c.take_turns.new.sink) c.take_turns.new.text.items (c.pieces.invariant.course left old course)

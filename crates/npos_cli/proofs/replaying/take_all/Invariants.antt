@@ -4,7 +4,9 @@ use Rattle.npos_runtime.specs.Savable.{IsSavable}
 use Rattle.npos_cli.specs.declared.output.Output.TheVariants.{Checkpoint}
 use Rattle.npos_cli.specs.Outputs.{machine_of}
 use Rattle.npos_cli.specs.Turning.{spot, IsNear}
-use Rattle.npos_cli.specs.Streaming.{Course}
+use Rattle.npos_cli.specs.Streaming.{Course, ReadsOnWhile}
+use Rattle.npos_cli.specs.Owed.{AsksInTime, AsksOn}
+use Rattle.npos_cli.proofs.AskLaws.{TriesOn}
 use Rattle.npos_cli.proofs.TurnLaws.{one_if_open}
 use Rattle.npos_cli.proofs.replaying.take_all.Given as goal
 
@@ -18,6 +20,11 @@ invariant-pieces g l = record {
   near : IsNear (spot l.reader l.runtime.state);
   reads : g.S.Source.faults l.source ≡ g.S.Source.faults l.fn.source;
   writes : g.K.Sink.faults l.sink ≡ g.K.Sink.faults l.fn.sink;
+  asks : AsksInTime (g.S.Source.asked l.fn.source) (g.S.Source.asked l.source);
+  asks_on : l.ended ≡ false → AsksOn (g.S.Source.asked l.fn.source) (g.S.Source.asked l.source);
+  tries : TriesOn (g.K.Sink.tried l.fn.sink) (g.K.Sink.tried l.sink);
+  wary : ReadsOnWhile (machine_of l.fn.output) (g.S.Source.left l.fn.source) (g.S.Source.left l.source) (g.S.Source.asked l.fn.source).last (g.S.Source.asked l.source).last
+      (g.K.Sink.told l.fn.sink) (spot l.fn.reader l.fn.runtime.state);
   quiet : l.fn.output ≡ Checkpoint → l.sink ≡ l.fn.sink;
   course : (left : Option (List ℕ)) (old : Option Told) → Course (machine_of l.fn.output) left (g.S.Source.left l.fn.source) old (g.K.Sink.told l.fn.sink) false (spot l.fn.reader l.fn.runtime.state)
       → Course (machine_of l.fn.output) left (g.S.Source.left l.source) old (g.K.Sink.told l.sink) l.ended (spot l.reader l.runtime.state);

@@ -1,5 +1,6 @@
-use Rattle.std.proofs.Common.{◌≡◌, ◌+◌, ◌-◌, ◌^◌, ◌<◌, ◌≤◌, false, length}
-use Rattle.npos_cli.specs.Ahead.{HasSeen, AwaitsGenesis}
+use Rattle.std.proofs.Common.{◌≡◌, ◌+◌, ◌-◌, ◌^◌, ◌<◌, ◌≤◌, true, false, length}
+use Rattle.npos_cli.specs.Ahead.{HasSeen, AwaitsGenesis, AwaitsMore, CutsGenesis}
+use Rattle.npos_cli.specs.Owed.{AsksInTime, AsksOn}
 use Rattle.npos_cli.proofs.TurnLaws.{one_if_open}
 use Rattle.npos_cli.proofs.replaying.take_genesis.Given as goal
 
@@ -12,6 +13,10 @@ invariant-pieces g l = record {
   at : l.reader.at ≡ 0;
   seen : HasSeen (g.S.Source.left l.fn.source) (g.S.Source.left l.source) l.reader.rest false l.ended;
   awaits : AwaitsGenesis l.reader.rest;
+  cut : l.ended ≡ true → CutsGenesis l.reader.rest;
+  wary : AwaitsMore (g.S.Source.left l.fn.source) (g.S.Source.left l.source) (g.S.Source.asked l.source).last;
+  asks : AsksInTime (g.S.Source.asked l.fn.source) (g.S.Source.asked l.source);
+  asks_on : l.ended ≡ false → AsksOn (g.S.Source.asked l.fn.source) (g.S.Source.asked l.source);
 }
 
 abbrev pub decreases-pieces : goal.decreases-pieces

@@ -18,7 +18,7 @@ returns-in-Ok-End-clause-turn c =
     none_turn c.args.output c.args.reader.now c.take_block.new.self (spot c.take_block.new.self c.args.runtime.now.state) c.args.runtime.now.state c.args.ended c.args.text.now.items c.tell_stop.new.text.items _ is
     (λ going alone. elim c.else-not-ended.branch [
       | else-not-ended-via-then-not-ended+else-is_lone_none w ↦
-          let yes : w.is_lone_none.result ≡ true = w.is_lone_none.ensures.1 (w.held.ensures ∙ alone) in
+          let yes : w.is_lone_none.result ≡ true = w.is_lone_none.ensures.1 alone in
           let no : w.is_lone_none.result ≡ false = w.if-is_lone_none.false in cc
       | else-not-ended-via-else-not-ended w ↦ cc
     ])

@@ -6,6 +6,7 @@ use Rattle.npos_cli.specs.Outputs.{machine_of}
 use Rattle.npos_cli.specs.Owed.{Puts}
 use Rattle.npos_cli.specs.Turning.{spot, TakesTurn}
 use Rattle.npos_cli.proofs.SavableLaws.{savable_turn, silent_turn}
+use Rattle.npos_cli.proofs.AskLaws.{tries_more}
 use Rattle.npos_cli.proofs.TurnLaws.{writ_more, writ_cut, writ_stop}
 use Rattle.npos_cli.proofs.replaying.take_turns.Goals as goal
 
@@ -18,6 +19,7 @@ turns-preserved g c =
       savable = savable_turn c.args.output c.chains_can_be_saved.ensures.step c.args.ended (spot c.turns.reader c.turns.runtime.state) (spot c.take_turn.new.reader c.take_turn.new.runtime.state)
           c.clear.new.self.items c.take_turn.new.text.items taken c.turns.invariant.savable;
       faults = c.in_ok-put_some-in-Taken.ensures.faults ∙ c.turns.invariant.faults;
+      tries = tries_more (g.K.Sink.tried c.args.sink.now) (g.K.Sink.tried c.turns.sink) (g.K.Sink.tried c.put_some.new.sink) tt c.turns.invariant.tries c.in_ok-put_some-in-Taken.ensures.stops;
       quiet = λ silent. c.in_ok-put_some-in-Taken.ensures.quiet (c.as_slice.ensures.value ∙ silent_turn c.args.output c.args.ended (spot c.turns.reader c.turns.runtime.state) (spot c.take_turn.new.reader c.take_turn.new.runtime.state)
           c.clear.new.self.items c.take_turn.new.text.items c.clear.ensures.items taken silent) ∙ c.turns.invariant.quiet silent;
       writ = writ_more c.args.output (spot c.args.reader.now c.args.runtime.now.state) (spot c.turns.reader c.turns.runtime.state) (spot c.take_turn.new.reader c.take_turn.new.runtime.state) c.args.ended

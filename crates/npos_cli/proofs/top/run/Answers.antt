@@ -3,7 +3,7 @@ use Rattle.npos_base.specs.Outside.{Rose}
 use Rattle.npos_cli.specs.Status.{end_of}
 use Rattle.npos_cli.specs.Words.{job_of}
 use Rattle.npos_cli.specs.Ran.{traffic}
-use Rattle.npos_cli.proofs.EndLaws.{answered, read_failed, read_fails, write_failed, write_fails, not_flushed, halted_reading, halted_writing, starved, drained, accepted, passes, nothing_written, never_starves}
+use Rattle.npos_cli.proofs.EndLaws.{answered, read_failed, read_fails, write_failed, write_fails, no_read_fault, no_write_fault, flushed_last, not_flushed, halted_reading, halted_writing, starved, drained, accepted, passes, nothing_written, never_starves}
 use Rattle.npos_cli.proofs.StreamLaws.{stream_done, checkpoint_done, resume_done, pool_done}
 use Rattle.npos_cli.proofs.PromiseLaws.{promised}
 use Rattle.npos_cli.proofs.BookLaws.{books_told}
@@ -133,3 +133,21 @@ returns-clause-headline g c =
     (Rose t.read_faults t.read_faults_now) (Rose t.write_faults t.write_faults_now) (answered (job_of (map string_bytes c.args.words.now)) t end ran)
     (read_failed (job_of (map string_bytes c.args.words.now)) t end ran) (write_failed (job_of (map string_bytes c.args.words.now)) t end ran) (books_told t.left)
     (told_sound t.left c.replays_seat_sound_committees.ensures))
+
+pub returns-clause-no_read_fault : goal.returns-clause-no_read_fault
+returns-clause-no_read_fault g c =
+    rw c.end_of.ensures (no_read_fault (job_of (map string_bytes c.args.words.now)) (traffic g.S.Source.left g.K.Sink.told g.S.Source.faults g.K.Sink.faults c.args.source.now c.run_words.new.source c.args.sink.now c.run_words.new.sink)
+    c.run_words.result c.run_words.ensures.ran)
+
+pub returns-clause-no_write_fault : goal.returns-clause-no_write_fault
+returns-clause-no_write_fault g c =
+    rw c.end_of.ensures (no_write_fault (job_of (map string_bytes c.args.words.now)) (traffic g.S.Source.left g.K.Sink.told g.S.Source.faults g.K.Sink.faults c.args.source.now c.run_words.new.source c.args.sink.now c.run_words.new.sink)
+    c.run_words.result c.run_words.ensures.ran)
+
+pub returns-clause-tries_in_time : goal.returns-clause-tries_in_time
+returns-clause-tries_in_time g c = c.run_words.ensures.settles.in_time
+
+pub returns-clause-flushed_last : goal.returns-clause-flushed_last
+returns-clause-flushed_last g c =
+    rw c.end_of.ensures (flushed_last (job_of (map string_bytes c.args.words.now)) (traffic g.S.Source.left g.K.Sink.told g.S.Source.faults g.K.Sink.faults c.args.source.now c.run_words.new.source c.args.sink.now c.run_words.new.sink)
+    (g.K.Sink.tried c.args.sink.now) (g.K.Sink.tried c.run_words.new.sink) c.run_words.result c.run_words.ensures.ran c.run_words.ensures.settles)
