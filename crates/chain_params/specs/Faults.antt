@@ -2,6 +2,7 @@
 use Rattle.std.specs.Prelude.{◌≡◌, ℕ, ◌+◌, ◌<◌, Bool, List, [], ◌∷◌, Option, Some, None, nat_lt, nat_le, ◌==◌, ◌&&◌, not, if◌then◌else◌}
 use Rattle.std.specs.Option.{option_or}
 use Rattle.npos_base.specs.declared.limits.TheConstants.{MOST_PAST_ERAS, MOST_QUEUED, MOST_SEATS, MOST_SOLUTION_BYTES}
+pub use Rattle.npos_base.specs.Limits.{is_within}
 use Rattle.block_wire.specs.declared.genesis.Params.{Params}
 use Rattle.chain_params.specs.declared.fault.GenesisFault.{GenesisFault}
 use Rattle.chain_params.specs.declared.fault.GenesisFault.TheVariants.{RepeatedAccount, TooMuch, BadSeats, BadPhases, BadBonding, BadMinimum, BadThreshold, BadQueue, BadSolutionMax, BadDefer, NoMemory}
@@ -11,9 +12,6 @@ abbrev pub threshold_fault : ℕ → ℕ → List ℕ → Option GenesisFault
 threshold_fault place before [] = None
 threshold_fault place before (threshold ∷ more) =
     if nat_lt before threshold then threshold_fault (place + 1) threshold more else Some (BadThreshold place)
-
-abbrev pub is_within : ℕ → ℕ → ℕ → Bool
-is_within least most number = nat_le least number && nat_le number most
 
 abbrev pub phases_fit : Params → Bool
 phases_fit params = nat_le 1 params.offset && nat_le 1 params.signed

@@ -3,6 +3,7 @@
 use Rattle.std.specs.Prelude.{ℕ, ◌+◌, ◌-◌, ◌*◌, ◌/◌, ◌<◌, ◌≤◌, ◌&&◌, Bool, not, nat_eq, nat_lt, nat_le, IsTrue, if◌then◌else◌, min, List, [], ◌∷◌, length, map, filter, take, fold, sum_by, All, slice_index_or, Option, Some, None, option_to_list, Result, Ok, Err}
 use Rattle.std.specs.List.{list_all, list_any, range_with_len, IsDistinct}
 use Rattle.npos_base.specs.declared.figures.Edge.{Edge}
+pub use Rattle.npos_base.specs.Edge.{same_pair}
 use Rattle.npos_base.specs.declared.limits.TheConstants.{MOST_NOMINATIONS, MOST_VOTERS}
 use Rattle.compact_solution.specs.declared.entry.Share.{Share}
 use Rattle.compact_solution.specs.Solution.{Entry, plain_groups, groups_in, whole_stake}
@@ -145,9 +146,6 @@ packed stakes committee edges =
     (groups_of stakes (kept_of stakes edges))
 
 -- ## What can be packed
-
-abbrev pub same_pair : Edge → Edge → Bool
-same_pair a b = nat_eq a.voter b.voter && nat_eq a.target b.target
 
 -- There are no more voters than an election can have; each has at most one edge to a member, no more in
 -- all than it can nominate, and gives no more than its stake.

@@ -10,7 +10,7 @@ use Rattle.npos_base.proofs.AccountOrder.{same_exact, same_itself}
 use Rattle.npos_base.proofs.NumberTests.{number_tie}
 use Rattle.era_book.specs.declared.exposure.Backer.{Backer}
 use Rattle.era_book.specs.declared.exposure.Exposure.{Exposure}
-use Rattle.era_book.specs.Exposures.{IsSound}
+use Rattle.era_book.specs.Exposures.{IsSoundExposure}
 use Rattle.era_book.specs.Committee.{account_at, gives_to, backer_of, is_of, backers_among, exposure_of}
 use Rattle.era_book.specs.Records.{IsOwnFirst, IsBacked}
 use Rattle.era_book.specs.Laws.{BackedLaw}
@@ -80,7 +80,7 @@ module _ (targets voters : List AccountId) (member : ℕ) where
   own_first (b ∷ bs) others mine theirs distinct =
       behind_own b.who (bs ++ others) (same_exact b.who validator (All-head (λ (backer : Backer). same_account backer.who validator ≡ true) b bs mine)) distinct.0
 
-  backed : (commissions supports : List ℕ) (edges : List Edge) → IsSound (exposure_of targets commissions supports voters edges member)
+  backed : (commissions supports : List ℕ) (edges : List Edge) → IsSoundExposure (exposure_of targets commissions supports voters edges member)
       → IsBacked (exposure_of targets commissions supports voters edges member)
   backed commissions supports edges sound = record {
     amounts =
@@ -94,14 +94,14 @@ module _ (targets voters : List AccountId) (member : ℕ) where
   }
 
 all_backed : (targets voters : List AccountId) (commissions supports : List ℕ) (edges : List Edge) (members : List ℕ)
-    → All IsSound (map (exposure_of targets commissions supports voters edges) members)
+    → All IsSoundExposure (map (exposure_of targets commissions supports voters edges) members)
     → All IsBacked (map (exposure_of targets commissions supports voters edges) members)
 all_backed targets voters commissions supports edges [] sound = All-nil IsBacked
 all_backed targets voters commissions supports edges (member ∷ members) sound =
     let exposed : ℕ → Exposure = exposure_of targets commissions supports voters edges in
     All-cons IsBacked (exposed member) (map exposed members)
-    (backed targets voters member commissions supports edges (All-head IsSound (exposed member) (map exposed members) sound))
-    (all_backed targets voters commissions supports edges members (All-tail IsSound (exposed member) (map exposed members) sound))
+    (backed targets voters member commissions supports edges (All-head IsSoundExposure (exposed member) (map exposed members) sound))
+    (all_backed targets voters commissions supports edges members (All-tail IsSoundExposure (exposed member) (map exposed members) sound))
 
 pub backed_law : BackedLaw
 backed_law targets voters commissions supports edges members elected =

@@ -12,29 +12,29 @@ use Rattle.npos_base.specs.declared.limits.TheConstants.{MOST_PAST_ERAS}
 use Rattle.npos_base.specs.Account.{account_cmp}
 use Rattle.era_book.specs.declared.deferred.DeferredSlash.{DeferredSlash}
 use Rattle.era_book.specs.declared.exposure.Exposure.{Exposure}
-use Rattle.era_book.specs.Exposures.{IsSound}
+use Rattle.era_book.specs.Exposures.{IsSoundExposure}
 use Rattle.era_book.specs.Members.{Member, Members, member_of, members_with, with_member, gaining, with_points}
 use Rattle.era_book.specs.Eras.{Eras, started, begun_with, is_unknown, era_of, members_in, member_in, with_member_in, AreMembers, AreKept}
 use Rattle.era_book.proofs.MemberLemmas.{all_changed, all_with}
 
 -- a member of sound members is sound
-pub member_sound : (members : Members) (who : AccountId) (member : Member) → AreMembers members → member_of members who ≡ Some member → IsSound member.exposure
+pub member_sound : (members : Members) (who : AccountId) (member : Member) → AreMembers members → member_of members who ≡ Some member → IsSoundExposure member.exposure
 member_sound members who member sound is =
-    subst (λ (found : Option Member). IfSome found (λ m. IsSound m.exposure)) is (IfSome-lookup_from_All (λ (m : Member). IsSound m.exposure) (is_at (account_cmp who)) members sound)
+    subst (λ (found : Option Member). IfSome found (λ m. IsSoundExposure m.exposure)) is (IfSome-lookup_from_All (λ (m : Member). IsSoundExposure m.exposure) (is_at (account_cmp who)) members sound)
 
 -- changes that leave the exposures leave them sound
 pub sound_changed : (who : AccountId) (change : Member → Member) → ((member : Member) → (change member).exposure ≡ member.exposure)
     → (members : Members) → AreMembers members → AreMembers (with_member who change members)
 sound_changed who change same members sound =
-    all_changed (λ member. IsSound member.exposure) who change (λ member s. subst IsSound (sym (same member)) s) members sound
+    all_changed (λ member. IsSoundExposure member.exposure) who change (λ member s. subst IsSoundExposure (sym (same member)) s) members sound
 
 pub sound_pointed : (members : Members) (items : List (AccountId × ℕ)) → AreMembers members → AreMembers (fold with_points members items)
 sound_pointed members [] sound = sound
 sound_pointed members (item ∷ items) sound =
     sound_pointed (with_points members item) items (sound_changed item.0 (gaining item.1) (λ member. refl) members sound)
 
-pub sound_newcomers : (exposures : List Exposure) → All IsSound exposures → AreMembers (members_with exposures)
-sound_newcomers exposures sound = all_with (λ member. IsSound member.exposure) [] exposures sound (All-nil (λ (member : Member). IsSound member.exposure))
+pub sound_newcomers : (exposures : List Exposure) → All IsSoundExposure exposures → AreMembers (members_with exposures)
+sound_newcomers exposures sound = all_with (λ member. IsSoundExposure member.exposure) [] exposures sound (All-nil (λ (member : Member). IsSoundExposure member.exposure))
 
 -- the latest era, or an earlier one, has other members
 pub kept_first : {queue : List DeferredSlash} {next : ℕ} (current : ℕ) (first other : Members) (later : List Members) → AreKept (record { current = current; kept = first ∷ later; queue = queue; next_slash = next }) → AreMembers other
@@ -60,7 +60,7 @@ kept_begun eras members kept sound =
       sound = All-take AreMembers (MOST_PAST_ERAS + 1) (members ∷ eras.kept) (All-cons AreMembers members eras.kept sound kept.sound);
     }
 
-pub kept_started : (eras : Eras) (exposures : List Exposure) → AreKept eras → All IsSound exposures → AreKept (started exposures eras)
+pub kept_started : (eras : Eras) (exposures : List Exposure) → AreKept eras → All IsSoundExposure exposures → AreKept (started exposures eras)
 kept_started eras exposures kept sound = kept_begun eras (members_with exposures) kept (sound_newcomers exposures sound)
 
 -- ---- what is found at a place

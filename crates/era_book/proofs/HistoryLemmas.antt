@@ -10,7 +10,7 @@ use Rattle.npos_base.specs.declared.limits.TheConstants.{MOST_PAST_ERAS, WHOLE_F
 use Rattle.npos_base.proofs.NumberTests.{number_tie, other_number}
 use Rattle.era_book.specs.declared.exposure.Exposure.{Exposure}
 use Rattle.era_book.specs.declared.refusal.EraRefusal.TheVariants.{BadFraction, UnknownEra, EraNotOver, AlreadyClaimed, NoPoints, NotGreater}
-use Rattle.era_book.specs.Exposures.{IsSound}
+use Rattle.era_book.specs.Exposures.{IsSoundExposure}
 use Rattle.era_book.specs.Members.{Member, Members, members_with, with_member, gaining, with_points}
 use Rattle.era_book.specs.Eras.{Eras, started, is_unknown, members_in, member_in, with_members, AreMembers, AreKept}
 use Rattle.era_book.specs.Calls.{payout_refusal, claim_refusal, claiming, slash_refusal, fraction_refusal, keeping}
@@ -140,11 +140,11 @@ current_known eras = numbers_known eras eras.current (omega arith) (omega arith)
 pub members_sound : (eras : Eras) (era : ℕ) → AreKept eras → AreMembers (members_in eras era)
 members_sound eras era kept = at (is_unknown eras era) where
   found : (o : Option Members) → IfSome o AreMembers → AreMembers (unwrap_or o [])
-  found None all = All-nil (λ (member : Member). IsSound member.exposure)
+  found None all = All-nil (λ (member : Member). IsSoundExposure member.exposure)
   found (Some members) all = all
 
   at : (b : Bool) → AreMembers (unwrap_or (cond b None (slice_get eras.kept (eras.current - era))) [])
-  at true = All-nil (λ (member : Member). IsSound member.exposure)
+  at true = All-nil (λ (member : Member). IsSoundExposure member.exposure)
   at false = found (slice_get eras.kept (eras.current - era)) (all_at AreMembers eras.kept (eras.current - era) kept.sound)
 
 kept_set : (eras : Eras) (era : ℕ) (members : Members) → AreKept eras → AreMembers members → AreKept (with_members era members eras)

@@ -10,7 +10,7 @@ use Rattle.npos_base.specs.Account.{same_account}
 use Rattle.era_book.specs.declared.deferred.DeferredSlash.{DeferredSlash}
 use Rattle.era_book.specs.declared.exposure.Backer.{Backer}
 use Rattle.era_book.specs.declared.exposure.Exposure.{Exposure}
-use Rattle.era_book.specs.Exposures.{amount_sum, amount_for, exposed_for, AreApart, IsSound}
+use Rattle.era_book.specs.Exposures.{amount_sum, amount_for, exposed_for, AreApart, IsSoundExposure}
 use Rattle.era_book.specs.Payouts.{part, line, payout_lines}
 use Rattle.era_book.specs.Slashes.{due, slash_lines}
 use Rattle.era_book.specs.Members.{Member, Members, member_of, members_with, total_points, with_member, gaining, with_points}
@@ -97,11 +97,11 @@ got_within reward members sound =
     let points : ℕ = total_points members in
     omega (
       arith,
-      sum_under (λ member. IsSound member.exposure) (pay_of reward points) (λ member. part reward member.points points) (λ member s. one points member s member.claimed) (values_of members) sound,
+      sum_under (λ member. IsSoundExposure member.exposure) (pay_of reward points) (λ member. part reward member.points points) (λ member s. one points member s member.claimed) (values_of members) sound,
       parts_within (λ (member : Member). member.points) reward points (values_of members),
       part_whole reward points,
     ) where
-      one : (points : ℕ) (member : Member) → IsSound member.exposure → (b : Bool) → cond b (amount_sum (payout_lines member.exposure (part reward member.points points))) 0 ≤ part reward member.points points
+      one : (points : ℕ) (member : Member) → IsSoundExposure member.exposure → (b : Bool) → cond b (amount_sum (payout_lines member.exposure (part reward member.points points))) 0 ≤ part reward member.points points
       one points member s true = payout_within member.exposure (part reward member.points points) s
       one points member s false = omega arith
 
@@ -212,7 +212,7 @@ paid_within era reward (event ∷ more) eras ok kept fine =
           omega (arith, got_after era reward event eras ok.0 kept fine late, rest)
 
 first_kept : AreKept first_era
-first_kept = record { count = refl; sound = All-cons AreMembers [] [] (All-nil (λ (member : Member). IsSound member.exposure)) (All-nil AreMembers) }
+first_kept = record { count = refl; sound = All-cons AreMembers [] [] (All-nil (λ (member : Member). IsSoundExposure member.exposure)) (All-nil AreMembers) }
 
 first_members : (era : ℕ) → members_in first_era era ≡ []
 first_members zero = refl

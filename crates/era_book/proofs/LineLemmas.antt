@@ -8,7 +8,7 @@ use Rattle.npos_base.specs.declared.limits.TheConstants.{WHOLE_FRACTION}
 use Rattle.npos_base.specs.Account.{same_account}
 use Rattle.era_book.specs.declared.exposure.Backer.{Backer}
 use Rattle.era_book.specs.declared.exposure.Exposure.{Exposure}
-use Rattle.era_book.specs.Exposures.{amount_sum, IsSound}
+use Rattle.era_book.specs.Exposures.{amount_sum, IsSoundExposure}
 use Rattle.era_book.specs.declared.seat.Share.{Share}
 use Rattle.era_book.specs.Committee.{account_at}
 use Rattle.era_book.specs.Seats.{backer_seen, backers_seen}
@@ -60,7 +60,7 @@ shares_sum exposure value (b ∷ bs) =
     ∙ sym (sum_by-cons (λ (l : Backer). share exposure value l.amount) b bs)
 
 -- a payout is at most the value that is to be paid
-pub payout_within : (exposure : Exposure) (value : ℕ) → IsSound exposure → amount_sum (payout_lines exposure value) ≤ value
+pub payout_within : (exposure : Exposure) (value : ℕ) → IsSoundExposure exposure → amount_sum (payout_lines exposure value) ≤ value
 payout_within exposure value sound =
     let rest : ℕ = value - commission_of exposure value in
     let own : ℕ = own_part exposure.validator exposure.backers in

@@ -18,7 +18,7 @@ use Rattle.npos_base.proofs.NumberTests.{number_same, number_test}
 use Rattle.era_book.specs.declared.record.MemberRecord.{MemberRecord}
 use Rattle.era_book.specs.declared.deferred.DeferredSlash.{DeferredSlash}
 use Rattle.era_book.specs.declared.seat.Seat.{Seat}
-use Rattle.era_book.specs.Exposures.{IsSound, AreApart}
+use Rattle.era_book.specs.Exposures.{IsSoundExposure, AreApart}
 use Rattle.era_book.specs.Members.{Member, Members, total_points, IsCounted}
 use Rattle.era_book.specs.Eras.{Eras, is_unknown, members_in, AreMembers, AreKept}
 use Rattle.era_book.specs.Deferred.{AreQueued}
@@ -87,12 +87,12 @@ points_within_room values before rest left value points is next small few counte
 
 -- ---- an era that is put
 
-pub sound_values : (values : List MemberRecord) → All (λ value. IsSound value.exposure) values → AreMembers (members_from values)
-sound_values [] sound = All-nil (λ (m : Member). IsSound m.exposure)
+pub sound_values : (values : List MemberRecord) → All (λ value. IsSoundExposure value.exposure) values → AreMembers (members_from values)
+sound_values [] sound = All-nil (λ (m : Member). IsSoundExposure m.exposure)
 sound_values (value ∷ values) sound =
-    All-cons (λ (m : Member). IsSound m.exposure) (member_from value) (values_of (members_from values))
-    (All-head (λ (v : MemberRecord). IsSound v.exposure) value values sound)
-    (sound_values values (All-tail (λ (v : MemberRecord). IsSound v.exposure) value values sound))
+    All-cons (λ (m : Member). IsSoundExposure m.exposure) (member_from value) (values_of (members_from values))
+    (All-head (λ (v : MemberRecord). IsSoundExposure v.exposure) value values sound)
+    (sound_values values (All-tail (λ (v : MemberRecord). IsSoundExposure v.exposure) value values sound))
 
 pub set_behind : (first other : Members) (later : List Members) (n : ℕ) → (n ≡ 0 → ⊥) → first ∷ slice_set later (n - 1) other ≡ slice_set (first ∷ later) n other
 set_behind first other later zero some = absurd (some refl)

@@ -21,7 +21,7 @@ use Rattle.era_book.specs.declared.seat.Seat.{Seat}
 use Rattle.era_book.specs.Payouts.{line}
 use Rattle.era_book.specs.Committee.{account_at, gives_to, backer_of, is_of, backers_of, exposure_of}
 use Rattle.era_book.specs.Members.{Members, Member, newcomer, with_exposure, members_with, put_member, changed, with_member, total_points}
-use Rattle.era_book.specs.Seats.{Grows, AreWithin, backer_seen, backers_seen, member_seen, members_seen, seat_of, share_of, shares_among, shares_of}
+use Rattle.era_book.specs.Seats.{Grows, AreWithin, backer_seen, backers_seen, member_seen, members_seen, seat_of, edge_share, shares_among, shares_of}
 use Rattle.era_book.proofs.MemberLemmas.{members_more, total_rises}
 
 -- ---- the accounts grow
@@ -178,7 +178,7 @@ seated_more old new seats who seat grows seated within =
 -- ---- the shares of a committee
 
 -- the shares of a target are its backers, by the places of the voters
-among_seen : (voters : List AccountId) (edges : List Edge) → backers_seen voters (map share_of edges) ≡ map (backer_of voters) edges
+among_seen : (voters : List AccountId) (edges : List Edge) → backers_seen voters (map edge_share edges) ≡ map (backer_of voters) edges
 among_seen voters [] = refl
 among_seen voters (e ∷ es) = ap (λ bs. backer_of voters e ∷ bs) (among_seen voters es)
 

@@ -7,7 +7,7 @@ use Rattle.npos_base.specs.declared.figures.Edge.{Edge}
 use Rattle.npos_base.specs.declared.limits.TheConstants.{WHOLE_FRACTION}
 use Rattle.npos_base.specs.Account.{same_account}
 use Rattle.era_book.specs.declared.exposure.Exposure.{Exposure}
-use Rattle.era_book.specs.Exposures.{IsSound, AreSound}
+use Rattle.era_book.specs.Exposures.{IsSoundExposure, AreSound}
 use Rattle.npos_base.specs.Edge.{same_pair}
 use Rattle.era_book.specs.Committee.{account_at, exposure_of, given_to, edges_by_voter, IsWithin, IsElected, SoundLaw, OrderLaw}
 use Rattle.era_book.proofs.CommitteeLemmas.{support_law}
@@ -27,10 +27,10 @@ module _ (targets voters : List AccountId) (commissions supports : List ℕ) (ed
   exposed = exposure_of targets commissions supports voters edges
 
   each_sound : (members : List ℕ) → IsDistinct same_account voters → All (λ commission. commission ≤ WHOLE_FRACTION) commissions → All (IsWithin targets voters) edges → IsDistinct same_pair edges
-      → All (λ member. get_or supports member 0 ≡ given_to member edges) members → All IsSound (map exposed members)
-  each_sound [] voters_are commissions_are within pairs given = All-nil IsSound
+      → All (λ member. get_or supports member 0 ≡ given_to member edges) members → All IsSoundExposure (map exposed members)
+  each_sound [] voters_are commissions_are within pairs given = All-nil IsSoundExposure
   each_sound (m ∷ ms) voters_are commissions_are within pairs given =
-      All-cons IsSound (exposed m) (map exposed ms)
+      All-cons IsSoundExposure (exposed m) (map exposed ms)
       (record {
         commission = commission_within commissions m commissions_are;
         support = All-head (λ member. get_or supports member 0 ≡ given_to member edges) m ms given ∙ sym (support_law targets voters edges m);

@@ -5,7 +5,7 @@ use Rattle.npos_base.specs.declared.account.AccountId.{AccountId}
 use Rattle.npos_base.specs.declared.limits.TheConstants.{MOST_PAST_ERAS}
 use Rattle.era_book.specs.declared.deferred.DeferredSlash.{DeferredSlash}
 use Rattle.era_book.specs.declared.exposure.Exposure.{Exposure}
-use Rattle.era_book.specs.Exposures.{IsSound}
+use Rattle.era_book.specs.Exposures.{IsSoundExposure}
 use Rattle.era_book.specs.Members.{Member, Members, member_of, newcomer, members_with, with_member}
 
 -- The number of the current era; the members of the current era and of those before it, the latest
@@ -87,7 +87,7 @@ HasNoOther eras era exposures =
     member_in eras era who ≡ None
 
 abbrev pub AreMembers : Members → Type 0
-AreMembers members = All (λ member. IsSound member.exposure) (values_of members)
+AreMembers members = All (λ member. IsSoundExposure member.exposure) (values_of members)
 
 -- what holds of every era book: of 85 eras, or of all where there were fewer, the members are kept,
 -- and each has a sound exposure

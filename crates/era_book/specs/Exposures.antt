@@ -25,12 +25,12 @@ AreApart lines = IsDistinct same_account (map (λ line. line.who) lines)
 
 -- The commission is at most the whole, the support is what the backers give together, and no
 -- account backs twice.
-pub record IsSound (exposure : Exposure) : Type 0 where
+pub record IsSoundExposure (exposure : Exposure) : Type 0 where
   pub commission : exposure.commission ≤ WHOLE_FRACTION
   pub support : exposure.support ≡ amount_sum exposure.backers
   pub distinct : IsDistinct same_account (map (λ backer. backer.who) exposure.backers)
 
 -- the exposures of one era: each is sound, and no validator stands twice
 pub record AreSound (exposures : List Exposure) : Type 0 where
-  pub each : All IsSound exposures
+  pub each : All IsSoundExposure exposures
   pub distinct : IsDistinct same_account (map (λ exposure. exposure.validator) exposures)

@@ -5,7 +5,7 @@ use Rattle.npos_base.specs.declared.account.AccountId.{AccountId}
 use Rattle.npos_base.specs.declared.figures.Edge.{Edge}
 use Rattle.era_book.specs.declared.exposure.Exposure.{Exposure}
 use Rattle.era_book.specs.Committee.{IsElected, exposure_of}
-use Rattle.era_book.specs.Exposures.{IsSound, exposed_for}
+use Rattle.era_book.specs.Exposures.{IsSoundExposure, exposed_for}
 use Rattle.era_book.specs.Payouts.{payout_of}
 use Rattle.era_book.specs.Slashes.{due}
 use Rattle.era_book.specs.Eras.{Eras, first_era, is_unknown, members_in, AreKept}
@@ -17,7 +17,7 @@ use Rattle.era_book.specs.Course.{AreInOrder, paid_before, due_before, held_in}
 
 -- a validator and its backers are paid at most what is to be paid to them
 abbrev pub PayoutLaw : Type 0
-PayoutLaw = (exposure : Exposure) (value : ℕ) → IsSound exposure →
+PayoutLaw = (exposure : Exposure) (value : ℕ) → IsSoundExposure exposure →
     (payout_of exposure value).total ≤ value
 
 -- two reports one after the other make due what the greater one alone would

@@ -10,7 +10,7 @@ use Rattle.era_book.specs.declared.exposure.Exposure.{Exposure}
 use Rattle.era_book.specs.declared.record.MemberRecord.{MemberRecord}
 use Rattle.era_book.specs.declared.deferred.DeferredSlash.{DeferredSlash}
 use Rattle.era_book.specs.declared.deferred.TheConstants.{MOST_SLASHES}
-use Rattle.era_book.specs.Exposures.{IsSound, AreApart}
+use Rattle.era_book.specs.Exposures.{IsSoundExposure, AreApart}
 use Rattle.era_book.specs.Members.{Member, Members}
 use Rattle.era_book.specs.Eras.{Eras, members_in, is_unknown, with_members}
 
@@ -55,7 +55,7 @@ bare_at current next_slash = record {
 pub record AreMembersFor (eras : Eras) (era : ℕ) (values : List MemberRecord) : Type 0 where
   pub known : is_unknown eras era ≡ false
   pub rising : IsStrictlySortedBy account_cmp (keys_of (members_from values))
-  pub sound : All (λ value. IsSound value.exposure) values
+  pub sound : All (λ value. IsSoundExposure value.exposure) values
 
 -- the era has these members
 abbrev pub era_put : ℕ → List MemberRecord → Eras → Eras

@@ -47,13 +47,13 @@ seat_of validator commission support shares =
     }
 
 -- an edge as a share of its voter
-abbrev pub share_of : Edge → Share
-share_of edge = record { place = edge.voter; amount = edge.amount }
+abbrev pub edge_share : Edge → Share
+edge_share edge = record { place = edge.voter; amount = edge.amount }
 
 -- the shares of a target in the order of the edges: the validator's own, or the others'
 abbrev pub shares_among : Bool → List AccountId → List AccountId → List Edge → ℕ → List Share
 shares_among own targets voters edges target =
-    map share_of (filter (λ edge. gives_to target edge && is_of own targets voters edge) edges)
+    map edge_share (filter (λ edge. gives_to target edge && is_of own targets voters edge) edges)
 
 -- the validator's own share first, then the others
 abbrev pub shares_of : List AccountId → List AccountId → List Edge → ℕ → List Share

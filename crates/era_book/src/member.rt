@@ -3,7 +3,7 @@ ghost use Rattle.std.specs.Prelude.{◌≡◌, ◌^◌, ◌<◌, ◌≤◌, ◌+
 ghost use Rattle.std.specs.Option.{option_copied};
 ghost use Rattle.npos_base.specs.Account.{same_account};
 ghost use Rattle.npos_base.specs.declared.limits.TheConstants.{WHOLE_FRACTION};
-ghost use Rattle.era_book.specs.Exposures.{amount_sum, IsSound};
+ghost use Rattle.era_book.specs.Exposures.{amount_sum, IsSoundExposure};
 ghost use Rattle.era_book.specs.Payouts.{part, own_part, others, kept_lines, line, payout_lines, payout_of};
 ghost use Rattle.era_book.specs.Slashes.{slash_lines};
 ghost use Rattle.era_book.specs.Committee.{account_at};
@@ -65,7 +65,7 @@ impl<'a> Member<'a> {
     /// validator, and the rest by what each gives.
     #[tactic(auto, using(crate::proofs::LineLemmas::payout_within))]
     pub fn payout(&self, alloc: Global, value: u64) -> Result<Payout, NoMemory>
-        requires { IsSound self.now.exposure }
+        requires { IsSoundExposure self.now.exposure }
         ensures payout { IfOk result (λ payout. payout ≡ payout_of self.now.exposure value) }
         ensures within { IfOk result (λ payout. payout.total ≤ value) }
     {
@@ -173,7 +173,7 @@ fn payout_lines(
     seat: &Seat,
     value: u64,
 ) -> Result<List<Backer>, NoMemory>
-    requires { IsSound (member_seen accounts.now seat.now).exposure }
+    requires { IsSoundExposure (member_seen accounts.now seat.now).exposure }
     ensures { IfOk result
         (λ lines. lines ≡ payout_lines (member_seen accounts.now seat.now).exposure value) }
 {
@@ -189,7 +189,7 @@ fn payout_lines(
 
 /// Appends the lines of the backers other than the validator, who share the rest.
 fn put_others(lines: &mut Room<Backer>, accounts: &[AccountId], seat: &Seat, rest: u64)
-    requires sound { IsSound (member_seen accounts.now seat.now).exposure }
+    requires sound { IsSoundExposure (member_seen accounts.now seat.now).exposure }
     requires spare { length seat.now.shares ≤ lines.old.spare }
     ensures { lines.new.items ≡ lines.old.items ++ kept_lines
         (map (λ backer. line backer.who (part rest backer.amount seat.now.support))

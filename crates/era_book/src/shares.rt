@@ -1,7 +1,7 @@
 //! The shares of a committee's targets, from the edges by which it was elected.
 ghost use Rattle.std.specs.Prelude.{◌≡◌, ℕ, ◌++◌, [], ◌∷◌, length, slice_index_or, All, IfOk, OnOk};
 ghost use Rattle.era_book.specs.Committee.{IsWithin};
-ghost use Rattle.era_book.specs.Seats.{share_of, shares_among, shares_of};
+ghost use Rattle.era_book.specs.Seats.{edge_share, shares_among, shares_of};
 
 use crate::seat::Share;
 use npos_base::{AccountId, Edge, List, NoMemory};
@@ -82,7 +82,7 @@ fn gather(
 
 /// Appends the share of an edge.
 fn put(shares: &mut List<Share>, edge: Edge) -> Result<(), NoMemory>
-    ensures ok { OnOk result (shares.new ≡ shares.old ++ share_of edge ∷ []) }
+    ensures ok { OnOk result (shares.new ≡ shares.old ++ edge_share edge ∷ []) }
 {
     shares.put(Share {
         place: edge.voter,

@@ -1,7 +1,7 @@
 -- What is found of a bundle: what is reported of it, and the numbers that it is told by.
 use Rattle.std.specs.Prelude.{◌≡◌, ℕ, ◌/◌, ◌%◌, ◌^◌, List, [], ◌∷◌, slice_index_or, Result, Ok, Err}
 use Rattle.scale_wire.specs.Reason as reasons
-use Rattle.election_check.specs.Number.{number_of as verdict_number}
+use Rattle.election_check.specs.Number.{verdict_number as verdict_number}
 use Rattle.bundle_reports.specs.declared.reading.Election.{Election}
 use Rattle.bundle_reports.specs.declared.reading.TheConstants.{MOST_BUNDLE}
 use Rattle.bundle_reports.specs.Texts.{fault_line}
@@ -39,7 +39,7 @@ figures kind numbers = record {
 abbrev pub told_as : Finding → NposFinding
 told_as (Judged verdict) = figures JUDGED (verdict_number verdict ∷ verdict_details verdict)
 told_as (Lost member) = figures LOST (0 ∷ member ∷ [])
-told_as (Refused fault) = figures REFUSED (reasons.number_of fault.why ∷ fault.at ∷ [])
+told_as (Refused fault) = figures REFUSED (reasons.why_number fault.why ∷ fault.at ∷ [])
 told_as (Unelectable fault) = figures UNELECTABLE (fault_numbers fault)
 told_as (Unsolved at) = figures UNSOLVED (0 ∷ at ∷ [])
 told_as Long = figures LONG (0 ∷ MOST_BUNDLE ∷ [])

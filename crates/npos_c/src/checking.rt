@@ -17,22 +17,17 @@ use npos_base::NoMemory;
 use std::alloc::Global;
 
 /// What is found of the work in a bundle that has so many bytes.
-fn check_work(
-    alloc: Global,
-    snapshot: Snapshot,
-    work: &Work,
-    size: u64,
-) -> Result<Finding, NoMemory>
-    ensures { IfOk result (λ finding. reported finding ≡ work_report size snapshot work.now) }
+fn check_work(alloc: Global, snapshot: Snapshot, work: Work, size: u64) -> Result<Finding, NoMemory>
+    ensures { IfOk result (λ finding. reported finding ≡ work_report size snapshot work) }
 {
     match work {
         Work::Nothing => Ok(Finding::Unsolved(size.saturating_sub(1))),
         Work::Packed { claim, bytes } => {
-            let verdict = packed_verdict(alloc, snapshot, claim, bytes.as_slice())?;
+            let verdict = packed_verdict(alloc, snapshot, &claim, bytes.as_slice())?;
             Ok(Finding::Judged(verdict))
         }
         Work::Plain { committee, edges } => {
-            let verdict = plain_verdict(alloc, snapshot, committee.as_slice(), edges.as_slice())?;
+            let verdict = plain_verdict(alloc, snapshot, committee, edges)?;
             Ok(Finding::Judged(verdict))
         }
     }
@@ -47,7 +42,7 @@ fn check_election(alloc: Global, election: Election, size: u64) -> Result<Findin
 {
     let _seats = election.snapshot.seats();
     let Election { snapshot, work } = election;
-    check_work(alloc, snapshot, &work, size)
+    check_work(alloc, snapshot, work, size)
 }
 
 /// What a check finds of the bytes of a bundle.

@@ -1,6 +1,6 @@
 //! What is found of a bundle, and the numbers that it is told by.
 ghost use Rattle.std.specs.Prelude.{◌≡◌, ◌/◌, ◌%◌, ◌^◌, [], ◌∷◌};
-ghost use Rattle.election_check.specs.Number.{number_of};
+ghost use Rattle.election_check.specs.Number.{verdict_number};
 ghost use Rattle.bundle_reports.specs.Verdicts.{verdict_details, fault_numbers};
 ghost use Rattle.npos_c.specs.Findings.{figures, told_as};
 
@@ -79,7 +79,7 @@ fn figures(kind: u32, number: u32, first: u64, second: u64) -> NposFinding
 
 /// A verdict in numbers.
 fn verdict_figures(verdict: Verdict) -> NposFinding
-    ensures { result ≡ figures JUDGED (number_of verdict ∷ verdict_details verdict) }
+    ensures { result ≡ figures JUDGED (verdict_number verdict ∷ verdict_details verdict) }
 {
     match verdict {
         Verdict::Yes => figures(JUDGED, 0, 0, 0),

@@ -36,7 +36,7 @@ use Rattle.npos_runtime.specs.declared.chain.Chain.{Chain}
 use Rattle.npos_runtime.specs.Live.{HaveFractions, IsReady}
 use Rattle.npos_runtime.specs.KeptState.{book_row, member_row, era_row, era_rows, kept, IsTrueMember, AreTrueMembers, IsTold}
 use Rattle.npos_runtime.specs.KeptChain.{IsInForm, AreKeptEras}
-use Rattle.npos_runtime.specs.Sound.{AreKnown, IsSoundMember, IsSound}
+use Rattle.npos_runtime.specs.Sound.{AreKnown, IsSoundMember, IsSoundChain}
 use Rattle.npos_runtime.proofs.KeptFormLemmas.{kept_form}
 use Rattle.npos_runtime.proofs.KeptRowLemmas.{row_known, pairs_follow, pairs_map, sorted_pairs}
 use Rattle.npos_runtime.proofs.CauseRowLemmas.{era_kept}
@@ -79,7 +79,7 @@ own_first who (first ∷ backers) others =
 -- what holds of a member in the books, of its exposure, and of its kept fraction
 record IsFitMember (book : Ledger) (entry : AccountId × Member) : Type 0 where
   sound : IsSoundMember book entry
-  exposed : exposures.IsSound entry.1.exposure
+  exposed : exposures.IsSoundExposure entry.1.exposure
   fraction : entry.1.fraction ≤ WHOLE_FRACTION
 
 abbrev AreRightMembers : List BookRow → List MemberRow → Type 0
@@ -187,7 +187,7 @@ rows_members Right era (members ∷ before) all =
 
 -- ## The eras of a chain
 
-module _ (chain : Chain) (ready : IsReady chain) (told : IsTold chain) (sound : IsSound chain) where
+module _ (chain : Chain) (ready : IsReady chain) (told : IsTold chain) (sound : IsSoundChain chain) where
   abbrev all_rows : List EraRow
   all_rows = era_rows chain.eras.current chain.eras.kept
 
@@ -216,11 +216,11 @@ module _ (chain : Chain) (ready : IsReady chain) (told : IsTold chain) (sound : 
             All-cons (IsFitMember chain.book) entry members
             record {
               sound = All-head (IsSoundMember chain.book) entry members each;
-              exposed = All-head (λ (member : Member). exposures.IsSound member.exposure) entry.1 (values_of members) exposed;
+              exposed = All-head (λ (member : Member). exposures.IsSoundExposure member.exposure) entry.1 (values_of members) exposed;
               fraction = All-head (λ (member : Member). member.fraction ≤ WHOLE_FRACTION) entry.1 (values_of members) whole;
             }
             (parts members (All-tail (IsSoundMember chain.book) entry members each)
-            (All-tail (λ (member : Member). exposures.IsSound member.exposure) entry.1 (values_of members) exposed)
+            (All-tail (λ (member : Member). exposures.IsSoundExposure member.exposure) entry.1 (values_of members) exposed)
             (All-tail (λ (member : Member). member.fraction ≤ WHOLE_FRACTION) entry.1 (values_of members) whole))
 
   right : All (λ (row : EraRow). AreRightMembers (kept chain).rows row.members) all_rows

@@ -45,7 +45,7 @@ use Rattle.npos_runtime.specs.Kept.{open_of, kept_committee}
 use Rattle.npos_runtime.specs.KeptState.{book_row, voter_row, round_row, open_row, waiting_row, kept, IsTrueRound, IsTrueCommittee, IsTold}
 use Rattle.npos_runtime.specs.KeptChain.{IsWaitingInOrder}
 use Rattle.npos_runtime.specs.Live.{AreNoted, IsSoundRound, IsUnderway, IsInTime, WasElected, IsNotedCommittee, IsReady}
-use Rattle.npos_runtime.specs.Sound.{IsSoundPoll, IsSoundOpen, IsSoundWaiting, IsDecided, IsSound}
+use Rattle.npos_runtime.specs.Sound.{IsSoundPoll, IsSoundOpen, IsSoundWaiting, IsDecided, IsSoundChain}
 use Rattle.npos_runtime.proofs.KeptRowLemmas.{pairs_follow, distinct_pairs, sorted_pairs}
 use Rattle.npos_runtime.proofs.KeptStateLemmas.{back}
 use Rattle.npos_runtime.proofs.KeptFormLemmas.{kept_form}
@@ -288,7 +288,7 @@ kept_open chain (Some (rounds.Open number snapshot commissions)) params timely f
   at None faultless under = absurd under
   at (Some ps) faultless under = opened ps chain.due number faultless under
 
-pub sound_round : (chain : Chain) → IsReady chain → IsTold chain → IsSound chain → state.IsSoundOpen (kept chain) (kept chain).round
+pub sound_round : (chain : Chain) → IsReady chain → IsTold chain → IsSoundChain chain → state.IsSoundOpen (kept chain) (kept chain).round
 sound_round chain ready told sound =
     kept_open chain chain.round ready.between.live.params ready.between.timely ready.between.live.round told.round sound.round
 
@@ -328,6 +328,6 @@ kept_waiting chain (Some committee) elected noted true_seats order sound = (
   },
 )
 
-pub sound_waiting : (chain : Chain) → IsReady chain → IsTold chain → IsSound chain → state.IsSoundWaiting (kept chain) (kept chain).waiting
+pub sound_waiting : (chain : Chain) → IsReady chain → IsTold chain → IsSoundChain chain → state.IsSoundWaiting (kept chain) (kept chain).waiting
 sound_waiting chain ready told sound =
     kept_waiting chain chain.waiting ready.between.elected ready.between.live.waiting told.waiting (kept_form chain ready.between told).waiting sound.waiting

@@ -22,7 +22,7 @@ use Rattle.npos_runtime.specs.declared.round.Round.TheVariants as rounds
 use Rattle.npos_runtime.specs.Kept.{open_of}
 use Rattle.npos_runtime.specs.KeptState.{book_row, open_row, queue_row, kept, IsTold}
 use Rattle.npos_runtime.specs.Live.{IsInTime, IsReady}
-use Rattle.npos_runtime.specs.Sound.{AreKnown, StandsBefore, IsSound}
+use Rattle.npos_runtime.specs.Sound.{AreKnown, StandsBefore, IsSoundChain}
 use Rattle.npos_runtime.proofs.KeptRowLemmas.{row_known, pairs_follow, pairs_apart, pairs_map}
 use Rattle.npos_runtime.proofs.CauseRowLemmas.{params_kept}
 
@@ -54,11 +54,11 @@ stands_above first later stands = at (is_better first.score later.score) refl wh
       or_right (is_better first.score later.score) _
       (ap (λ (b : Bool). not b && nat_lt first.number later.number) stands.not_better ∙ lt-ltb first.number later.number (stands.earlier other))
 
-pub sound_next_submission : (chain : Chain) → IsReady chain → IsTold chain → IsSound chain
+pub sound_next_submission : (chain : Chain) → IsReady chain → IsTold chain → IsSoundChain chain
     → IsNextNumber (kept chain).due (kept chain).next_submission
 sound_next_submission chain ready told sound = record { some = sound.queue.first; within = sound.queue.few }
 
-pub sound_queue : (chain : Chain) → IsReady chain → IsTold chain → IsSound chain
+pub sound_queue : (chain : Chain) → IsReady chain → IsTold chain → IsSoundChain chain
     → EachIs (IsSoundItem (is_some (kept chain).round) (places_of (params_of (kept chain))) (solution_max_of (params_of (kept chain)))
     (kept chain).rows (kept chain).next_submission) (kept chain).queue
 sound_queue chain ready told sound place d few = record {

@@ -34,7 +34,7 @@ use Rattle.npos_runtime.specs.Lists.{has_role}
 use Rattle.npos_runtime.specs.Live.{IsReady}
 use Rattle.npos_runtime.specs.KeptState.{kind_in, role_row, kept, IsTold}
 use Rattle.npos_runtime.specs.KeptChain.{IsInForm}
-use Rattle.npos_runtime.specs.Sound.{IsSoundStanding, HasScore, IsSound}
+use Rattle.npos_runtime.specs.Sound.{IsSoundStanding, HasScore, IsSoundChain}
 use Rattle.npos_runtime.proofs.KeptFormLemmas.{distinct_once, kept_form}
 use Rattle.npos_runtime.proofs.SoundEntryLemmas.{tied, each_found}
 use Rattle.npos_runtime.proofs.KeptRowLemmas.{row_bonded, pairs_follow, pairs_apart, pairs_map, distinct_pairs}
@@ -237,7 +237,7 @@ listed_at (entry ∷ order) (suc place) d few = at (same_account entry.0 (get_or
   at true rest = refl
   at false rest = rest
 
-module _ (chain : Chain) (ready : IsReady chain) (told : IsTold chain) (sound : IsSound chain) where
+module _ (chain : Chain) (ready : IsReady chain) (told : IsTold chain) (sound : IsSoundChain chain) where
   abbrev role_rows : List RoleRow
   role_rows = map (role_row chain.roles) chain.bags.order
 

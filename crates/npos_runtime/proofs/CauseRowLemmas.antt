@@ -28,7 +28,7 @@ use Rattle.state_rules.specs.Sound.{EachIs}
 use Rattle.npos_runtime.specs.declared.chain.Chain.{Chain}
 use Rattle.npos_runtime.specs.Live.{IsReady}
 use Rattle.npos_runtime.specs.KeptState.{book_row, queue_row, kept, IsTold}
-use Rattle.npos_runtime.specs.Sound.{IsSound}
+use Rattle.npos_runtime.specs.Sound.{IsSoundChain}
 use Rattle.npos_runtime.proofs.KeptStateLemmas.{params_back}
 use Rattle.npos_runtime.proofs.SoundEntryLemmas.{every_entry}
 
@@ -42,7 +42,7 @@ era_kept chain told = ap (λ (params : Option Params). era_of params (chain.due 
 
 -- ## Books
 
-pub sound_book : (chain : Chain) → IsReady chain → IsTold chain → IsSound chain
+pub sound_book : (chain : Chain) → IsReady chain → IsTold chain → IsSoundChain chain
     → rows_fault (kept chain).rows (kept chain).genesis (kept chain).minted (kept chain).burned ≡ None
 sound_book chain ready told sound = (saved_law chain.book ready.between.live.books.balanced).0
 
@@ -64,7 +64,7 @@ none_late latest entries timely =
     (All-map (λ (row : BookRow). is_late latest row ≡ false) book_row entries
     (λ k d few. on_time latest (get_or entries k d).1.chunks (timely k d few)))
 
-pub sound_releases : (chain : Chain) → IsReady chain → IsTold chain → IsSound chain
+pub sound_releases : (chain : Chain) → IsReady chain → IsTold chain → IsSoundChain chain
     → list_any (is_late (era_before (kept chain) + bonding_eras_of (params_of (kept chain)))) (kept chain).rows ≡ false
 sound_releases chain ready told sound =
     ap (λ (latest : ℕ). list_any (is_late latest) (kept chain).rows)
@@ -116,7 +116,7 @@ module _ (chain : Chain) where
       ∙ (ready.between.live.books.deposits.held who
       ∙ deposits_counted (deposit_of chain.params) who chain.queue.items told.params.deposits)))
 
-  pub sound_held : IsReady chain → IsTold chain → IsSound chain
+  pub sound_held : IsReady chain → IsTold chain → IsSoundChain chain
       → EachIs (λ (before : List BookRow) (row : BookRow). row.held ≡ deposit_of (params_of (kept chain)) * waiting_of (kept chain).queue row.who) (kept chain).rows
   sound_held ready told sound place d few =
       rows_held ready told place d few

@@ -21,7 +21,7 @@ use Rattle.state_rules.proofs.SoundLemmas.{none_is, no_some}
 use Rattle.npos_runtime.specs.declared.chain.Chain.{Chain}
 use Rattle.npos_runtime.specs.KeptState.{kept, IsTold}
 use Rattle.npos_runtime.specs.Live.{IsReady}
-use Rattle.npos_runtime.specs.Sound.{IsSound}
+use Rattle.npos_runtime.specs.Sound.{IsSoundChain}
 use Rattle.npos_runtime.proofs.KeptRowLemmas.{pairs_follow, distinct_pairs}
 use Rattle.npos_runtime.proofs.CauseRowLemmas.{era_kept}
 use Rattle.npos_runtime.proofs.CauseEraLemmas.{lines_known, lines_good}
@@ -30,11 +30,11 @@ defer_kept : (params : Option Params) (defer : ℕ) → (params ≡ None → def
 defer_kept None defer none = sym (none refl)
 defer_kept (Some params) defer none = refl
 
-pub sound_next_slash : (chain : Chain) → IsReady chain → IsTold chain → IsSound chain
+pub sound_next_slash : (chain : Chain) → IsReady chain → IsTold chain → IsSoundChain chain
     → IsNextNumber (kept chain).due (kept chain).next_slash
 sound_next_slash chain ready told sound = record { some = sound.slashes.first; within = sound.slashes.few }
 
-pub sound_slashes : (chain : Chain) → IsReady chain → IsTold chain → IsSound chain
+pub sound_slashes : (chain : Chain) → IsReady chain → IsTold chain → IsSoundChain chain
     → EachIs (IsSoundSlash (era_before (kept chain)) (defer_of (kept chain)) (kept chain).next_slash (kept chain).rows) (kept chain).slashes
 sound_slashes chain ready told sound place d few = record {
   numbered = (sound.slashes.each place d few).numbered;

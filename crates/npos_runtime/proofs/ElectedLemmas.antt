@@ -12,7 +12,7 @@ use Rattle.npos_base.proofs.AccountOrder.{same_exact}
 use Rattle.election_snapshot.specs.Snapshot.{Voter, Snapshot, has, nobody, stake_of}
 use Rattle.election_snapshot.specs.Draft.{accounts_of}
 use Rattle.weight_book.specs.Weights.{Weights, Follows, spent}
-use Rattle.era_book.specs.Exposures.{IsSound, AreSound, exposed_for}
+use Rattle.era_book.specs.Exposures.{IsSoundExposure, AreSound, exposed_for}
 use Rattle.era_book.specs.Committee.{account_at, spent_by}
 use Rattle.era_book.proofs.CommitteeLemmas.{filter_sum, spent_law}
 use Rattle.era_book.proofs.BackerLemmas.{apart_at}
@@ -192,4 +192,4 @@ exposures_within committee who given noted =
 
 pub nobody_sound : AreSound []
 unfolding IsDistinct
-nobody_sound = record { each = All-nil IsSound; distinct = tt }
+nobody_sound = record { each = All-nil IsSoundExposure; distinct = tt }

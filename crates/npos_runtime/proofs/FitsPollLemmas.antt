@@ -27,7 +27,7 @@ use Rattle.npos_runtime.specs.Committee.{Committee}
 use Rattle.npos_runtime.specs.Kept.{open_of, kept_committee}
 use Rattle.npos_runtime.specs.KeptState.{voter_row, round_row, open_row, queue_row, waiting_row, kept, IsTold}
 use Rattle.npos_runtime.specs.Live.{AreNoted, IsSoundRound, IsNotedCommittee, IsReady}
-use Rattle.npos_runtime.specs.Sound.{AreKnown, IsSoundPoll, IsSoundOpen, IsSoundWaiting, IsSound}
+use Rattle.npos_runtime.specs.Sound.{AreKnown, IsSoundPoll, IsSoundOpen, IsSoundWaiting, IsSoundChain}
 use Rattle.npos_runtime.specs.Live.{WasElected}
 use Rattle.npos_runtime.proofs.ExposureLemmas.{elected_by}
 use Rattle.npos_runtime.proofs.KeptPassLemmas.{kept_weights, passes_kept}
@@ -140,7 +140,7 @@ waiting_in_range chain (Some committee) heard elected noted sound =
 
 -- ## Submissions and slashes
 
-module _ (chain : Chain) (ready : IsReady chain) (told : IsTold chain) (sound : IsSound chain)
+module _ (chain : Chain) (ready : IsReady chain) (told : IsTold chain) (sound : IsSoundChain chain)
     (fit : IsFitting chain) where
   pub queue_in_range : (length (kept chain).queue ≤ 16) × AllByRecursion queued_form.in_range (kept chain).queue
   queue_in_range =

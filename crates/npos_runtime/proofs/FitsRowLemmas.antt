@@ -35,7 +35,7 @@ use Rattle.state_checkpoint.specs.Layout.{chunk_form, row_form, kind_form, role_
 use Rattle.npos_runtime.specs.declared.chain.Chain.{Chain}
 use Rattle.npos_runtime.specs.KeptState.{book_row, kind_in, role_row, member_row, era_rows, kept, IsTold}
 use Rattle.npos_runtime.specs.Live.{IsReady}
-use Rattle.npos_runtime.specs.Sound.{IsSoundStanding, IsSound}
+use Rattle.npos_runtime.specs.Sound.{IsSoundStanding, IsSoundChain}
 use Rattle.npos_runtime.proofs.CauseRoleLemmas.{listed_at}
 use Rattle.npos_runtime.proofs.CauseEraLemmas.{rows_members, sound_eras}
 use Rattle.npos_runtime.proofs.CauseRowLemmas.{era_kept}
@@ -77,7 +77,7 @@ pub terms_in_range : (params : Option Params) (defer : ℕ) → IfSome params pa
 terms_in_range None defer is small = tt
 terms_in_range (Some params) defer is small = (is, small)
 
-module _ (chain : Chain) (ready : IsReady chain) (told : IsTold chain) (sound : IsSound chain)
+module _ (chain : Chain) (ready : IsReady chain) (told : IsTold chain) (sound : IsSoundChain chain)
     (fit : IsFitting chain) where
   -- the number of an era is far below that of a block
   pub small_era : chain.eras.current < 2 ^ 31

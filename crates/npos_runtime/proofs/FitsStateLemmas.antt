@@ -25,7 +25,7 @@ use Rattle.state_checkpoint.specs.Layout.{row_form, kind_form, role_form, member
 use Rattle.npos_runtime.specs.declared.chain.Chain.{Chain}
 use Rattle.npos_runtime.specs.KeptState.{book_row, kind_in, role_row, member_row, era_row, era_rows, queue_row, kept, IsTrueMember, AreTrueMembers, IsTold}
 use Rattle.npos_runtime.specs.Live.{IsReady}
-use Rattle.npos_runtime.specs.Sound.{IsSound}
+use Rattle.npos_runtime.specs.Sound.{IsSoundChain}
 use Rattle.npos_runtime.proofs.SoundEntryLemmas.{every_entry, each_found}
 use Rattle.npos_runtime.proofs.FitsLemmas.{IsAccount, AreHeard, IsNamed, IsFittingMember, AreFittingMembers, IsFittingSlash, IsFittingItem, IsFitting, nobody_fits}
 use Rattle.npos_runtime.proofs.FitsRowLemmas.{terms_in_range, rows_in_range, roles_in_range, eras_in_range}
@@ -33,7 +33,7 @@ use Rattle.npos_runtime.proofs.FitsPollLemmas.{round_in_range, waiting_in_range,
 
 -- ## From the chain to its state
 
-pub state_in_range : (chain : Chain) → IsReady chain → IsTold chain → IsSound chain → IsFitting chain
+pub state_in_range : (chain : Chain) → IsReady chain → IsTold chain → IsSoundChain chain → IsFitting chain
     → state_form.in_range (kept chain)
 state_in_range chain ready told sound fit =
     let live = ready.between.live in

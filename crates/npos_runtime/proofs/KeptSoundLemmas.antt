@@ -24,7 +24,7 @@ use Rattle.era_book.specs.declared.exposure.Backer.{Backer}
 use Rattle.era_book.specs.declared.deferred.DeferredSlash.{DeferredSlash}
 use Rattle.era_book.specs.Calls.{slash_in}
 use Rattle.era_book.specs.Deferred.{next_due, without_next_due}
-use Rattle.era_book.specs.Exposures.{IsSound}
+use Rattle.era_book.specs.Exposures.{IsSoundExposure}
 use Rattle.era_book.specs.Members.{Member, Members}
 use Rattle.era_book.specs.Eras.{Eras, AreMembers}
 use Rattle.chain_params.specs.Rules.{begun_era, begun_round, is_decision, seats_of, thresholds_in, deposit_of}
@@ -267,9 +267,9 @@ faithful_step chain block is =
 true_members : (members : Members) → AreMembers members → AreOwn members → AreTrueMembers members
 true_members [] sound own = All-nil IsTrueMember
 true_members (entry ∷ members) sound own =
-    let here : IsSound entry.1.exposure = All-head (λ (member : Member). IsSound member.exposure) entry.1 (values_of members) sound in
+    let here : IsSoundExposure entry.1.exposure = All-head (λ (member : Member). IsSoundExposure member.exposure) entry.1 (values_of members) sound in
     All-cons IsTrueMember entry members (record { own = All-head IsOwn entry members own; support = here.support })
-    (true_members members (All-tail (λ (member : Member). IsSound member.exposure) entry.1 (values_of members) sound) (All-tail IsOwn entry members own))
+    (true_members members (All-tail (λ (member : Member). IsSoundExposure member.exposure) entry.1 (values_of members) sound) (All-tail IsOwn entry members own))
 
 true_eras : (kept_members : List Members) → All AreMembers kept_members → All AreOwn kept_members → All AreTrueMembers kept_members
 true_eras [] sound own = All-nil AreTrueMembers

@@ -25,7 +25,7 @@ use Rattle.npos_runtime.specs.Calls.{rule_for}
 use Rattle.npos_runtime.specs.Step.{in_turn, phases, before_calls, era_phase, call_after, call_outcome, calls_outcome, step, seated_by}
 use Rattle.npos_runtime.specs.Live.{IsLive, IsSoundRound}
 use Rattle.chain_params.specs.Faults.{AreSound}
-use Rattle.npos_runtime.specs.Laws.{IsSound, SoundStepLaw, SeatedSoundLaw, SeatsLaw, HeldLaw}
+use Rattle.npos_runtime.specs.Laws.{IsSeatedSoundly, SoundStepLaw, SeatedSoundLaw, SeatsLaw, HeldLaw}
 use Rattle.round_decision.proofs.VerdictLemmas.{decided_passes}
 use Rattle.chain_params.proofs.PhaseLemmas.{phases_sound}
 use Rattle.npos_runtime.proofs.PhaseTable.{live_era, live_round}
@@ -78,35 +78,35 @@ told_later part more chain line within = Contains-append_right (part chain).line
 -- ## Every committee is sound
 
 module _ (packed : PackedYesIsAccepting) (plain : PlainYesIsPassing) (fill : EveryFillPasses) (averaging : AveragingLaw) where
-  sound_of : (round : Option Round) (chain : Chain) → IsSoundRound round → All IsSound (decision_of round chain).seated
-  sound_of None chain sound = All-nil IsSound
-  sound_of (Some (rounds.Void number)) chain sound = All-nil IsSound
+  sound_of : (round : Option Round) (chain : Chain) → IsSoundRound round → All IsSeatedSoundly (decision_of round chain).seated
+  sound_of None chain sound = All-nil IsSeatedSoundly
+  sound_of (Some (rounds.Void number)) chain sound = All-nil IsSeatedSoundly
   sound_of (Some (rounds.Open number snapshot commissions)) chain sound =
       let passes = decided_passes packed fill plain snapshot chain.queue.items sound.0 in
       let weights = decided_weights snapshot (others snapshot chain.queue.items) in
-      All-cons IsSound (record { round = number; snapshot = snapshot; weights = weights }) [] (record {
+      All-cons IsSeatedSoundly (record { round = number; snapshot = snapshot; weights = weights }) [] (record {
         well_formed = sound.0;
         feasible = passes.feasible;
         passes = passes;
         proportional = averaging snapshot weights sound.0 passes;
       })
-      (All-nil IsSound)
+      (All-nil IsSeatedSoundly)
 
-  sound_decision : (chain : Chain) → IsLive chain → All IsSound (decision_phase chain).seated
+  sound_decision : (chain : Chain) → IsLive chain → All IsSeatedSoundly (decision_phase chain).seated
   sound_decision chain live = at (is_decision chain.params chain.due) where
-    at : (b : Bool) → All IsSound (if b then decision_of chain.round chain else quiet chain).seated
+    at : (b : Bool) → All IsSeatedSoundly (if b then decision_of chain.round chain else quiet chain).seated
     at true = sound_of chain.round chain live.round
-    at false = All-nil IsSound
+    at false = All-nil IsSeatedSoundly
 
   pub sound_step : SoundStepLaw
   sound_step chain block live =
-      subst (All IsSound) (sym (seats_step chain block))
+      subst (All IsSeatedSoundly) (sym (seats_step chain block))
       (sound_decision (undecided chain) (live_round (era_phase chain).state (live_era chain live)))
 
-  sound_blocks : (chain : Chain) (blocks : List Block) → IsLive chain → chain.due + length blocks ≤ 2 ^ 32 → All IsSound (seated_by chain blocks)
-  sound_blocks chain [] live fit = All-nil IsSound
+  sound_blocks : (chain : Chain) (blocks : List Block) → IsLive chain → chain.due + length blocks ≤ 2 ^ 32 → All IsSeatedSoundly (seated_by chain blocks)
+  sound_blocks chain [] live fit = All-nil IsSeatedSoundly
   sound_blocks chain (block ∷ more) live fit =
-      All-append IsSound (step chain block).seated (seated_by (step chain block).state more) (sound_step chain block live)
+      All-append IsSeatedSoundly (step chain block).seated (seated_by (step chain block).state more) (sound_step chain block live)
       (sound_blocks (step chain block).state more (live_step chain block live (omega (arith, fit))) (omega (arith, fit, due_step chain block)))
 
   pub sound_all : SeatedSoundLaw

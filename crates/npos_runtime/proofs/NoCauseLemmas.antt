@@ -4,7 +4,7 @@ use Rattle.state_rules.proofs.StateLemmas as state_rules
 use Rattle.npos_runtime.specs.declared.chain.Chain.{Chain}
 use Rattle.npos_runtime.specs.KeptState.{kept, IsTold}
 use Rattle.npos_runtime.specs.Live.{IsReady}
-use Rattle.npos_runtime.specs.Sound.{IsSound}
+use Rattle.npos_runtime.specs.Sound.{IsSoundChain}
 use Rattle.npos_runtime.specs.SoundLaws.{NoCauseLaw}
 use Rattle.npos_runtime.proofs.CauseRowLemmas.{sound_book, sound_releases, sound_held}
 use Rattle.npos_runtime.proofs.CauseRoleLemmas.{sound_roles}
@@ -14,7 +14,7 @@ use Rattle.npos_runtime.proofs.CausePollLemmas.{sound_round, sound_waiting}
 use Rattle.npos_runtime.proofs.CauseSlashLemmas.{sound_next_slash, sound_slashes}
 
 -- the state is sound but for its slashes
-pub sound_kept : (chain : Chain) → IsReady chain → IsTold chain → IsSound chain → state.IsSound (kept chain)
+pub sound_kept : (chain : Chain) → IsReady chain → IsTold chain → IsSoundChain chain → state.IsSoundState (kept chain)
 sound_kept chain ready told sound = record {
   book = sound_book chain ready told sound;
   releases = sound_releases chain ready told sound;
@@ -28,7 +28,7 @@ sound_kept chain ready told sound = record {
 }
 
 -- and so are these
-pub slashes_kept : (chain : Chain) → IsReady chain → IsTold chain → IsSound chain → state.HasSoundSlashes (kept chain)
+pub slashes_kept : (chain : Chain) → IsReady chain → IsTold chain → IsSoundChain chain → state.HasSoundSlashes (kept chain)
 slashes_kept chain ready told sound = record {
   next_slash = sound_next_slash chain ready told sound;
   slashes = sound_slashes chain ready told sound;

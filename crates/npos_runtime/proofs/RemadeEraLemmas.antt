@@ -18,7 +18,7 @@ use Rattle.era_book.specs.declared.exposure.Backer.{Backer}
 use Rattle.era_book.specs.declared.record.MemberRecord.{MemberRecord}
 use Rattle.era_book.specs.declared.deferred.DeferredSlash.{DeferredSlash}
 use Rattle.era_book.specs.declared.deferred.TheConstants.{MOST_SLASHES}
-use Rattle.era_book.specs.Exposures.{IsSound, AreApart, amount_sum}
+use Rattle.era_book.specs.Exposures.{IsSoundExposure, AreApart, amount_sum}
 use Rattle.era_book.specs.Members.{Member, Members}
 use Rattle.era_book.specs.Eras.{Eras}
 use Rattle.era_book.specs.Records.{members_from, CanJoin}
@@ -82,7 +82,7 @@ members_rise known rows each =
     rows none_sorted each
 
 abbrev IsSoundEntry : AccountId × Member → Type 0
-IsSoundEntry entry = IsSound entry.1.exposure
+IsSoundEntry entry = IsSoundExposure entry.1.exposure
 
 sound_entries : (known : List BookRow) (rows : List MemberRow) → EachIs (IsSoundMember known) rows → AllByRecursion IsSoundEntry (map member_entry rows)
 sound_entries known rows each =
@@ -93,15 +93,15 @@ sound_entries known rows each =
     (record { commission = sound.commission; support = refl; distinct = lines_apart row.backers sound.backers.lines })))
     rows tt each
 
-records_sound : (records : List MemberRecord) → AllByRecursion IsSoundEntry (members_from records) → AllByRecursion (λ (value : MemberRecord). IsSound value.exposure) records
+records_sound : (records : List MemberRecord) → AllByRecursion IsSoundEntry (members_from records) → AllByRecursion (λ (value : MemberRecord). IsSoundExposure value.exposure) records
 records_sound [] all = tt
 records_sound (value ∷ records) all = (all.0, records_sound records all.1)
 
 -- each of the records has a sound exposure
 pub members_sound : (known : List BookRow) (rows : List MemberRow) (records : List MemberRecord) → EachIs (IsSoundMember known) rows
-    → members_from records ≡ map member_entry rows → All (λ (value : MemberRecord). IsSound value.exposure) records
+    → members_from records ≡ map member_entry rows → All (λ (value : MemberRecord). IsSoundExposure value.exposure) records
 members_sound known rows records each same =
-    All-from_recursion (λ (value : MemberRecord). IsSound value.exposure) records
+    All-from_recursion (λ (value : MemberRecord). IsSoundExposure value.exposure) records
     (records_sound records (subst (AllByRecursion IsSoundEntry) (sym same) (sound_entries known rows each)))
 
 -- ## Eras

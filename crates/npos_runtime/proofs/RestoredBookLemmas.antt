@@ -134,10 +134,10 @@ module _ (state : State) where
 
   -- ## The books
 
-  pub restored_timely : rule.IsSound state → AreTimely (last_era state + bonding_eras_of (params_in state)) book
+  pub restored_timely : rule.IsSoundState state → AreTimely (last_era state + bonding_eras_of (params_in state)) book
   restored_timely sound = timely (last_era state + bonding_eras_of (params_in state)) sound.releases
 
-  pub restored_books : 1 ≤ state.due → IsTold (chain_of state) → rule.IsSound state → AreBooks (release_now (chain_of state)) items book
+  pub restored_books : 1 ≤ state.due → IsTold (chain_of state) → rule.IsSoundState state → AreBooks (release_now (chain_of state)) items book
   restored_books counted told sound = record {
     balanced = (restored_law state.rows state.genesis state.minted state.burned).1 sound.book;
     releases = λ who k d few.

@@ -86,7 +86,7 @@ module _ (state : State) where
 
   members_exposed : (members : List MemberRow) → EachIs (rule.IsSoundMember state.rows) members → AreMembers (map member_entry members)
   members_exposed members sound =
-      each_value (λ (member : Member). exposures.IsSound member.exposure) members
+      each_value (λ (member : Member). exposures.IsSoundExposure member.exposure) members
       (λ place d few. record {
         commission = (sound place d few).commission;
         support = refl;
@@ -134,7 +134,7 @@ none_sorted : IsStrictlySortedBy account_cmp []
 unfolding IsStrictlySortedBy
 none_sorted = tt
 
-module _ (state : State) (sound : rule.IsSound state) (told : IsTold (chain_of state)) where
+module _ (state : State) (sound : rule.IsSoundState state) (told : IsTold (chain_of state)) where
   abbrev eras : Eras
   eras = (chain_of state).eras
 
@@ -171,7 +171,7 @@ module _ (state : State) (sound : rule.IsSound state) (told : IsTold (chain_of s
   pub restored_kept : AreKept eras
   restored_kept = record {
     count = count;
-    sound = each_kept AreMembers (All-nil (λ (member : Member). exposures.IsSound member.exposure)) (members_exposed state);
+    sound = each_kept AreMembers (All-nil (λ (member : Member). exposures.IsSoundExposure member.exposure)) (members_exposed state);
   }
 
   pub restored_fractions : All HaveFractions eras.kept
@@ -185,7 +185,7 @@ module _ (state : State) (sound : rule.IsSound state) (told : IsTold (chain_of s
   }
 
 -- the rows of eras are in form
-pub eras_in_form : (state : State) → rule.IsSound state → AreKeptEras (last_era state) state.eras
+pub eras_in_form : (state : State) → rule.IsSoundState state → AreKeptEras (last_era state) state.eras
 eras_in_form state sound = record {
   rising = follow_pairs (λ (first later : EraRow). first.era < later.era) (λ first next later one two. omega (arith, one, two))
       (λ earlier later. nat_lt earlier.era later.era) (λ first later is. lower first.era later.era is) state.eras (λ place d few. (sound.eras place d few).above);

@@ -21,7 +21,7 @@ use Rattle.npos_runtime.specs.KeptChain.{params_in, defer_in, chain_of, IsInForm
 use Rattle.npos_runtime.specs.Live.{CanBeDue, IsReady}
 use Rattle.npos_runtime.specs.Restoring.{due_fault, params_fault, stated, election_fault, state_fault}
 use Rattle.npos_runtime.specs.Savable.{RestoredLaw}
-use Rattle.npos_runtime.specs.Sound.{IsSound}
+use Rattle.npos_runtime.specs.Sound.{IsSoundChain}
 use Rattle.npos_runtime.proofs.KeptChainLemmas.{restore}
 use Rattle.npos_runtime.proofs.RestoredBookLemmas.{restored_books, restored_timely}
 use Rattle.npos_runtime.proofs.RestoredRoleLemmas.{roles_apart, restored_roles, restored_bags, restored_sound_roles}
@@ -56,7 +56,7 @@ record IsFaultless (state : State) : Type 0 where
   due : CanBeDue state.due
   params : AreSound (params_in state)
   defer : CanWait (params_in state) (defer_in state.params)
-  sound : rule.IsSound state
+  sound : rule.IsSoundState state
   elected : election_fault (params_in state) state.waiting ≡ None
   slashes : rule.HasSoundSlashes state
 
@@ -123,7 +123,7 @@ module _ (state : State) (fits : state_form.in_range state) (right : IsFaultless
     slash_numbered = omega (arith, right.slashes.next_slash.within);
   }
 
-  sound_chain : IsSound (chain_of state)
+  sound_chain : IsSoundChain (chain_of state)
   sound_chain = record {
     books = restored_timely state right.sound;
     roles = restored_sound_roles state right.sound right.params terms_fit;

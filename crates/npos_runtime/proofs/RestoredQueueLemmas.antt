@@ -70,7 +70,7 @@ some_places : (params : Option Params) → AreSound params → (1 ≤ places_of 
 some_places None sound = (omega arith, omega arith)
 some_places (Some params) sound = places_within params sound
 
-module _ (state : State) (sound : rule.IsSound state) where
+module _ (state : State) (sound : rule.IsSoundState state) where
   abbrev items : List Submission
   items = map (submission_in (params_in state)) state.queue
 

@@ -243,7 +243,7 @@ thresholds_small (Some terms) fits = All-from_recursion (λ threshold. threshold
 
 -- ## The roles of the chain
 
-module _ (state : State) (sound : rule.IsSound state) where
+module _ (state : State) (sound : rule.IsSoundState state) where
   pub roles_apart : IsDistinct same_account (map (λ (row : RoleRow). row.who) state.roles)
   roles_apart = new_distinct (λ (row : RoleRow). row.who) state.roles (λ k d few. (sound.roles k d few).first)
 

@@ -37,7 +37,7 @@ module _ (state : State) (sound : rule.HasSoundSlashes state) where
     under : (a b : ℕ) → nat_le a b ≡ true → a ≤ b
     under a b e = grind (arith, nat_tests, e)
 
-  pub restored_line : rule.IsSound state → IsTold (chain_of state) → AreSound (params_in state) → CanWait (params_in state) (defer_in state.params)
+  pub restored_line : rule.IsSoundState state → IsTold (chain_of state) → AreSound (params_in state) → CanWait (params_in state) (defer_in state.params)
       → state.due ≤ 2 ^ 32 → length state.slashes ≤ MOST_SLASHES → CanDefer (chain_of state)
   restored_line whole told params wait late most = record {
     order = record { kept = restored_kept state whole told; fractions = restored_fractions state whole told; queued = in_line most };

@@ -20,7 +20,7 @@ use Rattle.npos_runtime.specs.KeptChain.{params_in, defer_in, committee_in, chai
 use Rattle.npos_runtime.specs.Live.{IsReady, IsBetweenBlocks, CanBeDue}
 use Rattle.npos_runtime.specs.Restoring.{due_fault, params_fault as stated_params, stated, unless_yes, verdict_on, election_fault}
 use Rattle.npos_runtime.specs.Savable.{SavableStartLaw, SavableStepLaw, SavedLaw}
-use Rattle.npos_runtime.specs.Sound.{IsSound, IsSoundWaiting}
+use Rattle.npos_runtime.specs.Sound.{IsSoundChain, IsSoundWaiting}
 use Rattle.npos_runtime.specs.SoundLaws.{CanStep, after_block, StartsSound, KeepsSoundLaw}
 use Rattle.npos_runtime.proofs.BeginLemmas.{ready_begun}
 use Rattle.npos_runtime.proofs.TimeLemmas.{between_step}
@@ -40,7 +40,7 @@ savable_start starts genesis in_range faultless =
     let chain : Chain = genesis_chain genesis in
     let ready : IsReady chain = ready_begun genesis faultless in
     let told : IsTold chain = told_after genesis [] (record { faultless = faultless; fit = omega arith }) in
-    let sound : IsSound chain = starts genesis in_range faultless in
+    let sound : IsSoundChain chain = starts genesis in_range faultless in
     record { ready = ready; told = told; sound = sound; fits = state_in_range chain ready told sound (fits_start genesis in_range) }
 
 pub savable_step : KeepsSoundLaw → SavableStepLaw
@@ -48,7 +48,7 @@ savable_step keeps chain block savable in_range due =
     let can : CanStep chain block =
     record { ready = savable.ready; told = savable.told; sound = savable.sound; in_range = in_range; due = due } in
     let new : Chain = after_block chain block in
-    let sound : IsSound new = keeps chain block can in
+    let sound : IsSoundChain new = keeps chain block can in
     let between : IsBetweenBlocks new = between_step chain block savable.ready.between (omega (arith, in_range.0, due)) in
     let ready : IsReady new = ready_sound new between sound in
     let told : IsTold new = told_between new between (faithful_step chain block (faithful chain savable.told)) in

@@ -6,7 +6,7 @@ use Rattle.npos_runtime.specs.Genesis.{genesis_chain}
 use Rattle.npos_runtime.specs.Step.{after_blocks}
 use Rattle.npos_runtime.specs.Live.{IsReady, IsBetweenBlocks}
 use Rattle.npos_runtime.specs.KeptState.{IsTold}
-use Rattle.npos_runtime.specs.Sound.{IsSound}
+use Rattle.npos_runtime.specs.Sound.{IsSoundChain}
 use Rattle.npos_runtime.specs.SoundLaws.{CanStep, AreNext, after_block, BooksStaySound, RolesStaySound, ErasStaySound, RoundStaysSound, SubmissionsStaySound, WaitingStaysSound, SlashesStaySound, StartsSound, KeepsSoundLaw, StaysSoundLaw}
 use Rattle.npos_runtime.proofs.BeginLemmas.{ready_begun}
 use Rattle.npos_runtime.proofs.LiveLemmas.{due_step}
@@ -43,7 +43,7 @@ keeps_sound books roles eras round submissions waiting slashes chain block can =
 }
 
 -- the counts of a sound chain are those that its blocks could make
-pub ready_sound : (chain : Chain) → IsBetweenBlocks chain → IsSound chain → IsReady chain
+pub ready_sound : (chain : Chain) → IsBetweenBlocks chain → IsSoundChain chain → IsReady chain
 ready_sound chain between sound = record {
   between = between;
   numbered = omega (arith, sound.queue.few);
@@ -51,13 +51,13 @@ ready_sound chain between sound = record {
 }
 
 module _ (keeps : KeepsSoundLaw) where
-  sound_blocks : (chain : Chain) (blocks : List Block) → IsReady chain → IsTold chain → IsSound chain
-      → AreNext chain.due blocks → chain.due + length blocks ≤ 2 ^ 32 → IsSound (after_blocks chain blocks)
+  sound_blocks : (chain : Chain) (blocks : List Block) → IsReady chain → IsTold chain → IsSoundChain chain
+      → AreNext chain.due blocks → chain.due + length blocks ≤ 2 ^ 32 → IsSoundChain (after_blocks chain blocks)
   sound_blocks chain [] ready told sound next fit = sound
   sound_blocks chain (block ∷ more) ready told sound next fit =
       let can : CanStep chain block = record { ready = ready; told = told; sound = sound; in_range = next.0; due = next.1 } in
       let new : Chain = after_block chain block in
-      let still : IsSound new = keeps chain block can in
+      let still : IsSoundChain new = keeps chain block can in
       let between : IsBetweenBlocks new = between_step chain block ready.between (omega (arith, fit)) in
       let due : new.due ≡ chain.due + 1 = due_step chain block in
       sound_blocks new more (ready_sound new between still)

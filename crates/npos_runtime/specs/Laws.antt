@@ -24,7 +24,7 @@ use Rattle.npos_base.specs.declared.account.AccountId.{AccountId}
 
 -- The committee has a member for each seat, follows nominations, spends no voter beyond its stake,
 -- and represents each group of voters by as many members as its stake stands for.
-pub record IsSound (election : Election) : Type 0 where
+pub record IsSeatedSoundly (election : Election) : Type 0 where
   pub well_formed : IsWellFormed election.snapshot
   pub feasible : IsFeasible election.snapshot election.weights
   pub passes : Passes election.snapshot election.weights
@@ -33,11 +33,11 @@ pub record IsSound (election : Election) : Type 0 where
 -- every election that a block of a live chain seats is sound
 abbrev pub SoundStepLaw : Type 0
 SoundStepLaw =
-    (chain : Chain) (block : Block) → IsLive chain → All IsSound (step chain block).seated
+    (chain : Chain) (block : Block) → IsLive chain → All IsSeatedSoundly (step chain block).seated
 
 abbrev pub SeatedSoundLaw : Type 0
 SeatedSoundLaw = (chain : Chain) (blocks : List Block) → CanTake chain blocks
-    → All IsSound (seated_by chain blocks)
+    → All IsSeatedSoundly (seated_by chain blocks)
 
 -- Where a round that is not void is decided, its committee is seated and waits: with the round's
 -- snapshot, the weights of the winner or the fill, and the members in rising order.

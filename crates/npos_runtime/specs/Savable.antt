@@ -12,14 +12,14 @@ use Rattle.npos_runtime.specs.KeptState.{kept, IsTold}
 use Rattle.npos_runtime.specs.KeptChain.{chain_of}
 use Rattle.npos_runtime.specs.Live.{IsReady}
 use Rattle.npos_runtime.specs.Restoring.{state_fault}
-use Rattle.npos_runtime.specs.Sound.{IsSound}
+use Rattle.npos_runtime.specs.Sound.{IsSoundChain}
 use Rattle.npos_runtime.specs.SoundLaws.{after_block}
 
 -- Between two blocks: the chain is sound, and the state that it keeps tells all of it and fits its layout.
 pub record IsSavable (chain : Chain) : Type 0 where
   pub ready : IsReady chain
   pub told : IsTold chain
-  pub sound : IsSound chain
+  pub sound : IsSoundChain chain
   pub fits : state_form.in_range (kept chain)
 
 -- so is the chain of a genesis without a fault

@@ -145,7 +145,7 @@ pub record AreSoundSlashes (chain : Chain) : Type 0 where
 
 -- ## The chain
 
-pub record IsSound (chain : Chain) : Type 0 where
+pub record IsSoundChain (chain : Chain) : Type 0 where
   pub books : AreTimely (chain.eras.current + bonding_eras_of chain.params) chain.book
   pub roles : AreSoundRoles chain
   pub eras : AreSoundEras chain

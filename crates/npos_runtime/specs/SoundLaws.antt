@@ -12,14 +12,14 @@ use Rattle.npos_runtime.specs.History.{IsHistory}
 use Rattle.npos_runtime.specs.Live.{IsReady}
 use Rattle.state_rules.specs.Causes.{first_cause, slash_cause}
 use Rattle.npos_runtime.specs.KeptState.{kept, IsTold}
-use Rattle.npos_runtime.specs.Sound.{IsSound, AreTimely, AreSoundRoles, AreSoundEras, IsSoundOpen, AreSoundSubmissions, IsSoundWaiting, AreSoundSlashes}
+use Rattle.npos_runtime.specs.Sound.{IsSoundChain, AreTimely, AreSoundRoles, AreSoundEras, IsSoundOpen, AreSoundSubmissions, IsSoundWaiting, AreSoundSlashes}
 use Rattle.npos_runtime.specs.Step.{step, after_blocks}
 
 -- a chain that can take a block, and the block, which is the next one
 pub record CanStep (chain : Chain) (block : Block) : Type 0 where
   pub ready : IsReady chain
   pub told : IsTold chain
-  pub sound : IsSound chain
+  pub sound : IsSoundChain chain
   pub in_range : block_form.in_range block
   pub due : block.number ≡ chain.due
 
@@ -57,11 +57,11 @@ SlashesStaySound = (chain : Chain) (block : Block) → CanStep chain block
 -- the chain of a genesis without a fault is sound
 abbrev pub StartsSound : Type 0
 StartsSound = (genesis : Genesis) → genesis_form.in_range genesis → genesis_fault genesis ≡ None
-    → IsSound (genesis_chain genesis)
+    → IsSoundChain (genesis_chain genesis)
 
 -- a block keeps a chain sound
 abbrev pub KeepsSoundLaw : Type 0
-KeepsSoundLaw = (chain : Chain) (block : Block) → CanStep chain block → IsSound (after_block chain block)
+KeepsSoundLaw = (chain : Chain) (block : Block) → CanStep chain block → IsSoundChain (after_block chain block)
 
 -- the blocks are in range, and are numbered from the due one on
 abbrev pub AreNext : ℕ → List Block → Type 0
@@ -72,9 +72,9 @@ AreNext due (block ∷ more) =
 -- so does every list of blocks that follows a genesis without a fault
 abbrev pub StaysSoundLaw : Type 0
 StaysSoundLaw = (genesis : Genesis) (blocks : List Block) → genesis_form.in_range genesis → IsHistory genesis blocks
-    → AreNext 1 blocks → IsSound (after_blocks (genesis_chain genesis) blocks)
+    → AreNext 1 blocks → IsSoundChain (after_blocks (genesis_chain genesis) blocks)
 
 -- what a sound chain keeps is the state of a chain: no cause stands against it
 abbrev pub NoCauseLaw : Type 0
-NoCauseLaw = (chain : Chain) → IsReady chain → IsTold chain → IsSound chain
+NoCauseLaw = (chain : Chain) → IsReady chain → IsTold chain → IsSoundChain chain
     → (first_cause (kept chain) ≡ None) × (slash_cause (kept chain) ≡ None)

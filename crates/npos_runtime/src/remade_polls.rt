@@ -1,5 +1,5 @@
 //! The round of a state that is open and its committee that waits, made anew.
-ghost use Rattle.std.specs.Prelude.{◌≡◌, ◌≤◌, [], ◌++◌, length, map, Some, None, OnOk, IfOk, IfErr, option_map};
+ghost use Rattle.std.specs.Prelude.{◌≡◌, [], map, Some, None, OnOk, IfOk, IfErr, option_map};
 ghost use Rattle.election_snapshot.specs.Draft.{target_fault, with_target, voter_fault, with_voter, seated};
 ghost use Rattle.election_check.specs.Plain.{verdict_plain};
 ghost use Rattle.election_check.specs.Seats.{IsReordered};
@@ -17,7 +17,7 @@ use block_wire::{BundleVoter, Params};
 use chain_params::{era_of, seats_of};
 use election_check::{Checker, Elected};
 use election_snapshot::{Snapshot, SnapshotBuilder, SnapshotFault};
-use npos_base::{AccountId, Edge, List, NoMemory};
+use npos_base::{AccountId, List, NoMemory};
 use state_rules::{RoundRow, State, WaitingRow};
 use std::alloc::Global;
 use weight_book::Weights;
@@ -128,38 +128,19 @@ pub fn round_of(
     }))
 }
 
-/// Appends the members, for which there is room.
-fn push_members(weights: &mut Weights, members: &[u16])
-    requires { length members.now ≤ weights.old.member_spare }
-    ensures members { weights.new.plain.committee ≡ weights.old.plain.committee ++ members.now }
-    ensures edges { weights.new.plain.edges ≡ weights.old.plain.edges }
-    ensures spare { weights.new.edge_spare ≡ weights.old.edge_spare }
-{
-    for member in members {
-        weights.push_member(*member);
-    }
-}
-
-/// Appends the edges, for which there is room.
-fn push_edges(weights: &mut Weights, edges: &[Edge])
-    requires { length edges.now ≤ weights.old.edge_spare }
-    ensures edges { weights.new.plain.edges ≡ weights.old.plain.edges ++ edges.now }
-    ensures members { weights.new.plain.committee ≡ weights.old.plain.committee }
-{
-    for edge in edges {
-        weights.push_edge(*edge);
-    }
-}
-
 /// The weights of a committee that waits.
 fn weights_of(alloc: Global, snapshot: &Snapshot, row: &WaitingRow) -> Result<Weights, NoMemory>
     ensures { IfOk result (λ weights. weights.plain
         ≡ record { committee = row.now.committee; edges = row.now.edges }) }
 {
-    let mut weights = Weights::with_room(alloc, snapshot)?;
-    weights.reserve(row.committee.len(), row.edges.len())?;
-    push_members(&mut weights, row.committee.as_slice());
-    push_edges(&mut weights, row.edges.as_slice());
+    let members = Vec::from_slice(alloc, row.committee.as_slice())?;
+    let edges = Vec::from_slice(alloc, row.edges.as_slice())?;
+    let weights = Weights::of(
+        alloc,
+        snapshot.target_count(),
+        List::from_vec(members),
+        List::from_vec(edges),
+    )?;
     Ok(weights)
 }
 

@@ -8,7 +8,7 @@ ghost use Rattle.chain_params.specs.Rules.{thresholds_in};
 ghost use Rattle.chain_params.specs.Faults.{AreSound, terms_fault};
 ghost use Rattle.state_rules.specs.Causes as causes;
 ghost use Rattle.state_rules.specs.Terms.{HasSoundTerms};
-ghost use Rattle.state_rules.specs.Sound.{IsSound, HasSoundSlashes};
+ghost use Rattle.state_rules.specs.Sound.{IsSoundState, HasSoundSlashes};
 ghost use Rattle.state_checkpoint.specs.Layout.{state_form};
 ghost use Rattle.npos_runtime.specs.KeptChain.{chain_of, params_in, defer_in, committee_in, roles_in, bag_entry, round_in, submission_in, eras_back};
 ghost use Rattle.npos_runtime.specs.Remade.{AreRolesBetween, AreSoundItems, AreSoundEras, AreSoundSlashes, IsBuiltRound};
@@ -374,7 +374,7 @@ fn remake(
 /// The chain of a state in which all is sound, with its committee that waits.
 fn remake_state(alloc: Global, state: State, waiting: Option<Waiting>) -> Result<Chain, NoMemory>
     requires terms { HasSoundTerms state }
-    requires sound { IsSound state }
+    requires sound { IsSoundState state }
     requires slashes { HasSoundSlashes state }
     requires thresholds { length (thresholds_in (params_in state)) ≤ MOST_THRESHOLDS }
     requires few { length state.slashes ≤ MOST_SLASHES }

@@ -11,7 +11,7 @@ use Rattle.npos_words.specs.declared.command.Miner.{Miner}
 use Rattle.npos_words.specs.Found.{Finds}
 use Rattle.npos_words.specs.Numbers.{number_within}
 use Rattle.npos_words.specs.Options.{Setting, Text, options_of, value_of}
-use Rattle.npos_words.specs.Words.{Verb, Values, alone, asked_by, verbs, begins_with_verb, command_after, command_by, command_of, demo_by, demo_names, demo_of, has_verb, is_bare, is_verb, KeepsBounds, mine_by, mine_names, mine_of, miner_of, number_of, rounds_of}
+use Rattle.npos_words.specs.Words.{Verb, Values, alone, asked_by, verbs, begins_with_verb, command_after, command_by, command_of, demo_by, demo_names, demo_of, has_verb, is_bare, is_verb, KeepsBounds, mine_by, mine_names, mine_of, miner_of, option_number, rounds_of}
 use Rattle.npos_words.proofs.NumberLemmas.{within_bounds}
 
 pub found_gives : {X : Type 0} (read : Values → Option X) (m : ArgMatches) (o : Option (List Setting)) → Finds (Some m) o
@@ -67,7 +67,7 @@ mine_kept values = by (option_and_then miner_of (values (codes "miner")))
     by None = tt
     by (Some miner) = rounds_kept miner (values (codes "rounds"))
 
-number_kept : (values : Values) (name : Text) (least most : ℕ) → Within least most (number_of values name least most)
+number_kept : (values : Values) (name : Text) (least most : ℕ) → Within least most (option_number values name least most)
 number_kept values name least most = by (values name)
   where
     by : (o : Option Text) → Within least most (option_and_then (number_within least most) o)
@@ -75,21 +75,21 @@ number_kept values name least most = by (values name)
     by (Some text) = within_bounds least most text
 
 demo_kept : (values : Values) → KeepsBounds (demo_of values)
-demo_kept values = by_seed (number_of values (codes "seed") 0 18446744073709551615)
+demo_kept values = by_seed (option_number values (codes "seed") 0 18446744073709551615)
   where
     by_seats : (seed voters : ℕ) → (1 ≤ voters) × (voters ≤ 16384) → (o : Option ℕ) → Within 1 512 o → KeepsBounds (option_map (commands.Demo seed voters) o)
     by_seats seed voters h None within = tt
     by_seats seed voters h (Some seats) within = (h.0, h.1, within.0, within.1)
 
     by_voters : (seed : ℕ) (o : Option ℕ) → Within 1 16384 o
-        → KeepsBounds (option_and_then (λ voters. option_map (commands.Demo seed voters) (number_of values (codes "seats") 1 512)) o)
+        → KeepsBounds (option_and_then (λ voters. option_map (commands.Demo seed voters) (option_number values (codes "seats") 1 512)) o)
     by_voters seed None h = tt
-    by_voters seed (Some voters) h = by_seats seed voters h (number_of values (codes "seats") 1 512) (number_kept values (codes "seats") 1 512)
+    by_voters seed (Some voters) h = by_seats seed voters h (option_number values (codes "seats") 1 512) (number_kept values (codes "seats") 1 512)
 
     by_seed : (o : Option ℕ) → KeepsBounds (option_and_then (λ seed. option_and_then (λ voters. option_map (commands.Demo seed voters)
-        (number_of values (codes "seats") 1 512)) (number_of values (codes "voters") 1 16384)) o)
+        (option_number values (codes "seats") 1 512)) (option_number values (codes "voters") 1 16384)) o)
     by_seed None = tt
-    by_seed (Some seed) = by_voters seed (number_of values (codes "voters") 1 16384) (number_kept values (codes "voters") 1 16384)
+    by_seed (Some seed) = by_voters seed (option_number values (codes "voters") 1 16384) (number_kept values (codes "voters") 1 16384)
 
 read_kept : (read : Values → Option Command) → ((values : Values) → KeepsBounds (read values)) → (o : Option (List Setting))
     → KeepsBounds (option_and_then (λ given. read (value_of given)) o)

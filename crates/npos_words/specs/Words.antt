@@ -29,8 +29,8 @@ rounds_of (Some text) = number_within 1 100 text
 abbrev pub Values : Type 0
 Values = Text → Option Text
 
-abbrev pub number_of : Values → Text → ℕ → ℕ → Option ℕ
-number_of values name least most = option_and_then (number_within least most) (values name)
+abbrev pub option_number : Values → Text → ℕ → ℕ → Option ℕ
+option_number values name least most = option_and_then (number_within least most) (values name)
 
 abbrev pub mine_of : Values → Option Command
 mine_of values =
@@ -40,8 +40,8 @@ mine_of values =
 abbrev pub demo_of : Values → Option Command
 demo_of values =
     option_and_then (λ seed. option_and_then (λ voters. option_map (commands.Demo seed voters)
-    (number_of values (codes "seats") 1 MOST_SEATS)) (number_of values (codes "voters") 1 MOST_VOTERS))
-    (number_of values (codes "seed") 0 (2 ^ 64 - 1))
+    (option_number values (codes "seats") 1 MOST_SEATS)) (option_number values (codes "voters") 1 MOST_VOTERS))
+    (option_number values (codes "seed") 0 (2 ^ 64 - 1))
 
 abbrev pub mine_names : List Text
 mine_names = codes "miner" ∷ codes "rounds" ∷ []

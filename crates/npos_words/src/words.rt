@@ -2,7 +2,7 @@
 ghost use Rattle.std.specs.Prelude.{◌≡◌, ◌≤◌, IsOk, false, drop, map, option_map, IfOk, IfSome, string_bytes};
 ghost use Rattle.std.specs.List.{list_any};
 ghost use Rattle.clap.specs.Words.{found_of, first_value};
-ghost use Rattle.npos_words.specs.Words.{command_of, command_after, command_by, alone, mine_by, demo_by, mine_of, demo_of, miner_of, rounds_of, number_of, is_bare, is_verb, begins_with_verb, has_verb, KeepsBounds};
+ghost use Rattle.npos_words.specs.Words.{command_of, command_after, command_by, alone, mine_by, demo_by, mine_of, demo_of, miner_of, rounds_of, option_number, is_bare, is_verb, begins_with_verb, has_verb, KeepsBounds};
 
 use crate::numbers::number_within;
 use crate::options::options_of;
@@ -37,8 +37,8 @@ fn rounds_of(text: Option<&str>) -> Option<u32>
 }
 
 /// The number that an option gives, from the least to the most.
-fn number_of(options: &ArgMatches, name: &str, least: u64, most: u64) -> Option<u64>
-    ensures number { result ≡ number_of (first_value (found_of options.now)) name.now least most }
+fn option_number(options: &ArgMatches, name: &str, least: u64, most: u64) -> Option<u64>
+    ensures number { result ≡ option_number (first_value (found_of options.now)) name.now least most }
     ensures most { IfSome result (λ number. number ≤ most) }
 {
     number_within(options.get_str(name)?, least, most)
@@ -57,9 +57,9 @@ fn mine_of(options: &ArgMatches) -> Option<Command>
 fn demo_of(options: &ArgMatches) -> Option<Command>
     ensures { result ≡ demo_of (first_value (found_of options.now)) }
 {
-    let seed = number_of(options, "seed", 0, u64::MAX)?;
-    let voters = number_of(options, "voters", 1, MOST_VOTERS as u64)? as u32;
-    let seats = number_of(options, "seats", 1, u64::from(MOST_SEATS))? as u32;
+    let seed = option_number(options, "seed", 0, u64::MAX)?;
+    let voters = option_number(options, "voters", 1, MOST_VOTERS as u64)? as u32;
+    let seats = option_number(options, "seats", 1, u64::from(MOST_SEATS))? as u32;
     Some(Command::Demo {
         seed,
         voters,

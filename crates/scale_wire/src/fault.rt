@@ -1,6 +1,6 @@
 //! Why bytes are refused, and where.
 ghost use Rattle.std.specs.Prelude.{◌≡◌};
-ghost use Rattle.scale_wire.specs.Reason.{number_of};
+ghost use Rattle.scale_wire.specs.Reason.{why_number};
 ghost use Rattle.scale_wire.specs.declared.fault.ReadFault.TheVariants.{Wire as WireCase, NoMemory as NoMemoryCase};
 
 use npos_base::NoMemory;
@@ -27,7 +27,7 @@ pub enum Why {
 impl Why {
     /// The number of the reason, from 1.
     pub fn number(self) -> u8
-        ensures { result ≡ number_of self }
+        ensures { result ≡ why_number self }
     {
         match self {
             Why::Short => 1,

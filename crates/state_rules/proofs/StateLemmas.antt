@@ -25,7 +25,7 @@ use Rattle.state_rules.specs.Queue.{is_bad_item, is_bad_held, waiting_of}
 use Rattle.state_rules.specs.Waiting.{is_bad_committee}
 use Rattle.state_rules.specs.Slashes.{is_bad_slash}
 use Rattle.state_rules.specs.Causes.{at_place, stated, row_cause, sum_cause, role_cause, era_cause, is_bad_open, round_cause, next_submission_cause, queue_cause, held_cause, is_bad_waiting, waiting_cause, first_cause, next_slash_cause, waiting_slash_cause, slash_cause}
-use Rattle.state_rules.specs.Sound.{IsSoundRole, IsSoundEra, IsSoundOpen, IsSoundItem, IsSoundWaiting, IsSoundSlash, IsSound, HasSoundSlashes}
+use Rattle.state_rules.specs.Sound.{IsSoundRole, IsSoundEra, IsSoundOpen, IsSoundItem, IsSoundWaiting, IsSoundSlash, IsSoundState, HasSoundSlashes}
 use Rattle.state_rules.proofs.CauseLemmas.{neither, none_due}
 use Rattle.state_rules.proofs.RowLemmas.{last_put}
 use Rattle.state_rules.proofs.SoundLemmas as sound
@@ -166,7 +166,7 @@ module _ (state : State) where
   abbrev from_sums : Option CauseFault
   from_sums = option_or (sum_cause state) from_roles
 
-  pub state_sound : first_cause state ≡ None → IsSound state
+  pub state_sound : first_cause state ≡ None → IsSoundState state
   state_sound e =
       let rows = neither (row_cause state) from_sums e in
       let sums = neither (sum_cause state) from_roles rows.1 in
@@ -196,7 +196,7 @@ module _ (state : State) where
         waiting = waiting_sound state state.waiting (unstated 10 (is_bad_waiting state state.waiting) held.1);
       }
 
-  pub sound_state : IsSound state → first_cause state ≡ None
+  pub sound_state : IsSoundState state → first_cause state ≡ None
   sound_state is =
       let parts = book_parts state.rows state.genesis state.minted state.burned is.book in
       none_due (row_cause state) from_sums (ap (at_place 3) (from_book latest [] state.rows parts.0 is.releases))

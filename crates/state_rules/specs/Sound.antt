@@ -155,7 +155,7 @@ pub record IsNextNumber (due next : ℕ) : Type 0 where
 
 -- Nothing is wrong with the state but for its slashes: a book has its rows and sums, and the other
 -- parts are sound.
-pub record IsSound (state : State) : Type 0 where
+pub record IsSoundState (state : State) : Type 0 where
   pub book : rows_fault state.rows state.genesis state.minted state.burned ≡ None
   pub releases : list_any (is_late (era_before state + bonding_eras_of (params_of state))) state.rows ≡ false
   pub roles : EachIs (IsSoundRole (thresholds_in (params_of state)) state.rows) state.roles
