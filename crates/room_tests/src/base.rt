@@ -1,13 +1,13 @@
 //! One walk through the crate's calls with ample memory, which no contract promises.
 use npos_base::{
-    AccountId, Failed, List, MemorySink, MemorySource, NoMemory, PlainSink, PlainSource, PutFault,
-    ReadSource, Room, Score, Sink, Source, StdinSource, StdoutSink, Watched, WriteSink, laws,
-    part_of, put_all,
+    AccountId, Asked, Failed, List, MemorySink, MemorySource, NoMemory, PlainSink, PlainSource,
+    PutFault, ReadSource, Room, Score, Sink, Source, StdinSource, StdoutSink, Tried, Watched,
+    WriteSink, laws, part_of, put_all,
 };
 use std::alloc::{AllocError, Global};
 use std::test::Fail;
 
-const COUNTED: [u8; 32] = [
+static COUNTED: [u8; 32] = [
     0, 1, 2, 3, 4, 5, 6, 7, 8, 9, 10, 11, 12, 13, 14, 15, 16, 17, 18, 19, 20, 21, 22, 23, 24, 25,
     26, 27, 28, 29, 30, 31,
 ];
@@ -131,4 +131,39 @@ fn readers_and_writers_are_sources_and_sinks(rt: HostRuntime) -> Result<(), Fail
     assert_eq!(rt; StdinSource::new(rt.stdin()).read(&mut []), Ok(0));
     assert_eq!(rt; StdoutSink::new(rt.stdout()).flush(), Ok(()));
     Ok(())
+}
+
+#[test]
+fn calls_behind_the_end_or_a_failure_are_noted(rt: HostRuntime) {
+    let mut asked = Asked::new();
+    asked.gave(8, 0);
+    assert_eq!(rt;
+        asked,
+        Asked {
+            ended: true,
+            late: false,
+            last: 0
+        }
+    );
+    asked.gave(8, 3);
+    assert_eq!(rt;
+        asked,
+        Asked {
+            ended: true,
+            late: true,
+            last: 3
+        }
+    );
+    let mut tried = Tried::new();
+    tried.wrote();
+    tried.failed();
+    tried.flushed();
+    assert_eq!(rt;
+        tried,
+        Tried {
+            failed: true,
+            late: true,
+            flushed: true
+        }
+    );
 }

@@ -11,7 +11,7 @@ fn account(n: u128) -> AccountId {
 
 // A block with two transfers of account 1 to account 2, of 40 and of 61 units, as the stream has
 // it.
-const BLOCK: [u8; 135] = [
+static BLOCK: [u8; 135] = [
     0x01, 0x04, 0x08, // Some, block 1, two calls
     0, 0, 0, 0, 0, 0, 0, 0, 0, 0, 0, 0, 0, 0, 0, 0, 0, 0, 0, 0, 0, 0, 0, 0, 0, 0, 0, 0, 0, 0, 0,
     0x01, // who
@@ -227,7 +227,7 @@ fn fields_of(genesis: Genesis) -> (List<Endowment>, Option<Params>, Option<u32>)
 }
 
 // The seats, the phases, bonding, submissions, and what is paid.
-const FIGURES: [u64; 11] = [2, 20, 2, 3, 4, 1, 5, 6, 7, 8, 9];
+static FIGURES: [u64; 11] = [2, 20, 2, 3, 4, 1, 5, 6, 7, 8, 9];
 
 fn figures_of(params: &Params) -> [u64; 11] {
     [
@@ -263,7 +263,7 @@ fn genesis_fault(alloc: Global, bytes: &[u8]) -> Option<WireFault> {
 }
 
 // Three targets, two voters and a packed solution.
-const PACKED: [u8; 210] = [
+static PACKED: [u8; 210] = [
     0x08, // two seats
     0x0c, // three targets
     0, 0, 0, 0, 0, 0, 0, 0, 0, 0, 0, 0, 0, 0, 0, 0, 0, 0, 0, 0, 0, 0, 0, 0, 0, 0, 0, 0, 0, 0, 0,
@@ -280,7 +280,7 @@ const PACKED: [u8; 210] = [
 ];
 
 // No target, no voter, and the committee [1] with one edge of 100 units from voter 2 to target 1.
-const PLAIN_WORK: [u8; 11] = [
+static PLAIN_WORK: [u8; 11] = [
     0x04, 0, 0, 0x02, // one seat, plain
     0x04, 0x04, // the committee
     0x04, 0x08, 0x04, 0x91, 0x01, // the edge
@@ -320,7 +320,7 @@ fn a_stream_by_pieces(rt: HostRuntime) -> Result<(), Fail> {
             let mut reader = StreamReader::new(rt.alloc());
             let mut places = Vec::new(rt.alloc());
             for piece in stream.chunks(size) {
-                assert!(rt; reader.at() < 300 && reader.held().len() < 300 && piece.len() < 300);
+                assert!(rt; reader.at() < 300 && reader.len() < 300 && piece.len() < 300);
                 reader.feed(piece)?;
                 for _ in 0..3 {
                     take_whole(&mut reader, &mut places)?;
@@ -372,7 +372,7 @@ fn a_cut_genesis_waits(rt: HostRuntime) -> Result<(), Fail> {
             Err(ReadFault::Wire(fault)) => Some(fault),
             _ => None,
         };
-        assert_eq!(rt; (found, reader.held()), (fault, bytes));
+        assert_eq!(rt; (found, reader.len()), (fault, bytes.len()));
     }
     Ok(())
 }

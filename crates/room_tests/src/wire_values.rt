@@ -7,7 +7,7 @@ use std::test::Fail;
 type Sample = (Option<u32>, UpTo<(u16, u16), 2>, BytesUpTo<2>);
 
 // Some(1), the list (1, 2), (3, 4) and the two bytes aa bb.
-const SAMPLE: [u8; 10] = [0x01, 0x04, 0x08, 0x04, 0x08, 0x0c, 0x10, 0x08, 0xaa, 0xbb];
+static SAMPLE: [u8; 10] = [0x01, 0x04, 0x08, 0x04, 0x08, 0x0c, 0x10, 0x08, 0xaa, 0xbb];
 
 // Bytes that are refused as a whole sample, the place and the reason.
 static REFUSED: [(&[u8], u64, Why); 9] = [

@@ -4,7 +4,7 @@ use Rattle.std.proofs.lemmas.List.Elements.{All-nil, All-cons}
 use Rattle.std.specs.List.{IsDistinct}
 use Rattle.npos_base.specs.declared.account.AccountId.{AccountId}
 use Rattle.era_book.specs.declared.exposure.Exposure.{Exposure}
-use Rattle.era_book.specs.Exposures.{IsSound, AreSound}
+use Rattle.era_book.specs.Exposures.{IsSoundExposure, AreSound}
 use Rattle.room_tests.proofs.eras.three.Goals as goal
 
 abbrev at : ℕ → AccountId
@@ -24,9 +24,9 @@ unfolding IsDistinct
 three_sound =
     record {
       each =
-          All-cons IsSound first (second ∷ third ∷ []) (record { commission = lit≤ tt; support = refl; distinct = ((refl, tt), (tt, tt)) })
-          (All-cons IsSound second (third ∷ []) (record { commission = lit≤ tt; support = refl; distinct = (tt, tt) })
-          (All-cons IsSound third [] (record { commission = lit≤ tt; support = refl; distinct = tt }) (All-nil IsSound)));
+          All-cons IsSoundExposure first (second ∷ third ∷ []) (record { commission = lit≤ tt; support = refl; distinct = ((refl, tt), (tt, tt)) })
+          (All-cons IsSoundExposure second (third ∷ []) (record { commission = lit≤ tt; support = refl; distinct = (tt, tt) })
+          (All-cons IsSoundExposure third [] (record { commission = lit≤ tt; support = refl; distinct = tt }) (All-nil IsSoundExposure)));
       distinct = ((refl, (refl, tt)), ((refl, tt), (tt, tt)));
     }
 
