@@ -39,7 +39,7 @@ module _ (slots : List ℕ) (count : ℕ) (crowd : List (AccountId × ℕ)) (acc
         taken = taken_still (slot_in count q) other m.taken;
       },
     )
-    before_slot q p (inr (taken, there)) = inr (taken_still (slot_in count q) (slot_in count q + 4) taken, there)
+    before_slot q p (inr there) = inr there
 
     mine : IsMarked (slice_set slots slot (place + 1)) (slot_in count who) place slot
     mine = record {
@@ -61,12 +61,12 @@ module _ (slots : List ℕ) (count : ℕ) (crowd : List (AccountId × ℕ)) (acc
     }
 
   -- or joins the crowd
-  pub finds_crowd : StandOnce accounts → AreTaken slots (slot_in count who) (slot_in count who + 4) → Finds slots count (insert_entry account_cmp crowd who place) accounts (place + 1)
-  finds_crowd alone taken = record {
+  pub finds_crowd : StandOnce accounts → Finds slots count (insert_entry account_cmp crowd who place) accounts (place + 1)
+  finds_crowd alone = record {
     found = λ q p lt at. elim (cases_eq p place) [
       | inl same ↦
           let one : q ≡ who = same_Some q who (sym at ∙ ap (slice_get accounts) same ∙ here) in
-          subst (λ a. IsFound slots (slot_in count a) (insert_entry account_cmp crowd who place) a p) (sym one) (inr (taken, lookup_put account_total who place crowd ∙ ap (λ n. Some n) (sym same)))
+          subst (λ a. IsFound slots (slot_in count a) (insert_entry account_cmp crowd who place) a p) (sym one) (inr (lookup_put account_total who place crowd ∙ ap (λ n. Some n) (sym same)))
       | inr differs ↦ before q p (λ e. differs (alone q p place at (here ∙ ap (λ a. Some a) (sym e)))) (finds.found q p (omega (arith, lt, differs)) at)
     ];
     standing = λ q p there. put_cases crowd who q place p there (slice_get accounts p ≡ Some q)
@@ -75,7 +75,7 @@ module _ (slots : List ℕ) (count : ℕ) (crowd : List (AccountId × ℕ)) (acc
   } where
     before : (q : AccountId) (p : ℕ) → q ≢ who → IsFound slots (slot_in count q) crowd q p → IsFound slots (slot_in count q) (insert_entry account_cmp crowd who place) q p
     before q p differ (inl mark) = inl mark
-    before q p differ (inr (taken, there)) = inr (taken, lookup_other account_total who place q crowd (account_apart q who differ) ∙ there)
+    before q p differ (inr there) = inr (lookup_other account_total who place q crowd (account_apart q who differ) ∙ there)
 
 -- who is found among some accounts is found where one more stands behind them
 pub finds_before : (slots : List ℕ) (count : ℕ) (crowd : List (AccountId × ℕ)) (accounts : List AccountId) (who : AccountId) → Finds slots count crowd accounts (length accounts)

@@ -34,11 +34,11 @@ pub record IsMarked (slots : List ℕ) (first place slot : ℕ) : Type 0 where
   pub mark : mark_at slots slot ≡ place + 1
   pub taken : AreTaken slots first slot
 
--- a slot of the account has the mark of its place, or all are taken and the account is in the crowd
+-- a slot of the account has the mark of its place, or the account is in the crowd
 abbrev pub IsFound : List ℕ → ℕ → List (AccountId × ℕ) → AccountId → ℕ → Type 0
 IsFound slots first crowd who place =
     ((slot : ℕ) × IsMarked slots first place slot)
-    ⊎ (AreTaken slots first (first + 4) × (place_in crowd who ≡ Some place))
+    ⊎ (place_in crowd who ≡ Some place)
 
 -- each account at a place below the limit is found, and who is in the crowd stands where it says
 pub record Finds (slots : List ℕ) (count : ℕ) (crowd : List (AccountId × ℕ)) (accounts : List AccountId)

@@ -11,15 +11,12 @@ use std::collections::BTreeMap;
 /// The fewest slots at which a search may begin, where there are any.
 const LEAST_SLOTS: usize = 256;
 
-/// More places than this are not marked.
-const MOST_PLACES: usize = 0xffff_ffff;
-
 /// An account marks its place in one of so many slots, of which its bytes choose the first.
 const TRIES: usize = 4;
 
 /// An account marks its place in the first of its slots that is free. An account that finds all of
-/// them taken is in the crowd, which is searched by its order: so no choice of accounts makes a
-/// search long.
+/// them taken, or whose place has no mark of 32 bits, is in the crowd, which is searched by its
+/// order: so no choice of accounts makes a search long.
 #[derive(Drop)]
 pub(crate) struct Index {
     // the place after that of the account that came first to the slot, or 0
@@ -59,6 +56,13 @@ pub(crate) fn stands_at(accounts: &[AccountId], place: usize, who: AccountId) ->
         Some(account) => *account == who,
         None => false,
     }
+}
+
+/// The mark of a place, where 32 bits hold it.
+fn mark_of(place: usize) -> Option<u32>
+    ensures { IfSome result (λ mark. mark ≡ place + 1) }
+{
+    u32::try_from(place).ok()?.checked_add(1)
 }
 
 impl Index {
@@ -112,10 +116,8 @@ impl Index {
 
     /// The first of the account's slots that has no mark.
     fn free_slot(&self, who: AccountId) -> Option<usize>
-        ensures some { IfSome result (λ slot. IsFree self.now.slots.items
+        ensures { IfSome result (λ slot. IsFree self.now.slots.items
             (slot_in self.now.count who) slot) }
-        ensures none { IfNone result (AreTaken self.now.slots.items (slot_in self.now.count who)
-            (slot_in self.now.count who + 4)) }
     {
         let first = slot_of(who, self.count);
         for slot in first..first + TRIES {
@@ -137,11 +139,8 @@ impl Index {
             × (self.new.count ≡ self.old.count)
             × (self.new.crowd.entries ≡ self.old.crowd.entries)) }
     {
-        if place >= MOST_PLACES {
-            return Err(NoMemory);
-        }
-        if let Some(slot) = self.free_slot(who) {
-            self.slots[slot] = place as u32 + 1;
+        if let (Some(slot), Some(mark)) = (self.free_slot(who), mark_of(place)) {
+            self.slots[slot] = mark;
             return Ok(());
         }
         self.crowd.insert(who, place)?;
@@ -159,7 +158,7 @@ impl Index {
         for slot in first..first + TRIES {
             let mark = self.mark(slot);
             if mark == 0 {
-                return None;
+                break;
             }
             if stands_at(accounts, mark - 1, who) {
                 return Some(mark - 1);

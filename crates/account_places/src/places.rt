@@ -1,5 +1,5 @@
 //! Where accounts stand: each account that comes has the next place.
-ghost use Rattle.std.specs.Prelude.{◌≡◌, ◌<◌, [], ◌∷◌, ◌++◌, None, Some, OnErr, OnOk, IfOk, length, slice_get, count_by};
+ghost use Rattle.std.specs.Prelude.{◌≡◌, ◌<◌, ◌^◌, [], ◌∷◌, ◌++◌, None, Some, OnErr, OnOk, IfOk, length, slice_get, count_by};
 ghost use Rattle.std.specs.Map.{keys_of};
 ghost use Rattle.std.specs.Ordering.{is_lt};
 ghost use Rattle.std.specs.BTreeMap.{insert_entry};
@@ -68,9 +68,10 @@ impl Places {
         self.find(who)
     }
 
-    /// How many accounts have a place.
+    /// How many accounts have a place: fewer than memory has bytes.
     pub fn count(&self) -> usize
-        ensures { result ≡ length self.now }
+        ensures count { result ≡ length self.now }
+        ensures small { result < 2 ^ 63 }
     {
         self.accounts.len()
     }

@@ -17,4 +17,5 @@ pub use block::Block;
 pub use bundle::{Bundle, BundleVoter, Work};
 pub use call::{Call, CallKind};
 pub use genesis::{Endowment, Genesis, Params};
+pub use limits::{MOST_NAMED, MOST_VOTES};
 pub use stream::{Next, StreamReader};

@@ -11,8 +11,9 @@ pub(crate) const GENESES: u8 = 3;
 /// Calls of a block.
 pub(crate) const MOST_CALLS: u32 = 64;
 
-/// Accounts that one call names, of which the chain takes fewer.
-pub(crate) const MOST_NAMED: u32 = 64;
+/// Accounts that one call names, and that a nominator of a state does, of which the chain takes
+/// fewer.
+pub const MOST_NAMED: u32 = 64;
 
 /// Members that one call gives points to.
 pub(crate) const MOST_POINTS: u32 = 512;
@@ -24,7 +25,7 @@ pub(crate) const MOST_TARGETS: u32 = npos_base::MOST_TARGETS as u32;
 pub(crate) const MOST_VOTERS: u32 = npos_base::MOST_VOTERS as u32;
 
 /// Votes of one voter of a bundle, of which an election takes fewer.
-pub(crate) const MOST_VOTES: u32 = 64;
+pub const MOST_VOTES: u32 = 64;
 
 /// Edges of plain work.
 pub(crate) const MOST_EDGES: u32 = npos_base::MOST_EDGES as u32;

@@ -57,15 +57,15 @@ AreSound None = Unit {0}
 AreSound (Some params) = params_fault params ≡ None
 
 -- the number and the detail of a fault, as they are printed; want of memory has none
-abbrev pub fault_numbers : GenesisFault → ℕ × ℕ
-fault_numbers (RepeatedAccount place) = (1, place)
-fault_numbers (TooMuch place) = (2, place)
-fault_numbers (BadSeats seats) = (3, seats)
-fault_numbers (BadPhases era_blocks) = (4, era_blocks)
-fault_numbers (BadBonding eras) = (5, eras)
-fault_numbers BadMinimum = (6, 0)
-fault_numbers (BadThreshold place) = (7, place)
-fault_numbers (BadQueue queue) = (8, queue)
-fault_numbers (BadSolutionMax most) = (9, most)
-fault_numbers (BadDefer eras) = (10, eras)
-fault_numbers NoMemory = (0, 0)
+abbrev pub fault_numbers : GenesisFault → Option (ℕ × ℕ)
+fault_numbers (RepeatedAccount place) = Some (1, place)
+fault_numbers (TooMuch place) = Some (2, place)
+fault_numbers (BadSeats seats) = Some (3, seats)
+fault_numbers (BadPhases era_blocks) = Some (4, era_blocks)
+fault_numbers (BadBonding eras) = Some (5, eras)
+fault_numbers BadMinimum = Some (6, 0)
+fault_numbers (BadThreshold place) = Some (7, place)
+fault_numbers (BadQueue queue) = Some (8, queue)
+fault_numbers (BadSolutionMax most) = Some (9, most)
+fault_numbers (BadDefer eras) = Some (10, eras)
+fault_numbers NoMemory = None

@@ -35,39 +35,23 @@ pub enum GenesisFault {
 }
 
 impl GenesisFault {
-    /// The number of the fault, as it is printed; 0 for want of memory, which is not printed.
-    pub fn number(&self) -> u8
-        ensures { result ≡ (fault_numbers self.now).0 }
+    /// The number of the fault and its detail, as they are printed; none for want of memory, which
+    /// is not printed.
+    pub fn numbers(&self) -> Option<(u8, u32)>
+        ensures { result ≡ fault_numbers self.now }
     {
-        match self {
-            GenesisFault::RepeatedAccount(_) => 1,
-            GenesisFault::TooMuch(_) => 2,
-            GenesisFault::BadSeats(_) => 3,
-            GenesisFault::BadPhases(_) => 4,
-            GenesisFault::BadBonding(_) => 5,
-            GenesisFault::BadMinimum => 6,
-            GenesisFault::BadThreshold(_) => 7,
-            GenesisFault::BadQueue(_) => 8,
-            GenesisFault::BadSolutionMax(_) => 9,
-            GenesisFault::BadDefer(_) => 10,
-            GenesisFault::NoMemory => 0,
-        }
-    }
-
-    /// The detail that is printed behind the number.
-    pub fn detail(&self) -> u32
-        ensures { result ≡ (fault_numbers self.now).1 }
-    {
-        match self {
-            GenesisFault::RepeatedAccount(place)
-            | GenesisFault::TooMuch(place)
-            | GenesisFault::BadThreshold(place) => *place,
-            GenesisFault::BadSeats(seats) => *seats,
-            GenesisFault::BadPhases(era_blocks) => *era_blocks,
-            GenesisFault::BadBonding(eras) | GenesisFault::BadDefer(eras) => *eras,
-            GenesisFault::BadQueue(queue) => *queue,
-            GenesisFault::BadSolutionMax(most) => *most,
-            GenesisFault::BadMinimum | GenesisFault::NoMemory => 0,
+        match *self {
+            GenesisFault::RepeatedAccount(place) => Some((1, place)),
+            GenesisFault::TooMuch(place) => Some((2, place)),
+            GenesisFault::BadSeats(seats) => Some((3, seats)),
+            GenesisFault::BadPhases(era_blocks) => Some((4, era_blocks)),
+            GenesisFault::BadBonding(eras) => Some((5, eras)),
+            GenesisFault::BadMinimum => Some((6, 0)),
+            GenesisFault::BadThreshold(place) => Some((7, place)),
+            GenesisFault::BadQueue(queue) => Some((8, queue)),
+            GenesisFault::BadSolutionMax(most) => Some((9, most)),
+            GenesisFault::BadDefer(eras) => Some((10, eras)),
+            GenesisFault::NoMemory => None,
         }
     }
 }

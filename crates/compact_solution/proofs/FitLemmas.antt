@@ -13,8 +13,9 @@ use Rattle.std.proofs.lemmas.Bool.{cases_lt}
 use Rattle.std.proofs.lemmas.Bool.Decides.{nat_tests, eqb_tells}
 use Rattle.npos_base.specs.declared.figures.Edge.{Edge}
 use Rattle.npos_base.specs.declared.limits.TheConstants.{MOST_NOMINATIONS}
+use Rattle.npos_base.specs.Edge.{edges_from}
 use Rattle.compact_solution.specs.Solution.{Entry, share_form, entry_form, group_form, groups_form}
-use Rattle.compact_solution.specs.Packing.{choice_of, chosen_from, choices_of, chosen, kept_of, kept_at, edges_of, stake_at, parts_in, has_part, by_target, placed, greater, greatest, share_of, entry_of, entries_with, grouped, IsPackable}
+use Rattle.compact_solution.specs.Packing.{choice_of, chosen_from, choices_of, chosen, kept_of, kept_at, stake_at, parts_in, has_part, by_target, placed, greater, greatest, share_of, entry_of, entries_with, grouped, IsPackable}
 use Rattle.compact_solution.specs.Choosing.{Fits, AllFit, AllKeptFit, no_choice}
 use Rattle.compact_solution.proofs.PackLemmas.{choices_many}
 use Rattle.compact_solution.proofs.GroupLemmas.{many_groups}
@@ -115,15 +116,15 @@ few_chosen stake edges = by (by_target (filter (has_part stake) edges)) (greates
 -- ## Every edge fits its stake
 
 amount_within : (voter : ℕ) (edges : List Edge) (i : ℕ) (d : Edge) → i < length edges → (get_or edges i d).voter ≡ voter
-    → (get_or edges i d).amount ≤ sum_by (λ (edge : Edge). edge.amount) (edges_of edges voter)
+    → (get_or edges i d).amount ≤ sum_by (λ (edge : Edge). edge.amount) (edges_from edges voter)
 amount_within voter [] i d h own = absurd (omega (arith, h))
 amount_within voter (edge ∷ edges) zero d h own =
     let test : nat_eq edge.voter voter ≡ true = grind (arith, nat_tests, own) in
-    rw test (omega (arith, sum_by-cons (λ (edge : Edge). edge.amount) edge (edges_of edges voter)))
+    rw test (omega (arith, sum_by-cons (λ (edge : Edge). edge.amount) edge (edges_from edges voter)))
 amount_within voter (edge ∷ edges) (suc i) d h own = at (nat_eq edge.voter voter) (amount_within voter edges i d (omega (arith, h)) own) where
-  at : (b : Bool) → (get_or edges i d).amount ≤ sum_by (λ (edge : Edge). edge.amount) (edges_of edges voter)
-      → (get_or edges i d).amount ≤ sum_by (λ (edge : Edge). edge.amount) (cond b (edge ∷ edges_of edges voter) (edges_of edges voter))
-  at true within = omega (arith, within, sum_by-cons (λ (edge : Edge). edge.amount) edge (edges_of edges voter))
+  at : (b : Bool) → (get_or edges i d).amount ≤ sum_by (λ (edge : Edge). edge.amount) (edges_from edges voter)
+      → (get_or edges i d).amount ≤ sum_by (λ (edge : Edge). edge.amount) (cond b (edge ∷ edges_from edges voter) (edges_from edges voter))
+  at true within = omega (arith, within, sum_by-cons (λ (edge : Edge). edge.amount) edge (edges_from edges voter))
   at false within = within
 
 module _ (stakes committee : List ℕ) (edges : List Edge) (fit : IsPackable stakes committee edges) where
@@ -139,14 +140,14 @@ module _ (stakes committee : List ℕ) (edges : List Edge) (fit : IsPackable sta
   all_fit i d h = fits_at i d h
 
   -- the edges of a voter fit its stake
-  own_fit : (voter : ℕ) → All (Fits (stake_at stakes voter)) (edges_of edges voter)
+  own_fit : (voter : ℕ) → All (Fits (stake_at stakes voter)) (edges_from edges voter)
   own_fit voter = few edges all_fit where
-    few : (edges : List Edge) → AllFit stakes edges → All (Fits (stake_at stakes voter)) (edges_of edges voter)
+    few : (edges : List Edge) → AllFit stakes edges → All (Fits (stake_at stakes voter)) (edges_from edges voter)
     few [] all = λ k d lt. absurd (omega (arith, lt))
     few (edge ∷ edges) all = elim (eqb_tells edge.voter voter) [
       | inl own ↦
           (let test : nat_eq edge.voter voter ≡ true = grind (arith, nat_tests, own.1) in
-          rw test (All-cons (Fits (stake_at stakes voter)) edge (edges_of edges voter)
+          rw test (All-cons (Fits (stake_at stakes voter)) edge (edges_from edges voter)
           (subst (λ (n : ℕ). Fits (stake_at stakes n) edge) own.1 (All-head (λ (edge : Edge). Fits (stake_at stakes edge.voter) edge) edge edges all))
           (few edges (All-tail (λ (edge : Edge). Fits (stake_at stakes edge.voter) edge) edge edges all))))
       | inr other ↦
@@ -157,21 +158,21 @@ module _ (stakes committee : List ℕ) (edges : List Edge) (fit : IsPackable sta
   pub many_kept : length (kept_of stakes edges) ≡ length stakes
   many_kept = length-map (choices_of stakes edges) chosen ∙ choices_many stakes edges
 
-  kept_is : (voter : ℕ) (d : List Edge) → voter < length stakes → get_or (kept_of stakes edges) voter d ≡ chosen (choice_of (stake_at stakes voter) (edges_of edges voter))
+  kept_is : (voter : ℕ) (d : List Edge) → voter < length stakes → get_or (kept_of stakes edges) voter d ≡ chosen (choice_of (stake_at stakes voter) (edges_from edges voter))
   kept_is voter d h =
       get_or_default (kept_of stakes edges) voter d (chosen no_choice) (omega (arith, h, many_kept))
       ∙ (get_or-map chosen (choices_of stakes edges) voter no_choice
-      ∙ ap chosen (get_or-map-range_with_len (λ (v : ℕ). choice_of (stake_at stakes v) (edges_of edges v)) 0 (length stakes) voter voter no_choice h (zero-add voter)))
+      ∙ ap chosen (get_or-map-range_with_len (λ (v : ℕ). choice_of (stake_at stakes v) (edges_from edges v)) 0 (length stakes) voter voter no_choice h (zero-add voter)))
 
   pub few_kept : All (λ (own : List Edge). length own ≤ MOST_NOMINATIONS) (kept_of stakes edges)
   few_kept voter d h =
       let short : voter < length stakes = omega (arith, h, many_kept) in
-      omega (arith, ap length (kept_is voter d short), few_chosen (stake_at stakes voter) (edges_of edges voter), fit.few_edges voter)
+      omega (arith, ap length (kept_is voter d short), few_chosen (stake_at stakes voter) (edges_from edges voter), fit.few_edges voter)
 
   pub kept_fit : AllKeptFit stakes (kept_of stakes edges)
   kept_fit voter h =
       subst (λ (own : List Edge). All (Fits (stake_at stakes voter)) own) (sym (kept_is voter [] h))
-      (all_chosen (Fits (stake_at stakes voter)) (stake_at stakes voter) (edges_of edges voter) (own_fit voter))
+      (all_chosen (Fits (stake_at stakes voter)) (stake_at stakes voter) (edges_from edges voter) (own_fit voter))
 
   -- ## A packed solution can be spelled
 
@@ -190,7 +191,7 @@ module _ (stakes committee : List ℕ) (edges : List Edge) (fit : IsPackable sta
     small_kept : (voter : ℕ) → voter < length stakes → All (λ (edge : Edge). edge.target < 65536) (kept_at (kept_of stakes edges) voter)
     small_kept voter h =
         subst (λ (own : List Edge). All (λ (edge : Edge). edge.target < 65536) own) (sym (kept_is voter [] h))
-        (all_chosen (λ (edge : Edge). edge.target < 65536) (stake_at stakes voter) (edges_of edges voter) (All-filter (λ (edge : Edge). nat_eq edge.voter voter) (λ edge. edge.target < 65536) edges small_targets))
+        (all_chosen (λ (edge : Edge). edge.target < 65536) (stake_at stakes voter) (edges_from edges voter) (All-filter (λ (edge : Edge). nat_eq edge.voter voter) (λ edge. edge.target < 65536) edges small_targets))
 
     shares_fit : (stake : ℕ) (own : List Edge) → All (Fits stake) own → All (λ (edge : Edge). edge.target < 65536) own → AllByRecursion share_form.in_range (map (share_of stake) own)
     shares_fit stake [] fits small = tt

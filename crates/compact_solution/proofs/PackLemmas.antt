@@ -10,7 +10,8 @@ use Rattle.std.proofs.lemmas.List.Folds.{list_any_more}
 use Rattle.std.proofs.lemmas.List.FromFn.{map-range_with_len_more, get_or-map-range_with_len, length-map-range_with_len}
 use Rattle.std.proofs.lemmas.Bool.Decides.{nat_tests, eqb_tells}
 use Rattle.npos_base.specs.declared.figures.Edge.{Edge}
-use Rattle.compact_solution.specs.Packing.{Choice, choice_of, choices_of, edges_of, stake_at, has_part, by_target, placed, greater, leads_to, is_kept, lower, lowest_where, lost_among}
+use Rattle.npos_base.specs.Edge.{edges_from}
+use Rattle.compact_solution.specs.Packing.{Choice, choice_of, choices_of, stake_at, has_part, by_target, placed, greater, leads_to, is_kept, lower, lowest_where, lost_among}
 use Rattle.compact_solution.specs.Choosing.{no_choice, no_choices, chosen_next, AreKeptMarks}
 
 pub choices_more : (n : ℕ) → no_choices (n + 1) ≡ no_choices n ++ no_choice ∷ []
@@ -31,19 +32,19 @@ choice_more stake edges edge =
       at false = ap by_target (append-nil (filter (has_part stake) edges))
 
 pub choices_many : (stakes : List ℕ) (edges : List Edge) → length (choices_of stakes edges) ≡ length stakes
-choices_many stakes edges = length-map-range_with_len (λ (v : ℕ). choice_of (stake_at stakes v) (edges_of edges v)) 0 (length stakes)
+choices_many stakes edges = length-map-range_with_len (λ (v : ℕ). choice_of (stake_at stakes v) (edges_from edges v)) 0 (length stakes)
 
 module _ (stakes : List ℕ) (edges : List Edge) (i : ℕ) (d : Edge) (h : i < length edges) where
   -- an edge more is one more of its voter's
   abbrev own : ℕ → Bool
   own voter = nat_eq (get_or edges i d).voter voter
 
-  edges_more : (voter : ℕ) → edges_of (take (i + 1) edges) voter ≡ edges_of (take i edges) voter ++ cond (own voter) (get_or edges i d ∷ []) []
+  edges_more : (voter : ℕ) → edges_from (take (i + 1) edges) voter ≡ edges_from (take i edges) voter ++ cond (own voter) (get_or edges i d ∷ []) []
   edges_more voter = filter_more (λ (edge : Edge). nat_eq edge.voter voter) edges i d h
 
-  choice_at : (voter : ℕ) (given : List Edge) (e : Choice) → voter < length stakes → get_or (choices_of stakes given) voter e ≡ choice_of (stake_at stakes voter) (edges_of given voter)
+  choice_at : (voter : ℕ) (given : List Edge) (e : Choice) → voter < length stakes → get_or (choices_of stakes given) voter e ≡ choice_of (stake_at stakes voter) (edges_from given voter)
   choice_at voter given e within =
-      get_or-map-range_with_len (λ (v : ℕ). choice_of (stake_at stakes v) (edges_of given v)) 0 (length stakes) voter voter e within (zero-add voter)
+      get_or-map-range_with_len (λ (v : ℕ). choice_of (stake_at stakes v) (edges_from given v)) 0 (length stakes) voter voter e within (zero-add voter)
 
   many : (given : List Edge) → length (choices_of stakes given) ≡ length stakes
   many given = choices_many stakes given
@@ -65,24 +66,24 @@ module _ (stakes : List ℕ) (edges : List Edge) (i : ℕ) (d : Edge) (h : i < l
         test_here : nat_eq (get_or edges i d).voter voter ≡ true
         test_here = grind (arith, nat_tests, is)
 
-        grown : (b : Bool) (k : ℕ) → own k ≡ b → edges_of (take (i + 1) edges) k ≡ edges_of (take i edges) k ++ cond b (get_or edges i d ∷ []) []
-        grown b k e = edges_more k ∙ ap (λ (c : Bool). edges_of (take i edges) k ++ cond c (get_or edges i d ∷ []) []) e
+        grown : (b : Bool) (k : ℕ) → own k ≡ b → edges_from (take (i + 1) edges) k ≡ edges_from (take i edges) k ++ cond b (get_or edges i d ∷ []) []
+        grown b k e = edges_more k ∙ ap (λ (c : Bool). edges_from (take i edges) k ++ cond c (get_or edges i d ∷ []) []) e
 
-        at_here : (k : ℕ) (e : Choice) → k ≡ voter → get_or (slice_set old voter new) k e ≡ choice_of (stake_at stakes k) (edges_of (take (i + 1) edges) k)
+        at_here : (k : ℕ) (e : Choice) → k ≡ voter → get_or (slice_set old voter new) k e ≡ choice_of (stake_at stakes k) (edges_from (take (i + 1) edges) k)
         at_here k e same =
             ap (λ (n : ℕ). get_or (slice_set old voter new) n e) same
             ∙ (get_or-set_same old voter new e (omega (arith, within, many (take i edges)))
             ∙ (new_is ∙ (ap (λ (c : Choice). chosen_next (stake_at stakes voter) c (get_or edges i d)) (choice_at voter (take i edges) no_choice within)
-            ∙ (sym (choice_more (stake_at stakes voter) (edges_of (take i edges) voter) (get_or edges i d))
+            ∙ (sym (choice_more (stake_at stakes voter) (edges_from (take i edges) voter) (get_or edges i d))
             ∙ (sym (ap (choice_of (stake_at stakes voter)) (grown true voter test_here))
-            ∙ ap (λ (n : ℕ). choice_of (stake_at stakes n) (edges_of (take (i + 1) edges) n)) (sym same))))))
+            ∙ ap (λ (n : ℕ). choice_of (stake_at stakes n) (edges_from (take (i + 1) edges) n)) (sym same))))))
 
-        at_other : (k : ℕ) (e : Choice) → k < length stakes → k ≢ voter → get_or (slice_set old voter new) k e ≡ choice_of (stake_at stakes k) (edges_of (take (i + 1) edges) k)
+        at_other : (k : ℕ) (e : Choice) → k < length stakes → k ≢ voter → get_or (slice_set old voter new) k e ≡ choice_of (stake_at stakes k) (edges_from (take (i + 1) edges) k)
         at_other k e short differ =
             let test : own k ≡ false = grind (arith, nat_tests, is, differ) in
             get_or-set_other old voter k new e differ
             ∙ (choice_at k (take i edges) e short
-            ∙ ap (choice_of (stake_at stakes k)) (sym (grown false k test ∙ append-nil (edges_of (take i edges) k))))
+            ∙ ap (choice_of (stake_at stakes k)) (sym (grown false k test ∙ append-nil (edges_from (take i edges) k))))
 
 -- ## Placing
 

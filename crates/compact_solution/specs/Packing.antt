@@ -3,16 +3,12 @@
 use Rattle.std.specs.Prelude.{ℕ, ◌+◌, ◌-◌, ◌*◌, ◌/◌, ◌<◌, ◌≤◌, ◌&&◌, Bool, not, nat_eq, nat_lt, nat_le, IsTrue, if◌then◌else◌, min, List, [], ◌∷◌, length, map, filter, take, fold, sum_by, All, slice_index_or, Option, Some, None, option_to_list, Result, Ok, Err}
 use Rattle.std.specs.List.{list_all, list_any, range_with_len, IsDistinct}
 use Rattle.npos_base.specs.declared.figures.Edge.{Edge}
-pub use Rattle.npos_base.specs.Edge.{same_pair}
+pub use Rattle.npos_base.specs.Edge.{same_pair, edges_from}
 use Rattle.npos_base.specs.declared.limits.TheConstants.{MOST_NOMINATIONS, MOST_VOTERS}
 use Rattle.compact_solution.specs.declared.entry.Share.{Share}
 use Rattle.compact_solution.specs.Solution.{Entry, plain_groups, groups_in, whole_stake}
 
 -- ## What a voter keeps
-
--- the edges of a voter, as they are listed
-abbrev pub edges_of : List Edge → ℕ → List Edge
-edges_of edges voter = filter (λ edge. nat_eq edge.voter voter) edges
 
 abbrev pub stake_at : List ℕ → ℕ → ℕ
 stake_at stakes voter = slice_index_or stakes voter 0
@@ -64,7 +60,7 @@ chosen choice = chosen_from choice.with_part choice.greatest
 -- what there is to choose from, by voter
 abbrev pub choices_of : List ℕ → List Edge → List Choice
 choices_of stakes edges =
-    map (λ voter. choice_of (stake_at stakes voter) (edges_of edges voter)) (range_with_len 0 (length stakes))
+    map (λ voter. choice_of (stake_at stakes voter) (edges_from edges voter)) (range_with_len 0 (length stakes))
 
 -- the edges that are kept, by voter
 abbrev pub kept_of : List ℕ → List Edge → List (List Edge)
@@ -155,6 +151,6 @@ pub record IsPackable (stakes committee : List ℕ) (edges : List Edge) : Type 0
   pub pairs_distinct : IsDistinct same_pair edges
   pub to_members : All (λ edge. IsTrue (list_any (λ member. nat_eq member edge.target) committee)) edges
   pub above : All (λ edge. 0 < edge.amount) edges
-  pub few_edges : (voter : ℕ) → length (edges_of edges voter) ≤ MOST_NOMINATIONS
+  pub few_edges : (voter : ℕ) → length (edges_from edges voter) ≤ MOST_NOMINATIONS
   pub within : (voter : ℕ) → voter < length stakes
-      → sum_by (λ edge. edge.amount) (edges_of edges voter) ≤ stake_at stakes voter
+      → sum_by (λ edge. edge.amount) (edges_from edges voter) ≤ stake_at stakes voter

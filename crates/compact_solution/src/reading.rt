@@ -1,5 +1,5 @@
 //! Reading the groups of a solution.
-ghost use Rattle.std.specs.Prelude.{◌≡◌, ◌<◌, ◌≤◌, ◌+◌, ◌*◌, ◌/◌, min};
+ghost use Rattle.std.specs.Prelude.{◌≡◌, ◌<◌, ◌≤◌, ◌+◌, ◌*◌, ◌/◌, [], min, vec_capacity, IfOk};
 ghost use Rattle.scale_wire.specs.Marked.{begins_with};
 ghost use Rattle.scale_wire.specs.Composite.{items as items_of};
 ghost use Rattle.scale_wire.specs.Reading.{Takes, Reads};
@@ -7,7 +7,7 @@ ghost use Rattle.compact_solution.specs.Solution.{share_form, entry_form, group_
 ghost use Rattle.compact_solution.specs.Widths.{behind_mark};
 
 use crate::entry::{Entry, Share, WIDE_MARK, groups_in};
-use npos_base::{List, MOST_NOMINATIONS, MOST_VOTERS};
+use npos_base::{List, MOST_NOMINATIONS, MOST_VOTERS, NoMemory};
 use scale_wire::Cursor;
 use scale_wire::fault::{ReadFault, WireFault};
 use std::alloc::Global;
@@ -94,14 +94,18 @@ fn read_entries(
     }
 }
 
-// How many of so many entries the bytes left can hold, at a byte for each number: an entry with
-// this many shares has the voter, a target and a share each, and the last target.
-fn room_for(count: u32, left: usize, shares: usize) -> usize
+// Room for as many of so many entries as the bytes left can hold, at a byte for each number: an
+// entry with this many shares has the voter, a target and a share each, and the last target.
+fn room_for(alloc: Global, count: u32, left: usize, shares: usize) -> Result<Vec<Entry>, NoMemory>
     requires { shares < MOST_NOMINATIONS }
-    ensures held { 2 * result ≤ left }
-    ensures room { result ≡ min (left / (2 * shares + 2)) count }
+    ensures held { IfOk result (λ entries. 2 * vec_capacity entries ≤ left) }
+    ensures room { IfOk result (λ entries.
+        vec_capacity entries ≡ min (left / (2 * shares + 2)) count) }
+    ensures empty { IfOk result (λ entries. entries.items ≡ []) }
 {
-    (left / (2 * shares + 2)).min(count as usize)
+    let room = (left / (2 * shares + 2)).min(count as usize);
+    let entries = Vec::with_capacity(alloc, room)?;
+    Ok(entries)
 }
 
 // This many entries of a single target. Room is made at once for those that the bytes left can
@@ -116,8 +120,7 @@ fn read_singles(
     ensures { Reads (items_of (entry_form 0) count) cursor.old result cursor.new }
 {
     let mut here = cursor.fork();
-    let room = room_for(count, here.rest().len(), 0);
-    let mut entries = Vec::with_capacity(alloc, room)?;
+    let mut entries = room_for(alloc, count, here.rest().len(), 0)?;
     for _ in 0..count {
         entries.push_reserved(take_single(alloc, &mut here)?);
     }
@@ -147,8 +150,7 @@ fn read_shared(
     ensures { Reads (items_of (entry_form shares) count) cursor.old result cursor.new }
 {
     let mut here = cursor.fork();
-    let room = room_for(count, here.rest().len(), shares);
-    let mut entries = Vec::with_capacity(alloc, room)?;
+    let mut entries = room_for(alloc, count, here.rest().len(), shares)?;
     for _ in 0..count {
         entries.push(read_entry(alloc, &mut here, shares)?)?;
     }

@@ -1,12 +1,11 @@
 //! The election that a seed generates.
-ghost use Rattle.std.specs.Prelude.{◌≡◌, ◌++◌, [], ◌∷◌, ◌<◌, ◌≤◌, None, IfOk, OnOk};
-ghost use Rattle.election_snapshot.specs.Draft.{target_fault, with_target};
+ghost use Rattle.std.specs.Prelude.{◌≡◌, ◌++◌, [], ◌∷◌, ◌<◌, ◌≤◌, IfOk, OnOk};
 ghost use Rattle.demo_election.specs.Generated.{state_after, targets_of, voter_from, voters_of, votes_round, generated};
 ghost use Rattle.demo_election.specs.Begun.{IsBegun};
 ghost use Rattle.npos_base.specs.declared.limits.TheConstants.{MOST_SEATS, MOST_TARGETS, MOST_VOTERS};
 
 use crate::generator::draw;
-use election_snapshot::{Snapshot, SnapshotFault, SnapshotParts};
+use election_snapshot::{Snapshot, SnapshotParts};
 use npos_base::{AccountId, NoMemory};
 use std::alloc::Global;
 
@@ -17,18 +16,6 @@ const TARGETS_A_SEAT: u32 = 4;
 const MOST_DRAWN: u32 = 16;
 /// The least stake of a voter, in units; the greatest is below twice as much.
 const LEAST_STAKE: u64 = 1_000_000;
-
-/// Adds a target that has no fault.
-fn add_target(parts: &mut SnapshotParts, who: AccountId) -> Result<(), NoMemory>
-    requires { target_fault parts.old who ≡ None }
-    ensures { OnOk result (parts.new ≡ with_target parts.old who) }
-{
-    match parts.add_target(who) {
-        Ok(()) => Ok(()),
-        Err(SnapshotFault::NoMemory) => Err(NoMemory),
-        Err(_) => unreachable!(),
-    }
-}
 
 /// So many targets.
 #[tactic(auto, using(crate::proofs::DraftLemmas::target_is_free, crate::proofs::DraftLemmas::targets_more))]
@@ -42,7 +29,7 @@ fn with_targets(alloc: Global, count: u32) -> Result<SnapshotParts, NoMemory>
             hi: 0,
             lo: u128::from(place) + 1,
         };
-        add_target(&mut parts, who)?;
+        parts.put_target(who)?;
     }
     Ok(parts)
 }

@@ -9,11 +9,12 @@ use Rattle.std.proofs.lemmas.List.Elements.{All-cons, All-nil, All-map, All-take
 use Rattle.std.proofs.lemmas.List.Folds.{list_any_none}
 use Rattle.std.proofs.lemmas.List.Sums.{sum_by-cons, sum_by_more, sum-map}
 use Rattle.npos_base.specs.declared.figures.Edge.{Edge}
+use Rattle.npos_base.specs.Edge.{edges_from}
 use Rattle.weight_book.specs.Weights.{same_pair, amount_sum}
 use Rattle.weight_book.proofs.SumLemmas.{sum_filter-le}
 use Rattle.compact_solution.specs.declared.entry.Share.{Share}
 use Rattle.compact_solution.specs.Solution.{targets_of, parts_of, whole_stake}
-use Rattle.compact_solution.specs.Packing.{edges_of, parts_in, has_part, placed, by_target, greatest, choice_of, chosen_from, chosen, share_of, no_edge, entry_of}
+use Rattle.compact_solution.specs.Packing.{parts_in, has_part, placed, by_target, greatest, choice_of, chosen_from, chosen, share_of, no_edge, entry_of}
 use Rattle.election_check.specs.Packed.{first_repeat, has_bad_share}
 
 abbrev pub same_target : Edge → Edge → Bool
@@ -88,7 +89,7 @@ filter_distinct p (edge ∷ edges) distinct = elim (cases_Bool (p edge)) [
 ]
 
 -- the edges of one voter lead to different targets, where no pair stands twice
-pub own_distinct : (voter : ℕ) (edges : List Edge) → IsDistinct same_pair edges → IsDistinct same_target (edges_of edges voter)
+pub own_distinct : (voter : ℕ) (edges : List Edge) → IsDistinct same_pair edges → IsDistinct same_target (edges_from edges voter)
 unfolding IsDistinct
 own_distinct voter [] distinct = tt
 own_distinct voter (edge ∷ edges) distinct = elim (cases_Bool (nat_eq edge.voter voter)) [
@@ -97,7 +98,7 @@ own_distinct voter (edge ∷ edges) distinct = elim (cases_Bool (nat_eq edge.vot
 ]
   where
     others : (edges : List Edge) → edge.voter ≡ voter → AllByRecursion (λ other. same_pair edge other ≡ false) edges
-        → AllByRecursion (λ other. same_target edge other ≡ false) (edges_of edges voter)
+        → AllByRecursion (λ other. same_target edge other ≡ false) (edges_from edges voter)
     others [] own apart = tt
     others (other ∷ edges) own apart = elim (cases_Bool (nat_eq other.voter voter)) [
       | inl t ↦

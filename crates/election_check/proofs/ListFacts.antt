@@ -1,7 +1,7 @@
 -- Facts about lists that the proofs of packed verdicts share.
-use Rattle.std.proofs.Common.{◌≡◌, ℕ, zero, suc, ◌+◌, ◌<◌, ◌≤◌, Bool, true, false, nat_eq, List, [], ◌∷◌, ◌++◌, map, filter, get_or, Some, None, find, All, inl, inr, refl, sym, ap, ap₂, ◌∙◌, arith}
+use Rattle.std.proofs.Common.{◌≡◌, ℕ, zero, suc, ◌+◌, ◌<◌, ◌≤◌, Bool, true, false, nat_eq, List, [], ◌∷◌, ◌++◌, map, filter, get_or, Some, None, find, All, inl, inr, refl, sym, ap₂, ◌∙◌, arith}
 use Rattle.std.specs.List.{IsDistinct, AllByRecursion, flat_map, range_with_len}
-use Rattle.std.proofs.lemmas.Bool.{cases_Bool, true≢false, or_left, or_right, eqb-true, eq-eqb, ne_eqb, cases_eq}
+use Rattle.std.proofs.lemmas.Bool.{cases_Bool, true≢false, or_left, or_right, eq-eqb, ne_eqb, cases_eq}
 use Rattle.std.proofs.lemmas.List.{map-append}
 use Rattle.std.proofs.lemmas.List.Elements.{All-nil, All-cons, All-head, All-tail, All-append}
 use Rattle.election_snapshot.specs.Snapshot.{has}
@@ -48,22 +48,6 @@ has_range low (suc count) n from below = elim (cases_Bool (nat_eq low n)) [
     above t = elim (cases_eq low n) [
       | inl same ↦ absurd (true≢false (sym (eq-eqb low n same) ∙ t))
       | inr other ↦ omega (arith, from, other)
-    ]
-
-pub has_filter : (p : ℕ → Bool) (xs : List ℕ) (n : ℕ) → has xs n ≡ true → p n ≡ true → has (filter p xs) n ≡ true
-has_filter p [] n h t = h
-has_filter p (x ∷ xs) n h t = elim (cases_Bool (p x)) [
-  | inl keeps ↦ rw keeps (elim (cases_Bool (nat_eq x n)) [
-    | inl same ↦ or_left (nat_eq x n) (has (filter p xs) n) same
-    | inr other ↦ or_right (nat_eq x n) (has (filter p xs) n) (has_filter p xs n (rw other at h) t)
-  ])
-  | inr drops ↦ rw drops (has_filter p xs n (later drops) t)
-]
-  where
-    later : p x ≡ false → has xs n ≡ true
-    later drops = elim (cases_Bool (nat_eq x n)) [
-      | inl same ↦ absurd (true≢false (sym t ∙ (ap p (sym (eqb-true x n same)) ∙ drops)))
-      | inr other ↦ rw other at h
     ]
 
 -- the numbers of a range that pass

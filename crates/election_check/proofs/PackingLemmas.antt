@@ -10,11 +10,13 @@ use Rattle.std.proofs.lemmas.List.Folds.{Any-from_list_any, list_any_at, list_an
 use Rattle.std.proofs.lemmas.List.FromFn.{get_or-map-range_with_len, length-range_with_len, get_or-range_with_len}
 use Rattle.npos_base.specs.declared.figures.Edge.{Edge}
 use Rattle.npos_base.specs.declared.limits.TheConstants.{MOST_NOMINATIONS}
+use Rattle.npos_base.specs.Edge.{edges_from}
 use Rattle.election_snapshot.specs.Snapshot.{Snapshot, Voter, IsWellFormed, IsVoterOf, nobody, has, nominates, stake_of, votes_of, stakes_of}
+use Rattle.election_snapshot.proofs.HasLemmas.{all_has, filter_has}
 use Rattle.weight_book.specs.Weights.{Weights, IsFeasible}
 use Rattle.weight_book.proofs.SumLemmas.{sum_covered, sum_of_ones}
 use Rattle.compact_solution.specs.Solution.{Entry, targets_of, entries_of}
-use Rattle.compact_solution.specs.Packing.{edges_of, stake_at, choice_of, choices_of, chosen, kept_of, kept_at, entry_of, entries_with, groups_for, groups_of, leads_to, is_kept, lower, lost_among, packed, packed_or_lost, IsPackable}
+use Rattle.compact_solution.specs.Packing.{stake_at, choice_of, choices_of, chosen, kept_of, kept_at, entry_of, entries_with, groups_for, groups_of, leads_to, is_kept, lower, lost_among, packed, packed_or_lost, IsPackable}
 use Rattle.compact_solution.specs.Choosing.{no_choice}
 use Rattle.compact_solution.proofs.PackLemmas.{choices_many}
 use Rattle.compact_solution.proofs.GroupLemmas.{enough_groups}
@@ -25,7 +27,7 @@ use Rattle.election_check.specs.First.{when}
 use Rattle.election_check.specs.Steps.{size_fault}
 use Rattle.election_check.specs.Packed.{listed_in, expanded, unknown_target, repeated_target, unnominated_target, has_bad_share, entry_fault, voters_in, entries_fault, expand_fault}
 use Rattle.election_check.proofs.FirstLemmas.{none_when, none_first, none_bad}
-use Rattle.election_check.proofs.ListFacts.{All-flat_map, has_range, has_filter, range_within, range_distinct, IsDistinct-append}
+use Rattle.election_check.proofs.ListFacts.{All-flat_map, has_range, range_within, range_distinct, IsDistinct-append}
 use Rattle.election_check.proofs.KeptLemmas.{same_target, own_distinct, chosen_distinct, targets_distinct, entry_targets, no_repeat_found, good_entry}
 
 -- ## Lists
@@ -33,13 +35,6 @@ use Rattle.election_check.proofs.KeptLemmas.{same_target, own_distinct, chosen_d
 none_of : (p : ℕ → Bool) (xs : List ℕ) → All (λ x. p x ≡ false) xs → find p xs ≡ None
 none_of p [] all = refl
 none_of p (x ∷ xs) all = rw (All-head (λ x. p x ≡ false) x xs all) (none_of p xs (All-tail (λ x. p x ≡ false) x xs all))
-
-within : (P : ℕ → Type 0) (xs : List ℕ) (x : ℕ) → All P xs → has xs x ≡ true → P x
-within P [] x all there = absurd (true≢false (sym there))
-within P (y ∷ xs) x all there = elim (cases_Bool (nat_eq y x)) [
-  | inl t ↦ subst P (eqb-true y x t) (All-head P y xs all)
-  | inr t ↦ within P xs x (All-tail P y xs all) (rw t at there)
-]
 
 any_map : {X Y : Type 0} (test : Y → Bool) (f : X → Y) (xs : List X) → list_any test (map f xs) ≡ list_any (λ x. test (f x)) xs
 any_map test f [] = refl
@@ -52,7 +47,7 @@ any_flat test f (x ∷ xs) = list_any-append test (f x) (flat_map f xs) ∙ ap (
 -- one that passes a filter and then a test
 any_filter : (test p : ℕ → Bool) (xs : List ℕ) (x : ℕ) → has xs x ≡ true → p x ≡ true → test x ≡ true → list_any test (filter p xs) ≡ true
 any_filter test p xs x there passes good =
-    let any = Any-from_list_any (λ n. nat_eq n x) (filter p xs) (has_filter p xs x there passes) in
+    let any = Any-from_list_any (λ n. nat_eq n x) (filter p xs) (filter_has p xs x there passes) in
     list_any_at test (filter p xs) any.0 any.1 any.2 (ap test (any.3 ∙ eqb-true any.1 x any.4) ∙ good)
 
 all_append : {X : Type 0} (P : X → Type 0) (xs ys : List X) → AllByRecursion P xs → AllByRecursion P ys → AllByRecursion P (xs ++ ys)
@@ -106,7 +101,7 @@ module _ (snapshot : Snapshot) (weights : Weights) (formed : IsWellFormed snapsh
   kept = kept_of stakes weights.edges
 
   abbrev own : ℕ → List Edge
-  own voter = edges_of weights.edges voter
+  own voter = edges_from weights.edges voter
 
   many : length stakes ≡ length snapshot.voters
   many = length-map snapshot.voters (λ (voter : Voter). voter.stake)
@@ -121,7 +116,7 @@ module _ (snapshot : Snapshot) (weights : Weights) (formed : IsWellFormed snapsh
   own_all : (voter : ℕ) → All (IsOwn voter) (own voter)
   own_all voter = go weights.edges feasible.follows.nominated feasible.follows.to_members where
     go : (edges : List Edge) → All (λ (edge : Edge). nominates snapshot edge.voter edge.target ≡ true) edges → All (λ (edge : Edge). has weights.committee edge.target ≡ true) edges
-        → All (IsOwn voter) (edges_of edges voter)
+        → All (IsOwn voter) (edges_from edges voter)
     go [] voted member = All-nil (IsOwn voter)
     go (edge ∷ edges) voted member =
         let later = go edges (All-tail (λ (e : Edge). nominates snapshot e.voter e.target ≡ true) edge edges voted)
@@ -129,7 +124,7 @@ module _ (snapshot : Snapshot) (weights : Weights) (formed : IsWellFormed snapsh
         elim (cases_Bool (nat_eq edge.voter voter)) [
           | inl t ↦
               let same = eqb-true edge.voter voter t in
-              rw t (All-cons (IsOwn voter) edge (edges_of edges voter) (
+              rw t (All-cons (IsOwn voter) edge (edges_from edges voter) (
                 same,
                 subst (λ (v : ℕ). nominates snapshot v edge.target ≡ true) same (All-head (λ (e : Edge). nominates snapshot e.voter e.target ≡ true) edge edges voted),
                 All-head (λ (e : Edge). has weights.committee e.target ≡ true) edge edges member,
@@ -151,7 +146,7 @@ module _ (snapshot : Snapshot) (weights : Weights) (formed : IsWellFormed snapsh
 
   none_own : (voter : ℕ) → length snapshot.voters ≤ voter → length (own voter) ≡ 0
   none_own voter h = go weights.edges feasible.follows.voters_in_range where
-    go : (edges : List Edge) → All (λ (edge : Edge). edge.voter < length snapshot.voters) edges → length (edges_of edges voter) ≡ 0
+    go : (edges : List Edge) → All (λ (edge : Edge). edge.voter < length snapshot.voters) edges → length (edges_from edges voter) ≡ 0
     go [] all = refl
     go (edge ∷ edges) all =
         let other : nat_eq edge.voter voter ≡ false = ne_eqb edge.voter voter (λ e. omega (arith, e, h, All-head (λ (e : Edge). e.voter < length snapshot.voters) edge edges all)) in
@@ -191,7 +186,7 @@ module _ (snapshot : Snapshot) (weights : Weights) (formed : IsWellFormed snapsh
   IsGood entry = (entry_fault snapshot false entry ≡ None) × All (λ target. has weights.committee target ≡ true) (targets_of entry)
 
   member_below : (target : ℕ) → has weights.committee target ≡ true → target < length snapshot.targets
-  member_below target there = within (λ member. member < length snapshot.targets) weights.committee target feasible.follows.members_in_range there
+  member_below target there = all_has (λ member. member < length snapshot.targets) weights.committee target feasible.follows.members_in_range there
 
   entry_is_good : (voter : ℕ) → voter < length snapshot.voters → 1 ≤ count_at voter → IsGood (entry_at voter)
   entry_is_good voter h some = (
@@ -331,7 +326,7 @@ module _ (snapshot : Snapshot) (weights : Weights) (formed : IsWellFormed snapsh
   -- ## Who is listed
 
   listed_members : (target : ℕ) → has (listed_in (entries_of all_groups)) target ≡ true → has weights.committee target ≡ true
-  listed_members target there = within (λ target. has weights.committee target ≡ true) (listed_in (entries_of all_groups)) target
+  listed_members target there = all_has (λ target. has weights.committee target ≡ true) (listed_in (entries_of all_groups)) target
       (All-flat_map (λ target. has weights.committee target ≡ true) targets_of (entries_of all_groups)
       (λ k d l. (All-from_recursion (λ (entry : Entry). IsGood entry × (0 < count_at entry.voter)) (entries_of all_groups) (groups_good 0 (groups_for kept)).0 k d l).0.1)) there
 
@@ -389,7 +384,7 @@ module _ (snapshot : Snapshot) (weights : Weights) (formed : IsWellFormed snapsh
       (λ k d h. listed_members (get_or found k d) (All-from_recursion (λ target. listed target ≡ true) found (kept_pass listed (range_with_len 0 (length snapshot.targets))) k d h))
       (λ k d h.
       let member = get_or weights.committee k d in
-      has_filter listed (range_with_len 0 (length snapshot.targets)) member
+      filter_has listed (range_with_len 0 (length snapshot.targets)) member
       (has_range 0 (length snapshot.targets) member (omega arith) (omega (arith, feasible.follows.members_in_range k d h)))
       (kept_listed member (none_lost kept weights.committee none k d h))) in
       none_when (not (nat_eq (length found) snapshot.seats)) (WrongSize (length found))

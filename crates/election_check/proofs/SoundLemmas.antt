@@ -12,6 +12,7 @@ use Rattle.std.proofs.lemmas.List.FromFn.{fill_by_all}
 use Rattle.std.proofs.Math.Nat.{div-mul-le_self, mul-le-mul_left}
 use Rattle.npos_base.specs.declared.figures.Edge.{Edge}
 use Rattle.election_snapshot.specs.Snapshot.{Snapshot, Voter, nobody, has, nominates, stake_of, voter_at, votes_of}
+use Rattle.election_snapshot.proofs.HasLemmas.{filter_has}
 use Rattle.weight_book.specs.Weights.{Follows, IsFeasible, same_pair, spent, amount_sum, edges_from}
 use Rattle.weight_book.specs.Room.{vote_count}
 use Rattle.weight_book.proofs.SumLemmas.{sum_covered, sum_filter-cons, sum_of_ones, sum_le}
@@ -23,7 +24,7 @@ use Rattle.election_check.specs.Steps.{size_fault}
 use Rattle.election_check.specs.Packed.{amount_of, edge_of, rest_of, entry_edges, listed_in, weights_of, first_repeat, unknown_target, repeated_target, unnominated_target, has_bad_share, entry_fault, voters_in, entries_fault}
 use Rattle.election_check.proofs.FirstLemmas.{when_none, first_none, all_good}
 use Rattle.election_check.proofs.PassingLemmas.{mapped_none}
-use Rattle.election_check.proofs.ListFacts.{find_none_all, All-of_map, All-flat_map, map-flat_map, all_stand, has_range, has_filter, range_within, range_distinct, IsDistinct-append}
+use Rattle.election_check.proofs.ListFacts.{find_none_all, All-of_map, All-flat_map, map-flat_map, all_stand, has_range, range_within, range_distinct, IsDistinct-append}
 
 -- ## One entry
 
@@ -282,7 +283,7 @@ module _ (snapshot : Snapshot) where
   to_listed entries sound =
       All-of_map (λ target. has (weights_of snapshot entries).committee target ≡ true) (λ (e : Edge). e.target) (all_edges snapshot entries)
       (subst (λ (ts : List ℕ). All (λ target. has (weights_of snapshot entries).committee target ≡ true) ts) (sym listed_is)
-      (λ k d below. has_filter (has (listed_in entries)) (range_with_len 0 (length snapshot.targets)) (get_or (listed_in entries) k d)
+      (λ k d below. filter_has (has (listed_in entries)) (range_with_len 0 (length snapshot.targets)) (get_or (listed_in entries) k d)
       (has_range 0 (length snapshot.targets) (get_or (listed_in entries) k d) (omega arith) (omega (arith, listed_within entries sound k d below)))
       (all_stand (listed_in entries) k d below)))
     where

@@ -49,6 +49,16 @@ impl Checker {
         }
     }
 
+    /// A checker for this snapshot, which is dropped for want of memory.
+    pub fn of(alloc: Global, snapshot: Snapshot) -> Result<Checker, NoMemory>
+        ensures { IfOk result (λ checker. checker ≡ snapshot) }
+    {
+        match Checker::new(alloc, snapshot) {
+            Ok(checker) => Ok(checker),
+            Err((_, want)) => Err(want),
+        }
+    }
+
     /// The snapshot whose solutions it checks.
     pub fn snapshot(&self) -> &Snapshot
         ensures { result.now ≡ self.now }

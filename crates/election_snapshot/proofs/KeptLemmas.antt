@@ -5,12 +5,12 @@ use Rattle.std.proofs.lemmas.List.Sums.{sum_by-cons, sum_by-append}
 use Rattle.std.proofs.lemmas.List.Elements.{All-push}
 use Rattle.std.proofs.lemmas.Bool.Decides.{nat_tests}
 use Rattle.election_snapshot.specs.declared.fault.SnapshotFault.{SnapshotFault}
-use Rattle.npos_base.specs.declared.limits.TheConstants.{MOST_NOMINATIONS, MOST_VOTERS}
+use Rattle.npos_base.specs.declared.limits.TheConstants.{MOST_NOMINATIONS, MOST_TARGETS, MOST_VOTERS}
 use Rattle.npos_base.specs.declared.account.AccountId.{AccountId}
 use Rattle.npos_base.specs.Account.{same_account}
-use Rattle.npos_base.proofs.AccountOrder.{same_itself, same_exact}
+use Rattle.npos_base.proofs.AccountOrder.{same_turned}
 use Rattle.election_snapshot.specs.Snapshot.{Voter, no_account, nobody, stakes_of, total_of, IsVoterOf, AreVotersOf, has}
-use Rattle.election_snapshot.specs.Draft.{Draft, accounts_of, has_repeat, stands_in, voter_fault, with_voter, first_seats_fault, finish_fault}
+use Rattle.election_snapshot.specs.Draft.{Draft, accounts_of, has_repeat, stands_in, target_fault, voter_fault, with_voter, first_seats_fault, finish_fault}
 use Rattle.election_snapshot.specs.Kept.{voters_of, AreKept}
 
 pub kept_count : (accounts : List AccountId) (stakes : List ℕ) (votes : List (List ℕ)) → length stakes ≡ length accounts → length votes ≡ length accounts → length (voters_of accounts stakes votes) ≡ length accounts
@@ -86,6 +86,10 @@ pub record IsSound (draft : Draft) (who : AccountId) (stake : ℕ) (votes : List
 passed : (b : Bool) (fault : SnapshotFault) (rest : Option SnapshotFault) → (if b then Some fault else rest) ≡ None → (b ≡ false) × (rest ≡ None)
 passed true fault rest e = absurd (cc)
 passed false fault rest e = (refl, e)
+
+-- the account of a target without a fault stands nowhere
+pub target_new : (draft : Draft) (who : AccountId) → target_fault draft who ≡ None → stands_in draft.targets who ≡ false
+target_new draft who e = let (full, rest) = passed (nat_le MOST_TARGETS (length draft.targets)) _ _ e in (passed (stands_in draft.targets who) _ _ rest).0
 
 pub sound : (draft : Draft) (who : AccountId) (stake : ℕ) (votes : List ℕ) → voter_fault draft who stake votes ≡ None → IsSound draft who stake votes
 sound draft who stake votes e =
@@ -163,19 +167,13 @@ all_with : (P : AccountId → Type 0) (accounts : List AccountId) (who : Account
 all_with P [] who all here = (here, tt)
 all_with P (account ∷ accounts) who all here = (all.0, all_with P accounts who all.1 here)
 
-turned_account : (a b : AccountId) → same_account a b ≡ false → same_account b a ≡ false
-turned_account a b apart = by_test (same_account b a) refl where
-  by_test : (t : Bool) → same_account b a ≡ t → t ≡ false
-  by_test true same = absurd (true≢false (sym (same_itself a) ∙ ap (λ x. same_account a x) (sym (same_exact b a same)) ∙ apart))
-  by_test false same = refl
-
 -- an account that does not stand there goes behind accounts that are distinct
 distinct_with : (accounts : List AccountId) (who : AccountId) → IsDistinct same_account accounts → stands_in accounts who ≡ false
     → IsDistinct same_account (accounts ++ who ∷ [])
 unfolding IsDistinct
 distinct_with [] who distinct absent = (tt, tt)
 distinct_with (account ∷ accounts) who distinct absent = (
-  all_with (λ y. same_account account y ≡ false) accounts who distinct.0 (turned_account who account (first (same_account who account) absent)),
+  all_with (λ y. same_account account y ≡ false) accounts who distinct.0 (same_turned who account (first (same_account who account) absent)),
   distinct_with accounts who distinct.1 (rest (same_account who account) absent),
 ) where
   first : (b : Bool) → (b || stands_in accounts who) ≡ false → b ≡ false

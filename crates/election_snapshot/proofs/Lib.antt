@@ -1,2 +1,3 @@
+pub mod HasLemmas
 pub mod KeptLemmas
 pub mod RepeatLemmas

@@ -52,6 +52,15 @@ impl SnapshotBuilder {
         self.parts.add_target(who)
     }
 
+    /// Adds a target that has no fault behind those that stand.
+    pub fn put_target(&mut self, who: AccountId) -> Result<(), NoMemory>
+        requires { target_fault self.old who ≡ None }
+        ensures ok { OnOk result (self.new ≡ with_target self.old who) }
+        ensures err { OnErr result (self.new ≡ self.old) }
+    {
+        self.parts.put_target(who)
+    }
+
     /// The position of the target with this account. It takes no memory.
     pub fn position(&self, who: AccountId) -> Option<u16>
         ensures { result ≡ place_of self.now.targets who }

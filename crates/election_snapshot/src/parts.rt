@@ -66,6 +66,18 @@ impl SnapshotParts {
         if self.targets.contains(&who) {
             return Err(SnapshotFault::RepeatedTarget(self.targets.len() as u32));
         }
+        match self.put_target(who) {
+            Ok(()) => Ok(()),
+            Err(NoMemory) => Err(SnapshotFault::NoMemory),
+        }
+    }
+
+    /// Adds a target that has no fault behind those that stand.
+    pub fn put_target(&mut self, who: AccountId) -> Result<(), NoMemory>
+        requires { target_fault self.old who ≡ None }
+        ensures ok { OnOk result (self.new ≡ with_target self.old who) }
+        ensures err { OnErr result (self.new ≡ self.old) }
+    {
         self.targets.insert(who)?;
         Ok(())
     }

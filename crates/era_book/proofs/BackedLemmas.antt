@@ -3,32 +3,23 @@ use Rattle.std.proofs.Common.{◌≡◌, ◌∙◌, ℕ, ◌<◌, Bool, true, fa
 use Rattle.std.specs.List.{IsDistinct, AllByRecursion}
 use Rattle.std.proofs.lemmas.Grind.{common_steps}
 use Rattle.std.proofs.lemmas.List.Elements.{All-nil, All-cons, All-head, All-tail, All-append}
+use Rattle.std.proofs.lemmas.Bool.{and_parts}
 use Rattle.npos_base.specs.declared.account.AccountId.{AccountId}
 use Rattle.npos_base.specs.declared.figures.Edge.{Edge}
-use Rattle.npos_base.specs.Account.{same_account}
-use Rattle.npos_base.proofs.AccountOrder.{same_exact, same_itself}
+use Rattle.npos_base.specs.Account.{same_account, account_at}
+use Rattle.npos_base.proofs.AccountOrder.{same_exact, same_turned}
 use Rattle.npos_base.proofs.NumberTests.{number_tie}
 use Rattle.era_book.specs.declared.exposure.Backer.{Backer}
 use Rattle.era_book.specs.declared.exposure.Exposure.{Exposure}
 use Rattle.era_book.specs.Exposures.{IsSoundExposure}
-use Rattle.era_book.specs.Committee.{account_at, gives_to, backer_of, is_of, backers_among, exposure_of}
+use Rattle.era_book.specs.Committee.{gives_to, backer_of, is_of, backers_among, exposure_of}
 use Rattle.era_book.specs.Records.{IsOwnFirst, IsBacked}
 use Rattle.era_book.specs.Laws.{BackedLaw}
 use Rattle.era_book.proofs.SoundLemmas.{sound_law}
 
-both : (a b : Bool) → (a && b) ≡ true → (a ≡ true) × (b ≡ true)
-both true b e = (refl, e)
-both false b e = absurd (true≢false (sym e))
-
 turned : (b : Bool) → not b ≡ true → b ≡ false
 turned false e = refl
 turned true e = absurd (true≢false (sym e))
-
-unlike : (x y : AccountId) → same_account x y ≡ false → same_account y x ≡ false
-unlike x y e = at (same_account y x) refl where
-  at : (b : Bool) → same_account y x ≡ b → b ≡ false
-  at false is = refl
-  at true is = absurd (true≢false (sym (same_itself x) ∙ ap (λ a. same_account x a) (sym (same_exact y x is)) ∙ e))
 
 module _ (targets voters : List AccountId) (member : ℕ) where
   abbrev validator : AccountId
@@ -47,21 +38,21 @@ module _ (targets voters : List AccountId) (member : ℕ) where
 
   gives_some : (own : Bool) (edge : Edge) → (gives_to member edge && is_of own targets voters edge) ≡ true → 0 < edge.amount
   gives_some own edge is =
-      let some : nat_lt 0 edge.amount ≡ true = (both (nat_eq edge.target member) (nat_lt 0 edge.amount) (both (gives_to member edge) (is_of own targets voters edge) is).0).1 in
+      let some : nat_lt 0 edge.amount ≡ true = (and_parts (nat_eq edge.target member) (nat_lt 0 edge.amount) (and_parts (gives_to member edge) (is_of own targets voters edge) is).0).1 in
       grind (arith, common_steps, some)
 
   to_member : (own : Bool) (edge : Edge) → (gives_to member edge && is_of own targets voters edge) ≡ true → edge.target ≡ member
   to_member own edge is =
-      number_tie edge.target member (both (nat_eq edge.target member) (nat_lt 0 edge.amount) (both (gives_to member edge) (is_of own targets voters edge) is).0).0
+      number_tie edge.target member (and_parts (nat_eq edge.target member) (nat_lt 0 edge.amount) (and_parts (gives_to member edge) (is_of own targets voters edge) is).0).0
 
   own_is : (edge : Edge) → (gives_to member edge && is_of true targets voters edge) ≡ true → same_account (account_at voters edge.voter) validator ≡ true
   own_is edge is =
-      ap (λ t. same_account (account_at voters edge.voter) (account_at targets t)) (sym (to_member true edge is)) ∙ (both (gives_to member edge) (is_of true targets voters edge) is).1
+      ap (λ t. same_account (account_at voters edge.voter) (account_at targets t)) (sym (to_member true edge is)) ∙ (and_parts (gives_to member edge) (is_of true targets voters edge) is).1
 
   other_is : (edge : Edge) → (gives_to member edge && is_of false targets voters edge) ≡ true → same_account (account_at voters edge.voter) validator ≡ false
   other_is edge is =
       ap (λ t. same_account (account_at voters edge.voter) (account_at targets t)) (sym (to_member false edge is))
-      ∙ turned (same_account (account_at voters edge.voter) (account_at targets edge.target)) (both (gives_to member edge) (is_of false targets voters edge) is).1
+      ∙ turned (same_account (account_at voters edge.voter) (account_at targets edge.target)) (and_parts (gives_to member edge) (is_of false targets voters edge) is).1
 
   -- behind the validator itself nobody is the validator
   behind_own : (first : AccountId) (backers : List Backer) → first ≡ validator → AllByRecursion (λ y. same_account first y ≡ false) (map (λ backer. backer.who) backers)
@@ -69,7 +60,7 @@ module _ (targets voters : List AccountId) (member : ℕ) where
   behind_own first [] is apart = All-nil (λ (backer : Backer). same_account backer.who validator ≡ false)
   behind_own first (b ∷ bs) is apart =
       All-cons (λ (backer : Backer). same_account backer.who validator ≡ false) b bs
-      (ap (same_account b.who) (sym is) ∙ unlike first b.who apart.0) (behind_own first bs is apart.1)
+      (ap (same_account b.who) (sym is) ∙ same_turned first b.who apart.0) (behind_own first bs is apart.1)
 
   own_first : (own others : List Backer) → All (λ (backer : Backer). same_account backer.who validator ≡ true) own
       → All (λ (backer : Backer). same_account backer.who validator ≡ false) others → IsDistinct same_account (map (λ backer. backer.who) (own ++ others))

@@ -4,19 +4,14 @@ use Rattle.std.specs.List.{IsDistinct, AllByRecursion}
 use Rattle.std.proofs.lemmas.Bool.Decides.{nat_tests}
 use Rattle.std.proofs.lemmas.List.Elements.{All-nil, All-cons, All-head, All-tail}
 use Rattle.std.proofs.lemmas.List.{map-append}
+use Rattle.std.proofs.lemmas.Bool.{and_parts}
 use Rattle.npos_base.specs.declared.account.AccountId.{AccountId}
 use Rattle.npos_base.specs.declared.figures.Edge.{Edge}
-use Rattle.npos_base.specs.Account.{same_account}
-use Rattle.npos_base.proofs.AccountOrder.{same_exact, same_itself}
+use Rattle.npos_base.specs.Account.{same_account, account_at}
+use Rattle.npos_base.proofs.AccountOrder.{same_exact, same_turned}
 use Rattle.era_book.specs.declared.exposure.Backer.{Backer}
 use Rattle.npos_base.specs.Edge.{same_pair}
-use Rattle.era_book.specs.Committee.{account_at, gives_to, backer_of, is_of, backers_among, BackersLaw}
-
-unlike : (x y : AccountId) → same_account x y ≡ false → same_account y x ≡ false
-unlike x y e = at (same_account y x) refl where
-  at : (b : Bool) → same_account y x ≡ b → b ≡ false
-  at false is = refl
-  at true is = absurd (true≢false (sym (same_itself x) ∙ ap (λ a. same_account x a) (sym (same_exact y x is)) ∙ e))
+use Rattle.era_book.specs.Committee.{gives_to, backer_of, is_of, backers_among, BackersLaw}
 
 at_place : (x : AccountId) (xs : List AccountId) (i : ℕ) → AllByRecursion (λ y. same_account x y ≡ false) xs → i < length xs → same_account x (account_at xs i) ≡ false
 at_place x [] i all h = absurd (omega arith)
@@ -29,12 +24,8 @@ unfolding IsDistinct
 apart_at [] i j distinct h k differ = absurd (omega arith)
 apart_at (x ∷ xs) zero zero distinct h k differ = absurd (grind (arith, nat_tests))
 apart_at (x ∷ xs) zero (suc j) distinct h k differ = at_place x xs j distinct.0 (omega arith)
-apart_at (x ∷ xs) (suc i) zero distinct h k differ = unlike x (account_at xs i) (at_place x xs i distinct.0 (omega arith))
+apart_at (x ∷ xs) (suc i) zero distinct h k differ = same_turned x (account_at xs i) (at_place x xs i distinct.0 (omega arith))
 apart_at (x ∷ xs) (suc i) (suc j) distinct h k differ = apart_at xs i j distinct.1 (omega arith) (omega arith) (grind (arith, nat_tests))
-
-both : (a b : Bool) → (a && b) ≡ true → (a ≡ true) × (b ≡ true)
-both true b e = (refl, e)
-both false b e = absurd (true≢false (sym e))
 
 other_voter : (i j s t m : ℕ) → (nat_eq i j && nat_eq s t) ≡ false → nat_eq s m ≡ true → nat_eq t m ≡ true → nat_eq i j ≡ false
 other_voter i j s t m e p q = grind (arith, nat_tests)
@@ -78,7 +69,7 @@ module _ (targets voters : List AccountId) (m : ℕ) where
         at false is rest = rest
 
   to_target : (edge : Edge) (t : Bool) → (gives_to m edge && t) ≡ true → nat_eq edge.target m ≡ true
-  to_target edge t e = (both (nat_eq edge.target m) (nat_lt 0 edge.amount) (both (gives_to m edge) t e).0).0
+  to_target edge t e = (and_parts (nat_eq edge.target m) (nat_lt 0 edge.amount) (and_parts (gives_to m edge) t e).0).0
 
   distinct_among : (own : Bool) (edges : List Edge) → IsDistinct same_account voters → All (λ edge. edge.voter < length voters) edges → IsDistinct same_pair edges
       → IsDistinct same_account (accounts own edges)
@@ -115,10 +106,10 @@ module _ (targets voters : List AccountId) (m : ℕ) where
         other : (e x : Edge) → (gives_to m e && is_of true targets voters e) ≡ true → (gives_to m x && is_of false targets voters x) ≡ true
             → same_account (account_at voters e.voter) (account_at voters x.voter) ≡ false
         other e x is also =
-            let itself : account_at voters e.voter ≡ account_at targets e.target = same_exact (account_at voters e.voter) (account_at targets e.target) (both (gives_to m e) (is_of true targets voters e) is).1 in
-            let no_other : not (same_account (account_at voters x.voter) (account_at targets x.target)) ≡ true = (both (gives_to m x) (is_of false targets voters x) also).1 in
+            let itself : account_at voters e.voter ≡ account_at targets e.target = same_exact (account_at voters e.voter) (account_at targets e.target) (and_parts (gives_to m e) (is_of true targets voters e) is).1 in
+            let no_other : not (same_account (account_at voters x.voter) (account_at targets x.target)) ≡ true = (and_parts (gives_to m x) (is_of false targets voters x) also).1 in
             let one_target : e.target ≡ x.target = same_target e.target x.target m (to_target e (is_of true targets voters e) is) (to_target x (is_of false targets voters x) also) in
-            unlike (account_at voters x.voter) (account_at voters e.voter)
+            same_turned (account_at voters x.voter) (account_at voters e.voter)
             (ap (λ a. same_account (account_at voters x.voter) a) (itself ∙ ap (λ n. account_at targets n) one_target)
             ∙ turned (same_account (account_at voters x.voter) (account_at targets x.target)) no_other)
 

@@ -5,11 +5,11 @@ use Rattle.std.proofs.lemmas.Bool.Decides.{nat_tests}
 use Rattle.std.proofs.lemmas.List.Sums.{sum_by-cons, sum_by-append, sum_by-le-sum_by}
 use Rattle.npos_base.specs.declared.account.AccountId.{AccountId}
 use Rattle.npos_base.specs.declared.figures.Edge.{Edge}
-use Rattle.npos_base.specs.Account.{same_account}
+use Rattle.npos_base.specs.Account.{same_account, account_at}
 use Rattle.era_book.specs.declared.exposure.Backer.{Backer}
 use Rattle.era_book.specs.declared.exposure.Exposure.{Exposure}
 use Rattle.era_book.specs.Exposures.{amount_for, exposed_for}
-use Rattle.era_book.specs.Committee.{account_at, gives_to, backer_of, is_of, backers_among, backers_of, exposure_of, SupportLaw, SpentLaw}
+use Rattle.era_book.specs.Committee.{gives_to, backer_of, is_of, backers_among, backers_of, exposure_of, SupportLaw, SpentLaw}
 use Rattle.era_book.proofs.LawLemmas.{for_sum}
 
 pub filter_sum : {X : Type 0} (f : X → ℕ) (p : X → Bool) (xs : List X) → sum_by f (filter p xs) ≡ sum_by (λ x. cond (p x) (f x) 0) xs

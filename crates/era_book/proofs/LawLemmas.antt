@@ -16,7 +16,7 @@ use Rattle.era_book.specs.Slashes.{due, slash_lines}
 use Rattle.era_book.specs.Members.{Member, Members, member_of, members_with, total_points, with_member, gaining, with_points}
 use Rattle.era_book.specs.Eras.{Eras, first_era, started, is_unknown, members_in, member_in, AreMembers, AreKept}
 use Rattle.era_book.specs.Calls.{claiming, keeping, paid_to, payout_in, due_behind, slash_in}
-use Rattle.era_book.specs.Events.{Event, Started, Pointed, Paid, Reported, Queued, Cancelled, Taken, IsAccepted, after, AreAccepted, given_by, pays, makes_due, begun, exposures_of}
+use Rattle.era_book.specs.Events.{Event, Started, Pointed, Paid, Reported, Queued, Cancelled, Taken, IsAccepted, after, AreAccepted, given_by, pays, makes_due, begun, exposures_in}
 use Rattle.era_book.specs.Course.{IsFine, AreFine, AreInOrder, pay_of, all_pay, part_for, due_from, all_due, held_for, all_held, held_in}
 use Rattle.era_book.specs.Laws.{RewardLaw, DueLaw, InOrderLaw, RewardOnLaw, DueOnLaw}
 use Rattle.era_book.proofs.PartLemmas.{part_whole, part_within, parts_within, due_after}
@@ -542,7 +542,7 @@ due_law zero who events ok =
 due_law (suc era) who events ok =
     let later : nat_le (suc era) 0 ≡ false = grind (arith, nat_tests) in
     let place : suc era - (0 + 1) ≡ era = omega arith in
-    let same : held_in (suc era) who events first_era ≡ exposed_for who (exposures_of (suc era) events) =
+    let same : held_in (suc era) who events first_era ≡ exposed_for who (exposures_in (suc era) events) =
     ap (λ b. cond b (all_held who (members_in first_era (suc era))) (exposed_for who (unwrap_or (slice_get (begun events) (suc era - (0 + 1))) []))) later
     ∙ ap (λ n. exposed_for who (unwrap_or (slice_get (begun events) n) [])) place in
     omega (arith, due_on_law (suc era) who events first_era first_order ok, same)

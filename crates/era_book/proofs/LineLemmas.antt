@@ -5,12 +5,11 @@ use Rattle.std.proofs.lemmas.Bool.Decides.{nat_tests}
 use Rattle.std.proofs.lemmas.List.Sums.{sum_by-cons, get_or-le-sum_by}
 use Rattle.npos_base.specs.declared.account.AccountId.{AccountId}
 use Rattle.npos_base.specs.declared.limits.TheConstants.{WHOLE_FRACTION}
-use Rattle.npos_base.specs.Account.{same_account}
+use Rattle.npos_base.specs.Account.{same_account, account_at}
 use Rattle.era_book.specs.declared.exposure.Backer.{Backer}
 use Rattle.era_book.specs.declared.exposure.Exposure.{Exposure}
 use Rattle.era_book.specs.Exposures.{amount_sum, IsSoundExposure}
 use Rattle.era_book.specs.declared.seat.Share.{Share}
-use Rattle.era_book.specs.Committee.{account_at}
 use Rattle.era_book.specs.Seats.{backer_seen, backers_seen}
 use Rattle.era_book.specs.Payouts.{part, line, kept_lines, own_part, others, commission_of, share, validator_line, backer_line, payout_lines}
 use Rattle.era_book.proofs.PartLemmas.{part_within, parts_within, two_parts}

@@ -1,17 +1,18 @@
 -- The edges in the order of the voters: they are the same edges, and a sort by voter gives every
 -- target the same backers.
-use Rattle.std.proofs.Common.{◌≡◌, ℕ, zero, suc, ◌+◌, ◌<◌, ◌≤◌, Bool, true, false, cond, ◌&&◌, nat_eq, nat_lt, List, [], ◌∷◌, ◌++◌, length, map, filter, sum_by, get_or, All, refl, ap, ap₂, sym, subst, ◌∙◌, true≢false, arith}
+use Rattle.std.proofs.Common.{◌≡◌, ℕ, zero, suc, ◌+◌, ◌<◌, ◌≤◌, Bool, true, false, cond, ◌&&◌, nat_eq, nat_lt, List, [], ◌∷◌, ◌++◌, length, map, filter, sum_by, get_or, All, refl, ap, ap₂, sym, subst, ◌∙◌, arith}
 use Rattle.std.specs.List.{IsDistinct, AllByRecursion}
 use Rattle.std.specs.List.Sorted.{IsPermutation, IsNonDecreasingBy}
 use Rattle.std.proofs.lemmas.Bool.Decides.{nat_tests}
 use Rattle.std.proofs.lemmas.List.Sums.{sum_by-cons, sum_by-append, sum_by-le-sum_by}
 use Rattle.std.proofs.lemmas.List.Sorted.{sum_by-IsPermutation, IsNonDecreasingBy-drop}
 use Rattle.std.proofs.lemmas.List.Elements.{All-nil, All-cons, All-head, All-tail, All-filter, All-append, filter-append, recursion_from_All}
+use Rattle.std.proofs.lemmas.Bool.{and_parts}
 use Rattle.npos_base.specs.declared.account.AccountId.{AccountId}
 use Rattle.npos_base.specs.declared.figures.Edge.{Edge}
-use Rattle.npos_base.specs.Account.{same_account}
-use Rattle.npos_base.specs.Edge.{same_pair}
-use Rattle.era_book.specs.Committee.{account_at, gives_to, is_of, backer_of, backers_of, exposure_of, given_to, spent_by, edges_by_voter}
+use Rattle.npos_base.specs.Account.{same_account, account_at}
+use Rattle.npos_base.specs.Edge.{same_pair, support}
+use Rattle.era_book.specs.Committee.{gives_to, is_of, backer_of, backers_of, exposure_of, spent_by, edges_by_voter}
 use Rattle.era_book.proofs.CommitteeLemmas.{filter_sum}
 
 -- ---- the edges by voter weigh what the edges do
@@ -92,17 +93,13 @@ one b = cond b 1 0
 abbrev pub pair_count : Edge → List Edge → ℕ
 pair_count pair edges = sum_by (λ edge. one (same_pair pair edge)) edges
 
-pub both : (a b : Bool) → (a && b) ≡ true → (a ≡ true) × (b ≡ true)
-both true b e = (refl, e)
-both false b e = absurd (true≢false (sym e))
-
 same_itself : (e : Edge) → same_pair e e ≡ true
 same_itself e = let p : nat_eq e.voter e.voter ≡ true = grind (arith, nat_tests) in let q : nat_eq e.target e.target ≡ true = grind (arith, nat_tests) in rw (p, q) refl
 
 same_ends : (a b : Edge) → same_pair a b ≡ true → (a.voter ≡ b.voter) × (a.target ≡ b.target)
 same_ends a b e =
-    let p : nat_eq a.voter b.voter ≡ true = (both (nat_eq a.voter b.voter) (nat_eq a.target b.target) e).0 in
-    let q : nat_eq a.target b.target ≡ true = (both (nat_eq a.voter b.voter) (nat_eq a.target b.target) e).1 in
+    let p : nat_eq a.voter b.voter ≡ true = (and_parts (nat_eq a.voter b.voter) (nat_eq a.target b.target) e).0 in
+    let q : nat_eq a.target b.target ≡ true = (and_parts (nat_eq a.voter b.voter) (nat_eq a.target b.target) e).1 in
     let voters : a.voter ≡ b.voter = grind (arith, nat_tests, p) in
     let targets : a.target ≡ b.target = grind (arith, nat_tests, q) in
     (voters, targets)
@@ -159,7 +156,7 @@ pairs_by_voter n edges within distinct =
     distinct_counted (edges_by_voter n edges)
     (λ pair. omega (arith, sum_by_voter (λ edge. one (same_pair pair edge)) n edges within, counted_once pair edges distinct))
 
-pub given_by_voter : (target n : ℕ) (edges : List Edge) → All (λ edge. edge.voter < n) edges → given_to target (edges_by_voter n edges) ≡ given_to target edges
+pub given_by_voter : (target n : ℕ) (edges : List Edge) → All (λ edge. edge.voter < n) edges → support (edges_by_voter n edges) target ≡ support edges target
 given_by_voter target n edges within =
     filter_sum (λ (edge : Edge). edge.amount) (λ edge. nat_eq edge.target target) (edges_by_voter n edges)
     ∙ sum_by_voter (λ edge. cond (nat_eq edge.target target) edge.amount 0) n edges within
@@ -257,7 +254,7 @@ pub same_chunks : (n : ℕ) (xs ys : List Edge) → ((voter : ℕ) → filter (f
 same_chunks zero xs ys each = refl
 same_chunks (suc n) xs ys each = ap₂ (λ us vs. us ++ vs) (same_chunks n xs ys each) (each n)
 
--- ---- a voter's edge to a target is one and the same in both lists
+-- ---- a voter's edge to a target is one and the same in and_parts lists
 abbrev Leads : ℕ → ℕ → Edge → Type 0
 Leads voter target edge = (edge.voter ≡ voter) × (edge.target ≡ target)
 
@@ -296,9 +293,9 @@ module _ (targets voters : List AccountId) (own : Bool) (target : ℕ) where
 
   test_leads : (voter : ℕ) (edge : Edge) → (test edge && from voter edge) ≡ true → Leads voter target edge
   test_leads voter edge e =
-      let parts = both (test edge) (from voter edge) e in
+      let parts = and_parts (test edge) (from voter edge) e in
       let p : nat_eq edge.voter voter ≡ true = parts.1 in
-      let q : nat_eq edge.target target ≡ true = (both (nat_eq edge.target target) (nat_lt 0 edge.amount) (both (gives_to target edge) (is_of own targets voters edge) parts.0).0).0 in
+      let q : nat_eq edge.target target ≡ true = (and_parts (nat_eq edge.target target) (nat_lt 0 edge.amount) (and_parts (gives_to target edge) (is_of own targets voters edge) parts.0).0).0 in
       let voter_is : edge.voter ≡ voter = grind (arith, nat_tests, p) in
       let target_is : edge.target ≡ target = grind (arith, nat_tests, q) in
       (voter_is, target_is)

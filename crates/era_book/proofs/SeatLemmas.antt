@@ -13,13 +13,13 @@ use Rattle.std.proofs.lemmas.Map.Made.{lookup-map_values}
 use Rattle.std.proofs.lemmas.Map.Views.{All-values-insert_entry}
 use Rattle.npos_base.specs.declared.account.AccountId.{AccountId}
 use Rattle.npos_base.specs.declared.figures.Edge.{Edge}
-use Rattle.npos_base.specs.Account.{account_cmp}
+use Rattle.npos_base.specs.Account.{account_cmp, account_at}
 use Rattle.era_book.specs.declared.exposure.Backer.{Backer}
 use Rattle.era_book.specs.declared.exposure.Exposure.{Exposure}
 use Rattle.era_book.specs.declared.seat.Share.{Share}
 use Rattle.era_book.specs.declared.seat.Seat.{Seat}
 use Rattle.era_book.specs.Payouts.{line}
-use Rattle.era_book.specs.Committee.{account_at, gives_to, backer_of, is_of, backers_of, exposure_of}
+use Rattle.era_book.specs.Committee.{gives_to, backer_of, is_of, backers_of, exposure_of}
 use Rattle.era_book.specs.Members.{Members, Member, newcomer, with_exposure, members_with, put_member, changed, with_member, total_points}
 use Rattle.era_book.specs.Seats.{Grows, AreWithin, backer_seen, backers_seen, member_seen, members_seen, seat_of, edge_share, shares_among, shares_of}
 use Rattle.era_book.proofs.MemberLemmas.{members_more, total_rises}

@@ -5,11 +5,11 @@ use Rattle.std.proofs.lemmas.List.Elements.{All-nil, All-cons, All-head, All-tai
 use Rattle.npos_base.specs.declared.account.AccountId.{AccountId}
 use Rattle.npos_base.specs.declared.figures.Edge.{Edge}
 use Rattle.npos_base.specs.declared.limits.TheConstants.{WHOLE_FRACTION}
-use Rattle.npos_base.specs.Account.{same_account}
+use Rattle.npos_base.specs.Account.{same_account, account_at}
 use Rattle.era_book.specs.declared.exposure.Exposure.{Exposure}
 use Rattle.era_book.specs.Exposures.{IsSoundExposure, AreSound}
-use Rattle.npos_base.specs.Edge.{same_pair}
-use Rattle.era_book.specs.Committee.{account_at, exposure_of, given_to, edges_by_voter, IsWithin, IsElected, SoundLaw, OrderLaw}
+use Rattle.npos_base.specs.Edge.{same_pair, support}
+use Rattle.era_book.specs.Committee.{exposure_of, edges_by_voter, IsWithin, IsElected, SoundLaw, OrderLaw}
 use Rattle.era_book.proofs.CommitteeLemmas.{support_law}
 use Rattle.era_book.proofs.BackerLemmas.{apart_at, backers_law}
 use Rattle.era_book.proofs.OrderLemmas.{all_by_voter, pairs_by_voter, given_by_voter, spent_by_voter}
@@ -27,16 +27,16 @@ module _ (targets voters : List AccountId) (commissions supports : List ℕ) (ed
   exposed = exposure_of targets commissions supports voters edges
 
   each_sound : (members : List ℕ) → IsDistinct same_account voters → All (λ commission. commission ≤ WHOLE_FRACTION) commissions → All (IsWithin targets voters) edges → IsDistinct same_pair edges
-      → All (λ member. get_or supports member 0 ≡ given_to member edges) members → All IsSoundExposure (map exposed members)
+      → All (λ member. get_or supports member 0 ≡ support edges member) members → All IsSoundExposure (map exposed members)
   each_sound [] voters_are commissions_are within pairs given = All-nil IsSoundExposure
   each_sound (m ∷ ms) voters_are commissions_are within pairs given =
       All-cons IsSoundExposure (exposed m) (map exposed ms)
       (record {
         commission = commission_within commissions m commissions_are;
-        support = All-head (λ member. get_or supports member 0 ≡ given_to member edges) m ms given ∙ sym (support_law targets voters edges m);
+        support = All-head (λ member. get_or supports member 0 ≡ support edges member) m ms given ∙ sym (support_law targets voters edges m);
         distinct = backers_law targets voters edges m voters_are (voters_within targets voters edges within) pairs;
       })
-      (each_sound ms voters_are commissions_are within pairs (All-tail (λ member. get_or supports member 0 ≡ given_to member edges) m ms given))
+      (each_sound ms voters_are commissions_are within pairs (All-tail (λ member. get_or supports member 0 ≡ support edges member) m ms given))
 
   others_apart : (m : ℕ) (members : List ℕ) → IsDistinct same_account targets → m < length targets → All (λ member. member < length targets) members → AllByRecursion (λ other. nat_eq m other ≡ false) members
       → AllByRecursion (λ who. same_account (account_at targets m) who ≡ false) (map (λ (exposure : Exposure). exposure.validator) (map exposed members))
@@ -62,9 +62,9 @@ sound_law targets voters commissions supports edges members elected = record {
 }
 
 given_likewise : (supports : List ℕ) (n : ℕ) (edges : List Edge) (members : List ℕ) → All (λ edge. edge.voter < n) edges
-    → All (λ member. get_or supports member 0 ≡ given_to member edges) members → All (λ member. get_or supports member 0 ≡ given_to member (edges_by_voter n edges)) members
+    → All (λ member. get_or supports member 0 ≡ support edges member) members → All (λ member. get_or supports member 0 ≡ support (edges_by_voter n edges) member) members
 given_likewise supports n edges members within given =
-    All-weaker (λ member. get_or supports member 0 ≡ given_to member edges) (λ member. get_or supports member 0 ≡ given_to member (edges_by_voter n edges))
+    All-weaker (λ member. get_or supports member 0 ≡ support edges member) (λ member. get_or supports member 0 ≡ support (edges_by_voter n edges) member)
     (λ member is. is ∙ sym (given_by_voter member n edges within)) members given
 
 pub order_law : OrderLaw

@@ -3,16 +3,13 @@ use Rattle.std.specs.Prelude.{◌≡◌, ℕ, zero, suc, ◌<◌, ◌≤◌, Boo
 use Rattle.std.specs.List.{IsDistinct}
 use Rattle.npos_base.specs.declared.account.AccountId.{AccountId}
 use Rattle.npos_base.specs.declared.figures.Edge.{Edge}
-use Rattle.npos_base.specs.Account.{same_account}
-use Rattle.npos_base.specs.Edge.{same_pair}
+use Rattle.npos_base.specs.Account.{same_account, account_at}
+use Rattle.npos_base.specs.Edge.{same_pair, edges_from, support}
 use Rattle.npos_base.specs.declared.limits.TheConstants.{WHOLE_FRACTION}
 use Rattle.era_book.specs.declared.exposure.Backer.{Backer}
 use Rattle.era_book.specs.declared.exposure.Exposure.{Exposure}
 use Rattle.era_book.specs.Exposures.{amount_sum, exposed_for, AreSound}
 use Rattle.era_book.specs.Payouts.{line}
-
-abbrev pub account_at : List AccountId → ℕ → AccountId
-account_at accounts place = slice_index_or accounts place (record { hi = 0; lo = 0 })
 
 -- the edge gives something to the target
 abbrev pub gives_to : ℕ → Edge → Bool
@@ -47,10 +44,6 @@ exposure_of targets commissions supports voters edges member =
       backers = backers_of targets voters edges member;
     }
 
--- what the edges give to a target
-abbrev pub given_to : ℕ → List Edge → ℕ
-given_to target edges = sum_by (λ edge. edge.amount) (filter (λ edge. nat_eq edge.target target) edges)
-
 -- what the edges of one account give
 abbrev pub spent_by : List AccountId → AccountId → List Edge → ℕ
 spent_by voters who edges =
@@ -59,7 +52,7 @@ spent_by voters who edges =
 -- the backers of a target give together what its edges do
 abbrev pub SupportLaw : Type 0
 SupportLaw = (targets voters : List AccountId) (edges : List Edge) (target : ℕ) →
-    amount_sum (backers_of targets voters edges target) ≡ given_to target edges
+    amount_sum (backers_of targets voters edges target) ≡ support edges target
 
 -- all exposures of a committee hold for an account at most what its edges give
 abbrev pub SpentLaw : Type 0
@@ -85,7 +78,7 @@ pub record IsWithin (targets voters : List AccountId) (edge : Edge) : Type 0 whe
 abbrev pub edges_by_voter : ℕ → List Edge → List Edge
 edges_by_voter zero edges = []
 edges_by_voter (suc voter) edges =
-    edges_by_voter voter edges ++ filter (λ edge. nat_eq edge.voter voter) edges
+    edges_by_voter voter edges ++ edges_from edges voter
 
 -- A committee and the edges by which it was elected: no account stands twice among the targets or
 -- among the voters, the members are different targets, no voter gives twice to a target, and a
@@ -99,7 +92,7 @@ pub record IsElected (targets voters : List AccountId) (commissions supports : L
   pub pairs_distinct : IsDistinct same_pair edges
   pub members_within : All (λ member. member < length targets) members
   pub members_distinct : IsDistinct nat_eq members
-  pub supports_given : All (λ member. slice_index_or supports member 0 ≡ given_to member edges) members
+  pub supports_given : All (λ member. slice_index_or supports member 0 ≡ support edges member) members
 
 -- the exposures of an elected committee are sound
 abbrev pub SoundLaw : Type 0

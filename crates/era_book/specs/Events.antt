@@ -87,5 +87,5 @@ begun (Started exposures ∷ more) = exposures ∷ begun more
 begun (event ∷ more) = begun more
 
 -- the exposures of an era in a history that starts with era 0, which has none
-abbrev pub exposures_of : ℕ → List Event → List Exposure
-exposures_of era events = unwrap_or (slice_get ([] ∷ begun events) era) []
+abbrev pub exposures_in : ℕ → List Event → List Exposure
+exposures_in era events = unwrap_or (slice_get ([] ∷ begun events) era) []

@@ -12,7 +12,7 @@ use Rattle.era_book.specs.Eras.{Eras, first_era, is_unknown, members_in, AreKept
 use Rattle.era_book.specs.declared.record.MemberRecord.{MemberRecord}
 use Rattle.era_book.specs.Members.{Members}
 use Rattle.era_book.specs.Records.{record_of, records_in, members_from, era_put, bare_at, IsBacked, AreWhole, AreEras}
-use Rattle.era_book.specs.Events.{Event, Started, IsAccepted, after, AreAccepted, after_all, given_by, pays, makes_due, waiting_for, queues, takes, exposures_of}
+use Rattle.era_book.specs.Events.{Event, Started, IsAccepted, after, AreAccepted, after_all, given_by, pays, makes_due, waiting_for, queues, takes, exposures_in}
 use Rattle.era_book.specs.Course.{AreInOrder, paid_before, due_before, held_in}
 
 -- a validator and its backers are paid at most what is to be paid to them
@@ -34,7 +34,7 @@ RewardLaw = (era reward : ℕ) (events : List Event) → AreAccepted events firs
 -- exposures of that era hold for it
 abbrev pub DueLaw : Type 0
 DueLaw = (era : ℕ) (who : AccountId) (events : List Event) → AreAccepted events first_era →
-    given_by (makes_due era who) events first_era ≤ exposed_for who (exposures_of era events)
+    given_by (makes_due era who) events first_era ≤ exposed_for who (exposures_in era events)
 
 -- era 0 is in order, and so are the eras after any event
 abbrev pub InOrderLaw : Type 0

@@ -6,7 +6,8 @@ use Rattle.era_book.specs.declared.exposure.Backer.{Backer}
 use Rattle.era_book.specs.declared.seat.Share.{Share}
 use Rattle.era_book.specs.declared.seat.Seat.{Seat}
 use Rattle.era_book.specs.Payouts.{line}
-use Rattle.era_book.specs.Committee.{account_at, gives_to, is_of}
+use Rattle.npos_base.specs.Account.{account_at}
+use Rattle.era_book.specs.Committee.{gives_to, is_of}
 use Rattle.era_book.specs.Members.{Member, Members}
 
 abbrev pub backer_seen : List AccountId → Share → Backer

@@ -3,7 +3,8 @@ ghost use Rattle.std.specs.Prelude.{◌≡◌, ◌<◌, nat_eq, length, map, sli
 ghost use Rattle.std.specs.Bool.{OnTrue};
 ghost use Rattle.std.specs.List.{IsDistinct};
 ghost use Rattle.std.specs.List.Sorted.{IsNonDecreasingBy};
-ghost use Rattle.era_book.specs.Committee.{IsWithin, IsElected, account_at, edges_by_voter, exposure_of};
+ghost use Rattle.npos_base.specs.Account.{account_at};
+ghost use Rattle.era_book.specs.Committee.{IsWithin, IsElected, edges_by_voter, exposure_of};
 ghost use Rattle.era_book.specs.Members.{members_with};
 ghost use Rattle.era_book.specs.Seats.{members_seen, seat_of};
 

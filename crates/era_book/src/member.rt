@@ -1,12 +1,11 @@
 //! One validator in one era: what stands behind it and what happened since.
 ghost use Rattle.std.specs.Prelude.{◌≡◌, ◌^◌, ◌<◌, ◌≤◌, ◌+◌, ◌++◌, [], ◌∷◌, length, map, find, IfOk};
 ghost use Rattle.std.specs.Option.{option_copied};
-ghost use Rattle.npos_base.specs.Account.{same_account};
+ghost use Rattle.npos_base.specs.Account.{same_account, account_at};
 ghost use Rattle.npos_base.specs.declared.limits.TheConstants.{WHOLE_FRACTION};
 ghost use Rattle.era_book.specs.Exposures.{amount_sum, IsSoundExposure};
 ghost use Rattle.era_book.specs.Payouts.{part, own_part, others, kept_lines, line, payout_lines, payout_of};
 ghost use Rattle.era_book.specs.Slashes.{slash_lines};
-ghost use Rattle.era_book.specs.Committee.{account_at};
 ghost use Rattle.era_book.specs.Seats.{backers_seen, member_seen};
 
 use crate::seat::{Seat, Share, account_at};

@@ -1,6 +1,6 @@
 //! The accounts of an era, each kept once where that can be, and named by its place.
 ghost use Rattle.std.specs.Prelude.{◌≡◌, ◌<◌, [], length, IfSome, IfOk};
-ghost use Rattle.era_book.specs.Committee.{account_at};
+ghost use Rattle.npos_base.specs.Account.{account_at};
 ghost use Rattle.era_book.specs.Seats.{Grows};
 
 use npos_base::{AccountId, NoMemory};
@@ -41,7 +41,7 @@ impl Names {
     }
 
     /// The place of the account, which gets one where it is not found.
-    pub fn place(&mut self, who: AccountId) -> Result<u32, NoMemory>
+    pub fn place(&mut self, who: AccountId) -> Result<usize, NoMemory>
         ensures grows { Grows self.old self.new }
         ensures within { IfOk result (λ place. place < length self.new) }
         ensures there { IfOk result (λ place. account_at self.new place ≡ who) }
@@ -50,12 +50,11 @@ impl Names {
         if let Some(place) = guessed(self.accounts.as_slice(), self.slots.get(slot), who) {
             return Ok(place);
         }
-        let Ok(place) = u32::try_from(self.accounts.len()) else {
-            return Err(NoMemory);
-        };
+        let place = self.accounts.len();
         self.accounts.push(who)?;
         if let Some(noted) = self.slots.get_mut(slot) {
-            *noted = place;
+            // a guess, of which 32 bits are enough
+            *noted = (place & 0xffff_ffff) as u32;
         }
         Ok(place)
     }
@@ -75,12 +74,12 @@ fn slot_of(who: AccountId) -> usize {
 }
 
 /// The place that is guessed for the account, where it stands there.
-fn guessed(accounts: &[AccountId], guess: Option<&u32>, who: AccountId) -> Option<u32>
+fn guessed(accounts: &[AccountId], guess: Option<&u32>, who: AccountId) -> Option<usize>
     ensures within { IfSome result (λ place. place < length accounts.now) }
     ensures there { IfSome result (λ place. account_at accounts.now place ≡ who) }
 {
-    let place = *guess?;
-    match accounts.get(place as usize) {
+    let place = *guess? as usize;
+    match accounts.get(place) {
         Some(account) if *account == who => Some(place),
         _ => None,
     }

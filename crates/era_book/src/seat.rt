@@ -1,7 +1,7 @@
 //! How a member is kept: its backers by the places of their accounts.
 ghost use Rattle.std.specs.Prelude.{◌≡◌, ◌+◌, ◌<◌, ◌^◌, List as list, IfOk};
 ghost use Rattle.npos_base.specs.declared.account.AccountId.{AccountId};
-ghost use Rattle.era_book.specs.Committee.{account_at};
+ghost use Rattle.npos_base.specs.Account.{account_at};
 ghost use Rattle.era_book.specs.Members.{newcomer, gaining};
 ghost use Rattle.era_book.specs.Records.{member_from, record_of};
 ghost use Rattle.era_book.specs.Seats.{Grows, AreWithin, backers_seen, member_seen};
@@ -15,7 +15,7 @@ use std::alloc::Global;
 /// and this takes 16 bytes where a backer with its account takes 48.
 #[derive(Clone, Copy, Debug)]
 pub struct Share {
-    pub place: u32,
+    pub place: usize,
     pub amount: u64,
 }
 
@@ -146,10 +146,10 @@ fn backers_at(
 }
 
 /// The account at the place.
-pub fn account_at(accounts: &[AccountId], place: u32) -> AccountId
+pub fn account_at(accounts: &[AccountId], place: usize) -> AccountId
     ensures { result ≡ account_at accounts.now place }
 {
-    match accounts.get(place as usize) {
+    match accounts.get(place) {
         Some(account) => *account,
         None => AccountId { hi: 0, lo: 0 },
     }

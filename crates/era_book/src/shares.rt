@@ -85,7 +85,7 @@ fn put(shares: &mut List<Share>, edge: Edge) -> Result<(), NoMemory>
     ensures ok { OnOk result (shares.new ≡ shares.old ++ edge_share edge ∷ []) }
 {
     shares.put(Share {
-        place: edge.voter,
+        place: edge.voter as usize,
         amount: edge.amount,
     })
 }

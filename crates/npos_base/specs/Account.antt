@@ -1,5 +1,5 @@
 -- An account is 32 bytes: 16 of `hi` and 16 of `lo`, the greatest first.
-use Rattle.std.specs.Prelude.{ℕ, Bool, ◌&&◌, nat_eq, List, ◌++◌, take, drop}
+use Rattle.std.specs.Prelude.{ℕ, Bool, ◌&&◌, nat_eq, List, ◌++◌, take, drop, slice_index_or}
 use Rattle.std.specs.Int.{w128, from_be_bytes, to_be_bytes}
 use Rattle.std.specs.Ordering.{nat_cmp, ordering_then}
 use Rattle.std.specs.declared.cmp.Ordering.{Ordering}
@@ -20,3 +20,7 @@ account_cmp a b = ordering_then (nat_cmp a.hi b.hi) (nat_cmp a.lo b.lo)
 -- the accounts are one
 abbrev pub same_account : AccountId → AccountId → Bool
 same_account a b = nat_eq a.hi b.hi && nat_eq a.lo b.lo
+
+-- the account at a place
+abbrev pub account_at : List AccountId → ℕ → AccountId
+account_at accounts place = slice_index_or accounts place (record { hi = 0; lo = 0 })

@@ -1,5 +1,6 @@
 //! The numbers by which solutions are compared and told.
 ghost use Rattle.std.specs.Prelude.{◌≡◌, ◌≤◌, ◌<◌, ◌*◌, ◌/◌};
+ghost use Rattle.npos_base.specs.Edge.{place_of};
 ghost use Rattle.npos_base.specs.Score.{is_better};
 
 /// The score of a solution, as Substrate compares election results: the least support of a winner,
@@ -34,6 +35,15 @@ pub struct Edge {
     pub voter: u32,
     pub target: u16,
     pub amount: u64,
+}
+
+impl Edge {
+    /// The place of the edge in the order by voter and then by target.
+    pub fn place(&self) -> u64
+        ensures { result ≡ place_of self.now }
+    {
+        u64::from(self.voter) * 65_536 + u64::from(self.target)
+    }
 }
 
 /// The part of the value that `parts` of a whole stand for, rounded down.

@@ -15,8 +15,8 @@ impl From<AllocError> for NoMemory {
 }
 
 impl<T: Drop> From<AllocFailed<T>> for NoMemory {
-    fn from(_error: AllocFailed<T>) -> NoMemory {
-        NoMemory
+    fn from(error: AllocFailed<T>) -> NoMemory {
+        NoMemory::from(AllocError::from(error))
     }
 }
 

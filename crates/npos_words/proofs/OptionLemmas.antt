@@ -1,5 +1,5 @@
 -- clap, on a command with options alone, finds the options of the definition.
-use Rattle.std.proofs.Common.{◌≡◌, ◌∙◌, ◌&&◌, ◌||◌, ℕ, Bool, cond, true, false, refl, sym, ap, ap₂, subst, subst₂, List, [], ◌∷◌, ◌++◌, map, Option, Some, None, true≢false, append-nil, eqb-true}
+use Rattle.std.proofs.Common.{◌≡◌, ◌∙◌, ◌&&◌, ℕ, Bool, cond, true, false, refl, sym, ap, ap₂, subst, subst₂, List, [], ◌∷◌, ◌++◌, map, Option, Some, None, true≢false, append-nil, eqb-true}
 use Rattle.std.specs.List.{All, fold, list_any}
 use Rattle.std.specs.Option.{is_some}
 use Rattle.std.specs.Prelude.{◌==◌, slice_get, not, IsUtf8, codes}
@@ -9,6 +9,7 @@ use Rattle.std.proofs.lemmas.Slice.Eq.{bytes_eq-Decides}
 use Rattle.std.proofs.lemmas.List.{map-append}
 use Rattle.std.proofs.lemmas.Str.{encodes-chars, IsUtf8-past_char}
 use Rattle.std.proofs.lemmas.List.Elements.{All-head, All-tail}
+use Rattle.std.proofs.lemmas.Bool.{or_parts}
 use Rattle.clap.proofs.WalkLemmas.{list_any-map}
 use Rattle.clap.specs.Lexer.{long_of, short_of}
 use Rattle.clap.specs.Walk.{Held, Row, Rule, Text, Waiting, Walk, idle, option, after_step, at_row, arg_by_id, arg_by_index, arg_by_long, arg_by_short, finished, has_row, long_or_other, more_values, reading_by, settled, subcommand_met, used, walk_from, walked, with_default, with_values}
@@ -53,12 +54,8 @@ same_text a b e = (bytes_eq-Decides a b).0 e
 pub equal_self : (a : Text) → bytes_eq a a ≡ true
 equal_self a = (bytes_eq-Decides a a).1 refl
 
-pub or_false : (a b : Bool) → (a || b) ≡ false → (a ≡ false) × (b ≡ false)
-or_false true b e = absurd (true≢false e)
-or_false false b e = (refl, e)
-
 not_dashes : (word : Text) → is_bare word ≡ false → bytes_eq word (45 ∷ 45 ∷ []) ≡ false
-not_dashes word e = (or_false (bytes_eq word (codes "-")) _ e).1
+not_dashes word e = (or_parts (bytes_eq word (codes "-")) _ e).1
 
 -- what clap sees in a word
 data Look (word : Text) : Type 0 where
@@ -362,7 +359,7 @@ settle_fails : (names : List Text) (words : List Text) (h : Held) → All IsUtf8
     → Fails (settle_fault (known names) false h) → Fails (faults_at names (walk_from h) words)
 settle_fails names [] h u bare skip f = end_fails names idle h f
 settle_fails names (word ∷ rest) h u bare skip f =
-    fails_here names (walk_from h) word rest (settle_turn_fails names word h (All-head IsUtf8 word rest u) (or_false _ _ bare).0 skip f)
+    fails_here names (walk_from h) word rest (settle_turn_fails names word h (All-head IsUtf8 word rest u) (or_parts _ _ bare).0 skip f)
 
 -- ## One option
 
@@ -552,12 +549,12 @@ pub reads : (names : List Text) (words : List Text) (given : List Setting) (h : 
     → Meets names words given h
 reads names [] given h r u bare = ended names given h r
 reads names (word ∷ []) given h r u bare =
-    let first = (or_false _ _ bare).0 in
+    let first = (or_parts _ _ bare).0 in
     word_reads names word [] given h r (All-head IsUtf8 word [] u) first (λ all k r. ended names all k r)
     (λ name is. last_reads names word name given h r (not_dashes word first) is)
 reads names (word ∷ next ∷ rest) given h r u bare =
-    let first = or_false _ _ bare in
-    let second = or_false _ _ first.1 in
+    let first = or_parts _ _ bare in
+    let second = or_parts _ _ first.1 in
     let us = All-tail IsUtf8 word (next ∷ rest) u in
     word_reads names word (next ∷ rest) given h r (All-head IsUtf8 word (next ∷ rest) u) first.0
     (λ all k r. reads names (next ∷ rest) all k r us first.1)

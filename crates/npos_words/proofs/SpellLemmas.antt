@@ -4,9 +4,10 @@ use Rattle.std.specs.List.{list_any, before_first, after_first, position_or_len}
 use Rattle.std.specs.Prelude.{◌==◌, is_some, unwrap_or}
 use Rattle.std.specs.Str.{bytes_eq}
 use Rattle.std.proofs.lemmas.List.Elements.{All-head, All-tail, All-cons, All-nil}
+use Rattle.std.proofs.lemmas.Bool.{or_parts}
 use Rattle.npos_words.specs.Options.{Text, Setting, begins_with_hyphen, flag_of, flag_text, is_among, is_equals_sign, is_given, name_and_value, options_from, with_flag, with_next_word, with_setting, with_value}
 use Rattle.npos_words.specs.Laws.{AreApart, IsName, NamesAreNames, ReadsWhatIsSpelled, Spell, flag_word, joined_word}
-use Rattle.npos_words.proofs.OptionLemmas.{is_blank, or_false, same_text, equal_self}
+use Rattle.npos_words.proofs.OptionLemmas.{is_blank, same_text, equal_self}
 
 -- ## Names and values
 
@@ -25,7 +26,7 @@ after_more x xs other =
 no_sign : (text : Text) → list_any is_equals_sign text ≡ false → before_first is_equals_sign text ≡ text
 no_sign [] none = refl
 no_sign (x ∷ xs) none =
-    let parts = or_false (is_equals_sign x) (list_any is_equals_sign xs) none in
+    let parts = or_parts (is_equals_sign x) (list_any is_equals_sign xs) none in
     before_more x xs parts.0 ∙ ap (λ rest. x ∷ rest) (no_sign xs parts.1)
 
 -- the text is cut at its first sign
@@ -45,7 +46,7 @@ named_cut : (name value : Text) → list_any is_equals_sign name ≡ false
     × (list_any is_equals_sign (name ++ 61 ∷ value) ≡ true)
 named_cut [] value none = (refl, refl, refl)
 named_cut (x ∷ xs) value none =
-    let parts = or_false (is_equals_sign x) (list_any is_equals_sign xs) none in
+    let parts = or_parts (is_equals_sign x) (list_any is_equals_sign xs) none in
     let later = named_cut xs value parts.1 in
     (before_more x (xs ++ 61 ∷ value) parts.0 ∙ ap (λ rest. x ∷ rest) later.0, after_more x (xs ++ 61 ∷ value) parts.0 ∙ later.1, rw parts.0 later.2)
 
@@ -122,9 +123,9 @@ not_same a b other = go (bytes_eq b a) refl
 
 given_more : (given : List Setting) (setting : Setting) (name : Text) → is_given (given ++ setting ∷ []) name ≡ false
     → (is_given given name ≡ false) × (bytes_eq setting.name name ≡ false)
-given_more [] setting name none = (refl, (or_false (bytes_eq setting.name name) false none).0)
+given_more [] setting name none = (refl, (or_parts (bytes_eq setting.name name) false none).0)
 given_more (first ∷ given) setting name none =
-    let parts = or_false (bytes_eq first.name name) (is_given (given ++ setting ∷ []) name) none in
+    let parts = or_parts (bytes_eq first.name name) (is_given (given ++ setting ∷ []) name) none in
     let later = given_more given setting name parts.1 in
     (rw parts.0 later.0, later.1)
 
@@ -132,7 +133,7 @@ more_given : (given : List Setting) (setting : Setting) (name : Text) → is_giv
     → is_given (given ++ setting ∷ []) name ≡ false
 more_given [] setting name none other = rw other refl
 more_given (first ∷ given) setting name none other =
-    let parts = or_false (bytes_eq first.name name) (is_given given name) none in
+    let parts = or_parts (bytes_eq first.name name) (is_given given name) none in
     rw parts.0 (more_given given setting name parts.1 other)
 
 abbrev AreNew : List Setting → List Setting → Type 0
@@ -153,7 +154,7 @@ new_before given (first ∷ more) setting new =
 new_behind : (given more : List Setting) (setting : Setting) → AreNew given more → is_given more setting.name ≡ false → AreNew (given ++ setting ∷ []) more
 new_behind given [] setting new apart = All-nil (λ other. is_given (given ++ setting ∷ []) other.name ≡ false)
 new_behind given (first ∷ more) setting new apart =
-    let parts = or_false (bytes_eq first.name setting.name) (is_given more setting.name) apart in
+    let parts = or_parts (bytes_eq first.name setting.name) (is_given more setting.name) apart in
     All-cons (λ other. is_given (given ++ setting ∷ []) other.name ≡ false) first more
     (more_given given setting first.name (All-head (λ other. is_given given other.name ≡ false) first more new) (not_same first.name setting.name parts.0))
     (new_behind given more setting (All-tail (λ other. is_given given other.name ≡ false) first more new) parts.1)

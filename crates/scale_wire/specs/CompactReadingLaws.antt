@@ -1,7 +1,7 @@
 -- Proofs: from bytes to the compact integer that they spell.
-use Rattle.std.specs.Prelude.{◌≡◌, ℕ, zero, suc, ◌+◌, ◌-◌, ◌*◌, ◌/◌, ◌%◌, ◌^◌, ◌<◌, ◌≤◌, Bool, true, false, ◌||◌, List, [], ◌∷◌, ◌++◌, length, take, drop, slice_index, nat_lt, nat_eq, Option, None, refl}
+use Rattle.std.specs.Prelude.{◌≡◌, ℕ, zero, suc, ◌+◌, ◌-◌, ◌*◌, ◌/◌, ◌%◌, ◌^◌, ◌<◌, ◌≤◌, Bool, false, List, [], ◌∷◌, ◌++◌, length, take, drop, slice_index, nat_lt, nat_eq, Option, None, refl}
 use Rattle.std.proofs.Common.{sym, ◌∙◌, ap, ap₂, subst, inr, arith}
-use Rattle.std.proofs.lemmas.Bool.{ltb-false, leb-false, lt-leb, eqb-false}
+use Rattle.std.proofs.lemmas.Bool.{ltb-false, leb-false, lt-leb, eqb-false, or_parts}
 use Rattle.std.proofs.lemmas.List.{take-append-drop, length-take-le, get_or-take}
 use Rattle.scale_wire.specs.declared.fault.Why.{Why}
 use Rattle.scale_wire.specs.Form.{IsBytes}
@@ -169,11 +169,6 @@ big_spelled byte more rest byte_fits are_bytes low high few whole above positive
     ∙ (ap (λ (count : ℕ). (4 * (count - 4) + 3) ∷ little_endian count (number_from (take (more + 4) rest))) count_is
     ∙ ap₂ (λ (b : ℕ) (bs : List ℕ). b ∷ bs) head (fixed_mode (more + 4) rest are_bytes whole).1)
 
-or_false : (a b : Bool) → (a || b) ≡ false → (a ≡ false) × (b ≡ false)
-or_false true b is_false = cc
-or_false false true is_false = cc
-or_false false false is_false = (refl, refl)
-
 positive_from : (number : ℕ) → (number ≡ 0 → ⊥) → 0 < number
 positive_from zero not_zero = absurd (not_zero refl)
 positive_from (suc number) not_zero = omega arith
@@ -188,7 +183,7 @@ spelled_big most (byte ∷ rest) are_bytes is few announced_fits whole shortest 
     let low : byte % 4 ≡ 3 = omega arith in
     let within : byte / 4 + 4 ≤ most = ltb-false most (byte / 4 + 4) announced_fits in
     let long : byte / 4 + 4 ≤ length rest = omega arith in
-    let neither = or_false (nat_lt (number_from (take (byte / 4 + 4) rest)) (2 ^ 30)) (nat_eq (slice_index (byte ∷ rest) (byte / 4 + 4)) 0) shortest in
+    let neither = or_parts (nat_lt (number_from (take (byte / 4 + 4) rest)) (2 ^ 30)) (nat_eq (slice_index (byte ∷ rest) (byte / 4 + 4)) 0) shortest in
     let above : 2 ^ 30 ≤ number_from (take (byte / 4 + 4) rest) = ltb-false (number_from (take (byte / 4 + 4) rest)) (2 ^ 30) neither.0 in
     let next : byte / 4 + 4 ≡ suc (byte / 4 + 3) = omega arith in
     let last : slice_index (byte ∷ rest) (byte / 4 + 4) ≡ slice_index rest (byte / 4 + 3) = ap (λ (n : ℕ). slice_index (byte ∷ rest) n) next in

@@ -1,11 +1,10 @@
 -- What stands in lists that are made from others.
-use Rattle.std.proofs.Common.{◌≡◌, ℕ, zero, suc, ◌+◌, ◌<◌, ◌≤◌, ◌⊎◌, Bool, true, cond, nat_eq, List, [], ◌∷◌, ◌++◌, length, get_or, map, filter, sum_by, All, Contains, IsPermutation, inl, inr, refl, ap, ap₂, sym, subst, ◌∙◌, arith}
+use Rattle.std.proofs.Common.{◌≡◌, ℕ, zero, suc, ◌+◌, ◌<◌, ◌≤◌, ◌⊎◌, Bool, true, nat_eq, List, [], ◌∷◌, ◌++◌, length, get_or, map, filter, sum_by, All, Contains, IsPermutation, inl, inr, refl, ap, ap₂, sym, subst, ◌∙◌, arith}
 use Rattle.std.specs.List.{flat_map, range_with_len}
 use Rattle.std.proofs.lemmas.Bool.{cases_Bool, cases_lt, cond_both, or_cases, or_left, or_right, eqb-true, eq-eqb, true≢false}
 use Rattle.std.proofs.lemmas.List.Sorted.{Contains-permutation}
 use Rattle.std.proofs.lemmas.List.Sums.{sum_by-cons}
 use Rattle.election_snapshot.specs.Snapshot.{has}
-use Rattle.weight_book.proofs.SumLemmas.{sum_filter-cons}
 
 -- the item stands in the list
 abbrev pub In : {X : Type 0} → List X → X → Type 0
@@ -123,7 +122,3 @@ term_le f (y ∷ xs) x (inr h) = rw (sum_by-cons f y xs) (omega (arith, term_le 
 
 pub all_at : {X : Type 0} (P : X → Type 0) (xs : List X) → All P xs → (x : X) → In xs x → P x
 all_at P xs all x h = let place = in_contains xs x h in subst P place.2 (all place.0 x place.1)
-
-pub sum_filter : {X : Type 0} (p : X → Bool) (f : X → ℕ) (xs : List X) → sum_by f (filter p xs) ≡ sum_by (λ x. cond (p x) (f x) 0) xs
-sum_filter p f [] = refl
-sum_filter p f (x ∷ xs) = sum_filter-cons p f x xs ∙ ap (λ n. cond (p x) (f x) 0 + n) (sum_filter p f xs) ∙ sym (sum_by-cons (λ y. cond (p y) (f y) 0) x xs)

@@ -10,8 +10,9 @@ use Rattle.election_snapshot.specs.Snapshot.{Snapshot, Voter, nobody, has, nomin
 use Rattle.weight_book.specs.Passing.{nominators}
 use Rattle.weight_book.proofs.SumLemmas.{sum_filter_push, sum_filter-le, sum_le, sum_same}
 use Rattle.weight_book.proofs.StakeLemmas.{range_more, stakes_before, stakes_in_order}
+use Rattle.weight_book.proofs.GivenEdgeLemmas.{filtered_sum}
 use Rattle.seat_race.specs.Tables.{nominators_before}
-use Rattle.seat_race.proofs.InLemmas.{In, in_filter, in_range, sum_filter}
+use Rattle.seat_race.proofs.InLemmas.{In, in_filter, in_range}
 use Rattle.seat_race.proofs.OrderLemmas.{rises_range, rises_distinct, rises-filter}
 
 pub before_more : (snapshot : Snapshot) (value : ℕ → ℕ) (target voter : ℕ) → sum_by value (nominators_before snapshot target (voter + 1))
@@ -90,7 +91,7 @@ only_one f n low (suc count) p q = rw (sum_by-cons (λ m. cond (nat_eq m n) (f m
 pub one_nominator : (snapshot : Snapshot) (f : ℕ → ℕ) (voter target : ℕ) → voter < length snapshot.voters
     → sum_by (λ n. cond (nat_eq n voter) (f n) 0) (nominators snapshot target) ≡ cond (nominates snapshot voter target) (f voter) 0
 one_nominator snapshot f voter target h =
-    sum_filter (λ n. nominates snapshot n target) (λ n. cond (nat_eq n voter) (f n) 0) all
+    filtered_sum (λ n. cond (nat_eq n voter) (f n) 0) (λ n. nominates snapshot n target) all
     ∙ sum_same (λ n. cond (nominates snapshot n target) (cond (nat_eq n voter) (f n) 0) 0) (λ n. cond (nat_eq n voter) (cond (nominates snapshot n target) (f n) 0) 0)
     (λ n. swapped (f n) (nominates snapshot n target) (nat_eq n voter)) all
     ∙ only_one (λ n. cond (nominates snapshot n target) (f n) 0) voter 0 (length snapshot.voters) (omega arith) (omega (arith, h))

@@ -1,7 +1,7 @@
 //! Edges in their order, as weights have them.
 ghost use Rattle.std.specs.Prelude.{◌≡◌, [], OnOk, IsPermutation};
 ghost use Rattle.std.specs.List.Sorted.{IsNonDecreasingBy};
-ghost use Rattle.npos_base.specs.Edge.{place_of as place};
+ghost use Rattle.npos_base.specs.Edge.{place_of};
 ghost use Rattle.weight_book.specs.Room.{KeepsRoom};
 
 use npos_base::{Edge, NoMemory};
@@ -11,21 +11,14 @@ use weight_book::Weights;
 /// have none yet.
 pub fn put_by_voter(edges: &mut [Edge], weights: &mut Weights) -> Result<(), NoMemory>
     requires { weights.old.plain.edges ≡ [] }
-    ensures order { OnOk result (IsNonDecreasingBy place weights.new.plain.edges) }
+    ensures order { OnOk result (IsNonDecreasingBy place_of weights.new.plain.edges) }
     ensures same { OnOk result (IsPermutation edges.old weights.new.plain.edges) }
     ensures members { OnOk result (weights.new.plain.committee ≡ weights.old.plain.committee) }
     ensures room { KeepsRoom weights.old weights.new }
 {
-    edges.sort_unstable_by_key(|edge| place_of(edge));
+    edges.sort_unstable_by_key(|edge| edge.place());
     put_edges(edges, weights)?;
     Ok(())
-}
-
-/// The place of an edge in the order by voter and then by target.
-fn place_of(edge: &Edge) -> u64
-    ensures { result ≡ place edge.now }
-{
-    u64::from(edge.voter) * 65_536 + u64::from(edge.target)
 }
 
 /// Appends the edges to the weights.

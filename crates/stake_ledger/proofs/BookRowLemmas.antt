@@ -12,6 +12,7 @@ use Rattle.std.proofs.lemmas.List.Elements.{All-cons, All-nil}
 use Rattle.std.proofs.lemmas.List.Kept.{AllPairs-cons}
 use Rattle.std.proofs.lemmas.List.Sums.{sum_by-cons, sum_by_more_le_part}
 use Rattle.std.proofs.lemmas.Grind.{common_steps}
+use Rattle.std.proofs.lemmas.Bool.{or_parts}
 use Rattle.npos_base.specs.declared.account.AccountId.{AccountId}
 use Rattle.npos_base.specs.Account.{account_cmp}
 use Rattle.npos_base.proofs.AccountOrder.{account_total}
@@ -83,17 +84,13 @@ part_fits part within rows genesis minted burned i d good below =
 
 -- ---- rows without a fault
 
-either_false : (a b : Bool) → (a || b) ≡ false → (a ≡ false) × (b ≡ false)
-either_false true b e = absurd (true≢false e)
-either_false false b e = (refl, e)
-
 -- the chunks behind one of this release
 chunks_behind : (before : ℕ) (chunks : List Chunk) → has_bad_chunk (Some before) chunks ≡ false
     → (All (λ c. before < c.release) chunks) × ((All (λ c. 0 < c.value) chunks) × AllPairs (λ earlier later. earlier.release < later.release) chunks)
 chunks_behind before [] good = (All-nil _, (All-nil _, λ i j d below within. absurd (omega (arith, within, below))))
 chunks_behind before (c ∷ later) good =
-    let first = either_false (nat_eq c.value 0 || nat_le c.release before) (has_bad_chunk (Some c.release) later) good in
-    let second = either_false (nat_eq c.value 0) (nat_le c.release before) first.0 in
+    let first = or_parts (nat_eq c.value 0 || nat_le c.release before) (has_bad_chunk (Some c.release) later) good in
+    let second = or_parts (nat_eq c.value 0) (nat_le c.release before) first.0 in
     let rest = chunks_behind c.release later first.1 in
     let some : 0 < c.value = grind (arith, common_steps, second.0) in
     let above : before < c.release = grind (arith, common_steps, second.1) in (
@@ -107,9 +104,9 @@ chunks_behind before (c ∷ later) good =
 pub good_schedule : (chunks : List Chunk) → has_bad_chunk None chunks ≡ false → nat_lt 32 (length chunks) ≡ false → IsSchedule chunks
 good_schedule [] good few = record { whole = All-nil _; few = omega arith; rising = λ i j d below within. absurd (omega (arith, within, below)) }
 good_schedule (c ∷ later) good few =
-    let first = either_false (nat_eq c.value 0 || false) (has_bad_chunk (Some c.release) later) good in
+    let first = or_parts (nat_eq c.value 0 || false) (has_bad_chunk (Some c.release) later) good in
     let rest = chunks_behind c.release later first.1 in
-    let some : 0 < c.value = grind (arith, common_steps, (either_false (nat_eq c.value 0) false first.0).0) in
+    let some : 0 < c.value = grind (arith, common_steps, (or_parts (nat_eq c.value 0) false first.0).0) in
     record {
       whole = All-cons (λ (x : Chunk). 0 < x.value) c later some rest.1.0;
       few = grind (arith, common_steps, few);
@@ -127,8 +124,8 @@ first_good before row rows none = at (is_bad_row before row) (first_bad_row (Som
 
 good_row : (before : Option AccountId) (row : BookRow) → is_bad_row before row ≡ false → (is_out_of_order before row.who ≡ false) × IsSchedule row.chunks
 good_row before row good =
-    let first = either_false (is_out_of_order before row.who || nat_lt 32 (length row.chunks)) (has_bad_chunk None row.chunks) good in
-    let second = either_false (is_out_of_order before row.who) (nat_lt 32 (length row.chunks)) first.0 in
+    let first = or_parts (is_out_of_order before row.who || nat_lt 32 (length row.chunks)) (has_bad_chunk None row.chunks) good in
+    let second = or_parts (is_out_of_order before row.who) (nat_lt 32 (length row.chunks)) first.0 in
     (second.0, good_schedule row.chunks first.1 second.1)
 
 above_before : (before who : AccountId) → is_out_of_order (Some before) who ≡ false → account_cmp before who ≡ Less

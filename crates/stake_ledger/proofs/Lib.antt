@@ -6,4 +6,5 @@ pub mod LedgerLemmas
 pub mod ScheduleLemmas
 pub mod CallLemmas
 pub mod KeepLemmas
+pub mod EndowedLemmas
 pub mod AccountLemmas

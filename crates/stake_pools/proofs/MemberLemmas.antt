@@ -13,6 +13,7 @@ use Rattle.std.proofs.lemmas.Map.Entries.{none_below_head, sum_by-insert_entry, 
 use Rattle.std.proofs.lemmas.List.Sums.{sum_by-cons}
 use Rattle.std.proofs.lemmas.Map.Keys.{sorted_tail}
 use Rattle.std.proofs.lemmas.Grind.{common_steps}
+use Rattle.std.proofs.lemmas.Bool.{and_parts}
 use Rattle.npos_base.specs.declared.account.AccountId.{AccountId}
 use Rattle.npos_base.specs.Account.{account_cmp}
 use Rattle.npos_base.specs.Refusal.{Meets, MeetsAlways}
@@ -101,10 +102,6 @@ pub record HasNothing (member : Member) : Type 0 where
   pub points : points_of member ≡ 0
   pub staying : member.staying ≡ 0
   pub credit : member.credit ≡ 0
-
-and_parts : (b c : Bool) → (b && c) ≡ true → (b ≡ true) × (c ≡ true)
-and_parts true c e = (refl, e)
-and_parts false c e = absurd (true≢false (sym e))
 
 pub nothing_there : (member : Member) → has_nothing member ≡ true → HasNothing member
 nothing_there member e =

@@ -12,7 +12,7 @@ use Rattle.stake_ledger.proofs.AccountLemmas.{row_at-changed}
 use Rattle.stake_pools.specs.declared.fault.PoolFault.{PoolFault}
 use Rattle.stake_pools.specs.declared.fault.PoolFault.TheVariants.{RepeatedAccount, TooMuch, PoolEndowed}
 use Rattle.stake_pools.specs.Genesis.{is_endowed, endowment_sum, endowment_fault, endowed_all, bonding_fault}
-use Rattle.stake_pools.specs.Laws.{StartLaw}
+use Rattle.stake_pools.specs.Laws.{PoolStartLaw}
 use Rattle.stake_pools.proofs.EndowLemmas.{sum_more}
 use Rattle.stake_pools.proofs.SoundLemmas.{neither}
 
@@ -69,7 +69,7 @@ nobody_rises : IsStrictlySortedBy account_cmp []
 unfolding IsStrictlySortedBy
 nobody_rises = tt
 
-pub start_law : StartLaw
+pub start_law : PoolStartLaw
 start_law genesis none =
     let each = neither (endowment_fault genesis.pool [] genesis.endowments) (bonding_fault genesis.bonding_eras) none in
     let is = fresh genesis.pool [] genesis.endowments empty_ledger fresh_empty refl each.0 in

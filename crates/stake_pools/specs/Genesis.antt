@@ -53,12 +53,12 @@ pool_chain genesis = record {
 }
 
 -- the number and the detail of a fault, as they are printed; want of memory has none
-abbrev pub fault_numbers : PoolFault → ℕ × ℕ
-fault_numbers (RepeatedAccount place) = (1, place)
-fault_numbers (TooMuch place) = (2, place)
-fault_numbers (BadBonding eras) = (5, eras)
-fault_numbers (PoolEndowed place) = (11, place)
-fault_numbers NoMemory = (0, 0)
+abbrev pub fault_numbers : PoolFault → Option (ℕ × ℕ)
+fault_numbers (RepeatedAccount place) = Some (1, place)
+fault_numbers (TooMuch place) = Some (2, place)
+fault_numbers (BadBonding eras) = Some (5, eras)
+fault_numbers (PoolEndowed place) = Some (11, place)
+fault_numbers NoMemory = None
 
 -- the fault that is answered: the first that the genesis has, or want of memory
 abbrev pub IsFault : Option PoolFault → PoolFault → Type 0

@@ -15,8 +15,8 @@ use Rattle.stake_pools.specs.Sound.{IsSoundPool}
 
 -- A pool starts sound, and every list of items leaves it so: the books balance, the credits are in the pot,
 -- and the active stake is at most the points.
-abbrev pub StartLaw : Type 0
-StartLaw = (genesis : PoolGenesis) → pool_fault genesis ≡ None → IsSoundPool (pool_chain genesis)
+abbrev pub PoolStartLaw : Type 0
+PoolStartLaw = (genesis : PoolGenesis) → pool_fault genesis ≡ None → IsSoundPool (pool_chain genesis)
 
 abbrev pub KeptLaw : Type 0
 KeptLaw = (chain : PoolChain) → IsSoundPool chain → (items : List PoolItem) → IsSoundPool (after_items chain items)

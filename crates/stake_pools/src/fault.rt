@@ -23,29 +23,17 @@ pub enum PoolFault {
 }
 
 impl PoolFault {
-    /// The number of the fault, as it is printed; 0 for want of memory, which is not printed.
-    pub fn number(&self) -> u8
-        ensures { result ≡ (fault_numbers self.now).0 }
+    /// The number of the fault and its detail, as they are printed; none for want of memory, which
+    /// is not printed.
+    pub fn numbers(&self) -> Option<(u8, u32)>
+        ensures { result ≡ fault_numbers self.now }
     {
-        match self {
-            PoolFault::RepeatedAccount(_) => 1,
-            PoolFault::TooMuch(_) => 2,
-            PoolFault::BadBonding(_) => 5,
-            PoolFault::PoolEndowed(_) => 11,
-            PoolFault::NoMemory => 0,
-        }
-    }
-
-    /// The detail that is printed behind the number.
-    pub fn detail(&self) -> u32
-        ensures { result ≡ (fault_numbers self.now).1 }
-    {
-        match self {
-            PoolFault::RepeatedAccount(place)
-            | PoolFault::TooMuch(place)
-            | PoolFault::PoolEndowed(place) => *place,
-            PoolFault::BadBonding(eras) => *eras,
-            PoolFault::NoMemory => 0,
+        match *self {
+            PoolFault::RepeatedAccount(place) => Some((1, place)),
+            PoolFault::TooMuch(place) => Some((2, place)),
+            PoolFault::BadBonding(eras) => Some((5, eras)),
+            PoolFault::PoolEndowed(place) => Some((11, place)),
+            PoolFault::NoMemory => None,
         }
     }
 }

@@ -1,14 +1,14 @@
 //! What follows for every pool and every list of items. The functions do nothing; their contracts
 //! are the laws.
 ghost use Rattle.stake_ledger.specs.Ledger.{IsBalanced};
-ghost use Rattle.stake_pools.specs.Laws.{StartLaw, KeptLaw, WorthLaw, JoinLaw, RedeemLaw, UndilutedLaw, PaidLaw};
+ghost use Rattle.stake_pools.specs.Laws.{PoolStartLaw, KeptLaw, WorthLaw, JoinLaw, RedeemLaw, UndilutedLaw, PaidLaw};
 
 use crate::Pool;
 
 /// The pool of a genesis without a fault is sound, so that the laws over any sound pool hold from
 /// its genesis on.
 pub fn every_pool_starts_sound()
-    ensures { StartLaw }
+    ensures { PoolStartLaw }
 {}
 
 /// After every list of items the books balance, the credits and a remainder make what the pool has

@@ -21,7 +21,8 @@ use Rattle.state_rules.specs.declared.state.MemberRow.{MemberRow}
 use Rattle.state_rules.specs.declared.state.RoundRow.{RoundRow}
 use Rattle.state_rules.specs.declared.state.QueueRow.{QueueRow}
 use Rattle.state_rules.specs.declared.state.WaitingRow.{WaitingRow}
-use Rattle.state_checkpoint.specs.declared.limits.TheConstants.{MOST_CHUNKS, MOST_NAMED, MOST_MEMBERS, MOST_BACKERS, MOST_TARGETS, MOST_VOTERS, MOST_EDGES, MOST_SLASHES, MOST_LINES}
+use Rattle.block_wire.specs.declared.limits.TheConstants.{MOST_NAMED}
+use Rattle.state_checkpoint.specs.declared.limits.TheConstants.{MOST_CHUNKS, MOST_MEMBERS, MOST_BACKERS, MOST_TARGETS, MOST_VOTERS, MOST_EDGES, MOST_SLASHES, MOST_LINES}
 
 -- ## What accounts have, and what they do
 

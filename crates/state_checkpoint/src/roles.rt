@@ -3,7 +3,7 @@ ghost use Rattle.std.specs.Prelude.{◌<◌, ◌∷◌};
 ghost use Rattle.scale_wire.specs.Reading.{Reads, Writes};
 ghost use Rattle.scale_wire.specs.Composite.{list, list_bytes, behind_tag};
 ghost use Rattle.scale_wire.specs.Parts.{account_form};
-ghost use Rattle.state_checkpoint.specs.declared.limits.TheConstants.{MOST_NAMED};
+ghost use Rattle.block_wire.specs.declared.limits.TheConstants.{MOST_NAMED};
 ghost use Rattle.state_checkpoint.specs.Layout.{kinds, kind_choice};
 
 use crate::limits::MOST_NAMED;

@@ -6,6 +6,7 @@ use Rattle.std.specs.Option.{option_map}
 use Rattle.std.specs.Ordering.{is_lt}
 use Rattle.std.specs.declared.cmp.Ordering.{Ordering}
 use Rattle.std.specs.declared.cmp.Ordering.TheVariants.{Less, Equal, Greater}
+use Rattle.std.proofs.lemmas.Bool.{or_parts}
 use Rattle.npos_base.specs.declared.account.AccountId.{AccountId}
 use Rattle.npos_base.specs.Account.{account_cmp}
 use Rattle.npos_base.proofs.AccountOrder.{account_total}
@@ -27,10 +28,6 @@ one_more (x ∷ before) item = ap suc (one_more before item)
 -- the last of a list is what was put behind the others
 pub last_put : {A : Type 0} (before : List A) (item : A) → last_of (before ++ item ∷ []) ≡ Some item
 last_put before item = ap (slice_get (before ++ item ∷ [])) (let more = one_more before item in omega (arith, more)) ∙ at_end before item
-
-neither : (a b : Bool) → (a || b) ≡ false → (a ≡ false) × (b ≡ false)
-neither false b e = (refl, e)
-neither true b e = cc
 
 passed : {A : Type 0} (bad : Bool) (place : A) (rest : Option A) → (if bad then Some place else rest) ≡ None → (bad ≡ false) × (rest ≡ None)
 passed true place rest e = cc
@@ -55,10 +52,10 @@ behind latest before (row ∷ rows) e =
     let (good, more) = passed (is_bad_row latest before row) (length before) (bad_from (is_bad_row latest) (before ++ row ∷ []) rows) e in
     let rest = behind latest (before ++ row ∷ []) rows more in
     let above = rest.1 row (last_put before row) in
-    let kept : book.is_bad_row (option_map (λ earlier. earlier.who) (last_of before)) row ≡ false = (neither _ (is_late latest row) good).0 in
+    let kept : book.is_bad_row (option_map (λ earlier. earlier.who) (last_of before)) row ≡ false = (or_parts _ (is_late latest row) good).0 in
     let ordered : book.is_out_of_order (option_map (λ earlier. earlier.who) (last_of before)) row.who ≡ false =
-    (neither (book.is_out_of_order (option_map (λ earlier. earlier.who) (last_of before)) row.who) (nat_lt MOST_CHUNKS (length row.chunks))
-    (neither (book.is_out_of_order (option_map (λ earlier. earlier.who) (last_of before)) row.who || nat_lt MOST_CHUNKS (length row.chunks))
+    (or_parts (book.is_out_of_order (option_map (λ earlier. earlier.who) (last_of before)) row.who) (nat_lt MOST_CHUNKS (length row.chunks))
+    (or_parts (book.is_out_of_order (option_map (λ earlier. earlier.who) (last_of before)) row.who || nat_lt MOST_CHUNKS (length row.chunks))
     (book.has_bad_chunk None row.chunks) kept).0).0 in (
       (above, rest.0),
       λ last is.

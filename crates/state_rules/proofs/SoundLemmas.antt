@@ -3,6 +3,7 @@ use Rattle.std.proofs.Common.{◌≡◌, ℕ, zero, suc, ◌<◌, ◌≤◌, Boo
 use Rattle.std.proofs.lemmas.List.{append-nil, append_assoc}
 use Rattle.std.proofs.lemmas.Bool.Decides.{nat_tests}
 use Rattle.std.specs.List.{list_any}
+use Rattle.std.proofs.lemmas.Bool.{or_parts}
 use Rattle.npos_base.specs.declared.account.AccountId.{AccountId}
 use Rattle.npos_base.specs.declared.limits.TheConstants.{WHOLE_FRACTION}
 use Rattle.election_snapshot.specs.Draft.{target_fault, voter_fault, finish_fault}
@@ -69,10 +70,6 @@ no_place (Some x) e = cc
 
 pub no_some : {A : Type 0} (o : Option A) → o ≡ None → is_some o ≡ false
 no_some o e = ap is_some e
-
-pub neither : (a b : Bool) → (a || b) ≡ false → (a ≡ false) × (b ≡ false)
-neither false b e = (refl, e)
-neither true b e = cc
 
 pub none_of : (a b : Bool) → a ≡ false → b ≡ false → (a || b) ≡ false
 none_of false b e f = f
@@ -141,10 +138,10 @@ backers_good rows who backers is = grind (arith, nat_tests, is.own_first, is.fit
 
 pub good_member : (rows : List BookRow) (before : List MemberRow) (member : MemberRow) → is_bad_member rows before member ≡ false → IsSoundMember rows before member
 good_member rows before member e =
-    let backers = neither _ (are_bad_backers rows member.who member.backers) e in
-    let fraction = neither _ (nat_lt WHOLE_FRACTION member.fraction) backers.0 in
-    let commission = neither _ (nat_lt WHOLE_FRACTION member.commission) fraction.0 in
-    let known = neither (is_out_of_order before member) (not (has_row rows member.who)) commission.0 in
+    let backers = or_parts _ (are_bad_backers rows member.who member.backers) e in
+    let fraction = or_parts _ (nat_lt WHOLE_FRACTION member.fraction) backers.0 in
+    let commission = or_parts _ (nat_lt WHOLE_FRACTION member.commission) fraction.0 in
+    let known = or_parts (is_out_of_order before member) (not (has_row rows member.who)) commission.0 in
     record {
       above = holds (follows (λ earlier later. is_below earlier.who later.who) before member) known.0;
       known = holds (has_row rows member.who) known.1;
@@ -193,10 +190,10 @@ target_good rows before target is = grind (arith, nat_tests, is.above, is.known,
 
 pub good_round : (rows : List BookRow) (seats : ℕ) (round : RoundRow) → is_bad_round rows seats round ≡ false → IsSoundRound rows seats round
 good_round rows seats round e =
-    let outer = neither _ (is_refused seats round) e in
-    let known = neither (has_bad (is_bad_target rows) round.targets) _ outer.0 in
-    let built = neither _ (is_some (finish_fault (draft_of round.targets round.voters) seats)) outer.1 in
-    let taken = neither (has_bad is_refused_target round.targets) (has_bad (is_refused_voter round.targets) round.voters) built.0 in
+    let outer = or_parts _ (is_refused seats round) e in
+    let known = or_parts (has_bad (is_bad_target rows) round.targets) _ outer.0 in
+    let built = or_parts _ (is_some (finish_fault (draft_of round.targets round.voters) seats)) outer.1 in
+    let taken = or_parts (has_bad is_refused_target round.targets) (has_bad (is_refused_voter round.targets) round.voters) built.0 in
     record {
       targets = each_is (is_bad_target rows) (IsSoundTarget rows) round.targets (good_target rows) (no_place (bad_place (is_bad_target rows) round.targets) known.0);
       voters = known.1;
@@ -228,13 +225,13 @@ round_good rows seats round is =
 pub good_item : (has_round : Bool) (places most_bytes : ℕ) (rows : List BookRow) (next : ℕ) (before : List QueueRow) (item : QueueRow)
     → is_bad_item has_round places most_bytes rows next before item ≡ false → IsSoundItem has_round places most_bytes rows next before item
 good_item has_round places most_bytes rows next before item e =
-    let bytes = neither _ (nat_lt most_bytes (length item.bytes)) e in
-    let rank = neither _ (is_outranking before item) bytes.0 in
-    let count = neither _ (is_bad_count next before item) rank.0 in
-    let known = neither _ (not (has_row rows item.who)) count.0 in
-    let place = neither (not has_round) (nat_le places (length before)) known.0 in
-    let fresh = neither _ (list_any (λ earlier. nat_eq earlier.number item.number) before) count.1 in
-    let given = neither (nat_eq item.number 0) (nat_le next item.number) fresh.0 in
+    let bytes = or_parts _ (nat_lt most_bytes (length item.bytes)) e in
+    let rank = or_parts _ (is_outranking before item) bytes.0 in
+    let count = or_parts _ (is_bad_count next before item) rank.0 in
+    let known = or_parts _ (not (has_row rows item.who)) count.0 in
+    let place = or_parts (not has_round) (nat_le places (length before)) known.0 in
+    let fresh = or_parts _ (list_any (λ earlier. nat_eq earlier.number item.number) before) count.1 in
+    let given = or_parts (nat_eq item.number 0) (nat_le next item.number) fresh.0 in
     record {
       round = holds has_round place.0;
       place = over places (length before) place.1;
@@ -257,8 +254,8 @@ item_good has_round places most_bytes rows next before item is =
 
 pub good_committee : (rows : List BookRow) (seats : ℕ) (waiting : WaitingRow) → is_bad_committee rows seats waiting ≡ false → IsSoundCommittee rows seats waiting
 good_committee rows seats waiting e =
-    let outer = neither _ (is_bad_round rows seats waiting.round) e in
-    let inner : (are_bad_edges waiting.edges ≡ false) = (neither _ (are_bad_edges waiting.edges) outer.0).1 in
+    let outer = or_parts _ (is_bad_round rows seats waiting.round) e in
+    let inner : (are_bad_edges waiting.edges ≡ false) = (or_parts _ (are_bad_edges waiting.edges) outer.0).1 in
     record {
       committee = grind (arith, nat_tests);
       edges = grind (arith, nat_tests);

@@ -3,6 +3,7 @@ use Rattle.std.proofs.Common.{◌≡◌, ℕ, suc, ◌+◌, ◌*◌, Bool, true,
 use Rattle.std.specs.List.{list_any}
 use Rattle.std.specs.Option.{option_or}
 use Rattle.std.proofs.lemmas.Bool.Decides.{nat_tests}
+use Rattle.std.proofs.lemmas.Bool.{or_parts}
 use Rattle.chain_params.specs.Rules.{bonding_eras_of, thresholds_in, seats_of, places_of, solution_max_of, deposit_of}
 use Rattle.stake_ledger.specs.declared.book_row.BookRow.{BookRow}
 use Rattle.stake_ledger.specs.declared.rows_fault.RowsFault.TheVariants.{BadRow, BadSum}
@@ -68,7 +69,7 @@ from_book latest before [] e late = refl
 from_book latest before (row ∷ rows) e late =
     at (book.is_bad_row (option_map (λ r. r.who) (last_of before)) row) refl (from_book latest (before ++ row ∷ []) rows) where
       both : (is_late latest row ≡ false) × (list_any (is_late latest) rows ≡ false)
-      both = sound.neither (is_late latest row) (list_any (is_late latest) rows) late
+      both = or_parts (is_late latest row) (list_any (is_late latest) rows) late
 
       at : (bad : Bool) → book.is_bad_row (option_map (λ r. r.who) (last_of before)) row ≡ bad
           → (book.first_bad_row (option_map (λ r. r.who) (last_of (before ++ row ∷ []))) rows ≡ None → list_any (is_late latest) rows ≡ false
@@ -97,7 +98,7 @@ parts_book rows genesis minted burned f g = rw (f, g) refl
 open_sound : (state : State) (round : Option RoundRow) → is_bad_open state round ≡ false → IsSoundOpen state round
 open_sound state None e = tt
 open_sound state (Some round) e =
-    let both = sound.neither (not (is_open state)) (is_bad_round state.rows (seats_of (params_of state)) round) e in
+    let both = or_parts (not (is_open state)) (is_bad_round state.rows (seats_of (params_of state)) round) e in
     (sound.holds (is_open state) both.0, sound.good_round state.rows (seats_of (params_of state)) round both.1)
 
 sound_open : (state : State) (round : Option RoundRow) → IsSoundOpen state round → is_bad_open state round ≡ false
@@ -109,7 +110,7 @@ sound_open state (Some round) is =
 waiting_sound : (state : State) (waiting : Option WaitingRow) → is_bad_waiting state waiting ≡ false → IsSoundWaiting state waiting
 waiting_sound state None e = tt
 waiting_sound state (Some waiting) e =
-    let both = sound.neither (not (is_decided state)) (is_bad_committee state.rows (seats_of (params_of state)) waiting) e in
+    let both = or_parts (not (is_decided state)) (is_bad_committee state.rows (seats_of (params_of state)) waiting) e in
     (sound.holds (is_decided state) both.0, sound.good_committee state.rows (seats_of (params_of state)) waiting both.1)
 
 sound_waiting : (state : State) (waiting : Option WaitingRow) → IsSoundWaiting state waiting → is_bad_waiting state waiting ≡ false

@@ -1,15 +1,16 @@
 -- No account stands twice in the walk.
 use Rattle.std.proofs.Common.{◌≡◌, ℕ, suc, ◌+◌, ◌<◌, ◌≤◌, Bool, true, false, ◌||◌, List, [], ◌∷◌, ◌++◌, length, map, get_or, refl, sym, ap, ◌∙◌, subst, inl, inr, arith, true≢false, Option, Some, None}
 use Rattle.std.specs.List.{IsDistinct, AllByRecursion}
+use Rattle.std.proofs.lemmas.Bool.{or_parts}
 use Rattle.npos_base.specs.declared.account.AccountId.{AccountId}
-use Rattle.npos_base.specs.Account.{same_account}
+use Rattle.npos_base.specs.Account.{same_account, account_at}
 use Rattle.npos_base.proofs.AccountOrder.{same_itself}
 use Rattle.account_places.specs.Places.{place_in, by_account}
 use Rattle.voter_lists.specs.Bags.{walk, is_in}
 use Rattle.voter_lists.specs.BagRows.{falling, holds, walk_from, AreNoted}
 use Rattle.voter_lists.specs.Rings.{items, IsIn, IsApart}
 use Rattle.voter_lists.specs.declared.nodes.Nodes.{Nodes}
-use Rattle.voter_lists.specs.Nodes.{account_at, bags_in, home_of, AreLinked}
+use Rattle.voter_lists.specs.Nodes.{bags_in, home_of, AreLinked}
 use Rattle.npos_base.proofs.NumberTests.{number_test, number_tie}
 use Rattle.voter_lists.proofs.HomeLemmas.{by_same}
 use Rattle.voter_lists.proofs.NodeLemmas.{only_key, bag_read, bags_length}
@@ -31,16 +32,9 @@ distinct_append : (xs ys : List AccountId) → IsDistinct same_account xs → Is
 unfolding IsDistinct
 distinct_append [] ys a b apart = b
 distinct_append (x ∷ xs) ys a b apart = (
-  both (λ y. same_account x y ≡ false) xs ys a.0 (none_of x ys (λ q held. left (same_account x q) (holds xs q) (apart q held))),
-  distinct_append xs ys a.1 b (λ q held. right (same_account x q) (holds xs q) (apart q held)),
-) where
-  left : (b c : Bool) → (b || c) ≡ false → b ≡ false
-  left true c e = absurd (true≢false e)
-  left false c e = refl
-
-  right : (b c : Bool) → (b || c) ≡ false → c ≡ false
-  right true c e = absurd (true≢false e)
-  right false c e = e
+  both (λ y. same_account x y ≡ false) xs ys a.0 (none_of x ys (λ q held. (or_parts (same_account x q) (holds xs q) (apart q held)).0)),
+  distinct_append xs ys a.1 b (λ q held. (or_parts (same_account x q) (holds xs q) (apart q held)).1),
+)
 
 -- bags of which each is distinct have a distinct walk
 distinct_falling : (home : AccountId → Option ℕ) (number : ℕ) (bags : List (List AccountId)) → AreNoted home number bags

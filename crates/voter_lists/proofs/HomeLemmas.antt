@@ -6,7 +6,7 @@ use Rattle.std.proofs.lemmas.List.{append-nil}
 use Rattle.std.proofs.lemmas.List.Elements.{filter-append}
 use Rattle.npos_base.specs.declared.account.AccountId.{AccountId}
 use Rattle.npos_base.specs.Account.{same_account}
-use Rattle.npos_base.proofs.AccountOrder.{same_exact, same_itself}
+use Rattle.npos_base.proofs.AccountOrder.{same_exact, same_itself, same_turned}
 use Rattle.npos_base.proofs.NumberTests.{number_same, number_test, number_tie}
 use Rattle.voter_lists.specs.Bags.{Order, OnlyIn, in_bag, joined, left, placed_before, number_of, is_in}
 use Rattle.voter_lists.specs.Bag.{without, with_before}
@@ -19,12 +19,6 @@ by_same {P} q who one other = at (same_account q who) refl where
   at : (b : Bool) → same_account q who ≡ b → P
   at true e = one (same_exact q who e)
   at false e = other e
-
-pub same_back : (q who : AccountId) → same_account q who ≡ false → same_account who q ≡ false
-same_back q who e = at (same_account who q) refl where
-  at : (b : Bool) → same_account who q ≡ b → b ≡ false
-  at true f = sym (same_itself q) ∙ ap (λ z. same_account q z) (sym (same_exact who q f)) ∙ e
-  at false f = refl
 
 -- who joins
 numbered_append : (number : ℕ) (xs ys : List AccountId) → numbered number (xs ++ ys) ≡ numbered number xs ++ numbered number ys
@@ -173,7 +167,7 @@ holds_without_other [] who q differ = refl
 holds_without_other (account ∷ bag) who q differ = at (same_account account who) refl (holds_without_other bag who q differ) where
   at : (b : Bool) → same_account account who ≡ b → holds (without bag who) q ≡ holds bag q → holds (cond (not b) (account ∷ without bag who) (without bag who)) q ≡ (same_account account q || holds bag q)
   at true e rest = let tie : account ≡ who = same_exact account who e in
-      let apart : same_account account q ≡ false = ap (λ z. same_account z q) tie ∙ same_back q who differ in rw apart rest
+      let apart : same_account account q ≡ false = ap (λ z. same_account z q) tie ∙ same_turned q who differ in rw apart rest
   at false e rest = ap (λ b. same_account account q || b) rest
 
 -- one joins a bag and is noted there
@@ -190,7 +184,7 @@ noted_join home now place bags bag who anew absent held l = noted_set home now 0
   here q = holds_join bag who q ∙ by_same q who
       (λ e. subst (λ z. (holds bag z || same_account who z) ≡ is_in (now z) (0 + place)) (sym e)
       (rw (same_itself who, anew.here, zero-add place, number_same place) (or_true (holds bag who))))
-      (λ e. rw (same_back q who e) (or_false (holds bag q) ∙ held q ∙ ap (λ o. is_in o place) (sym (anew.others q e)) ∙ ap (λ n. is_in (now q) n) (sym (zero-add place)))) where
+      (λ e. rw (same_turned q who e) (or_false (holds bag q) ∙ held q ∙ ap (λ o. is_in o place) (sym (anew.others q e)) ∙ ap (λ n. is_in (now q) n) (sym (zero-add place)))) where
         or_true : (b : Bool) → (b || true) ≡ true
         or_true true = refl
         or_true false = refl
@@ -249,7 +243,7 @@ noted_before home place bags bag who lighter there held l = noted_set home home 
   here q = holds_with_before (without bag who) who lighter q ∙ by_same q who
       (λ e. subst (λ z. (holds (without bag who) z || same_account who z) ≡ is_in (home z) (0 + place)) (sym e)
       (rw (holds_without_it bag who, same_itself who, there, zero-add place, number_same place) refl))
-      (λ e. rw (same_back q who e) (or_false (holds (without bag who) q) ∙ holds_without_other bag who q e ∙ held q ∙ ap (λ n. is_in (home q) n) (sym (zero-add place))))
+      (λ e. rw (same_turned q who e) (or_false (holds (without bag who) q) ∙ holds_without_other bag who q e ∙ held q ∙ ap (λ n. is_in (home q) n) (sym (zero-add place))))
 
 -- an account stands only in the bag that is noted for it
 only_numbered : (who : AccountId) (number place : ℕ) (bag : List AccountId) → (holds bag who ≡ true → number ≡ place) → OnlyIn who place (numbered number bag)

@@ -9,7 +9,8 @@ use Rattle.voter_lists.specs.Bags.{walk, account_after}
 use Rattle.voter_lists.specs.BagRows.{walk_from, falling, AreHomes}
 use Rattle.voter_lists.specs.Rings.{items, list_of, after}
 use Rattle.voter_lists.specs.declared.nodes.Nodes.{Nodes}
-use Rattle.voter_lists.specs.Nodes.{account_at, list_at, bags_in, home_of, moved_bags, ahead, IsStanding, IsTop, Becomes, Stays, AreLinked}
+use Rattle.npos_base.specs.Account.{account_at}
+use Rattle.voter_lists.specs.Nodes.{list_at, bags_in, home_of, moved_bags, ahead, IsStanding, IsTop, Becomes, Stays, AreLinked}
 use Rattle.voter_lists.proofs.HomeLemmas.{by_same}
 use Rattle.voter_lists.proofs.LinkLemmas.{from_first, from_step}
 use Rattle.voter_lists.proofs.ListingLemmas.{homes_alike, joined_homes, left_homes, before_homes, moved_homes}

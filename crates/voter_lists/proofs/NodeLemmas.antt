@@ -8,13 +8,13 @@ use Rattle.std.proofs.lemmas.List.FromFn.{length-map-range_with_len, get_or-map-
 use Rattle.std.proofs.lemmas.Option.{none-some, same_Some}
 use Rattle.std.proofs.Math.Seq.{get_or-append_seam}
 use Rattle.npos_base.specs.declared.account.AccountId.{AccountId}
-use Rattle.npos_base.specs.Account.{same_account}
+use Rattle.npos_base.specs.Account.{same_account, account_at}
 use Rattle.npos_base.proofs.AccountOrder.{same_itself}
 use Rattle.voter_lists.specs.Bag.{without, with_before}
 use Rattle.voter_lists.specs.Bags.{account_after}
 use Rattle.voter_lists.specs.Rings as keyed
 use Rattle.voter_lists.specs.Rings.{Lists, items, list_of, list_count, key_limit, IsIn, IsApart, IsFit, Relinks, SameLists}
-use Rattle.voter_lists.specs.Nodes.{account_at, list_at, bags_of, moved_bags, Stand, NotedAnew}
+use Rattle.voter_lists.specs.Nodes.{list_at, bags_of, moved_bags, Stand, NotedAnew}
 use Rattle.voter_lists.proofs.HomeLemmas.{by_same}
 use Rattle.voter_lists.proofs.LinkLemmas.{without_head, without_past, before_here, before_past, after_here, after_past, IsIn-without}
 

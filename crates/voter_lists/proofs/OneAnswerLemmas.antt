@@ -6,11 +6,11 @@ use Rattle.std.proofs.lemmas.List.Elements.{All-cons, All-nil, All-tail, All-fil
 use Rattle.std.proofs.lemmas.List.Sums.{count_by-le-length}
 use Rattle.npos_base.specs.declared.account.AccountId.{AccountId}
 use Rattle.npos_base.specs.Account.{same_account}
-use Rattle.npos_base.proofs.AccountOrder.{same_itself, same_exact}
+use Rattle.npos_base.proofs.AccountOrder.{same_itself, same_exact, same_turned}
 use Rattle.npos_base.proofs.NumberTests.{number_test, number_tie, number_same}
 use Rattle.voter_lists.specs.Bags.{Order, OnlyIn, in_bag, from_bag, in_walk_order, joined, left, placed_before, number_of, number_at, is_in, is_listed, is_at_home, bag_of, put_in_front, inserted, removed, moved, rebag_refusal, put_in_front_refusal, walk}
 use Rattle.voter_lists.specs.OneWalk.{StandsIn, StandsOnce, AreOneList, listing_of, appended, taken_out, appended_anew, put_before}
-use Rattle.voter_lists.proofs.HomeLemmas.{by_same, same_back}
+use Rattle.voter_lists.proofs.HomeLemmas.{by_same}
 use Rattle.voter_lists.proofs.OneWalkLemmas.{alike, insert_one, remove_one, move_one, front_one}
 
 abbrev Apart : AccountId → List AccountId → Type 0
@@ -19,7 +19,7 @@ Apart who accounts = AllByRecursion (λ other. same_account who other ≡ false)
 -- who is apart from a list has no bag in it
 no_number : (who : AccountId) (order : Order) → Apart who (walk order) → number_of order who ≡ None
 no_number who [] apart = refl
-no_number who (entry ∷ order) apart = rw (same_back who entry.0 apart.0) (no_number who order apart.1)
+no_number who (entry ∷ order) apart = rw (same_turned who entry.0 apart.0) (no_number who order apart.1)
 
 apart_of : (who : AccountId) (order : Order) → is_listed order who ≡ false → Apart who (walk order)
 apart_of who [] none = tt
@@ -27,7 +27,7 @@ apart_of who (entry ∷ order) none = at (same_account entry.0 who) refl none (a
   at : (b : Bool) → same_account entry.0 who ≡ b → is_some (if b then Some entry.1 else number_of order who) ≡ false
       → (is_listed order who ≡ false → Apart who (walk order)) → Apart who (walk (entry ∷ order))
   at true e none rest = absurd (true≢false none)
-  at false e none rest = (same_back entry.0 who e, rest none)
+  at false e none rest = (same_turned entry.0 who e, rest none)
 
 -- who has no bag in a list has none in what stands of it in one bag
 none_in_bag : (who : AccountId) (k : ℕ) (order : Order) → number_of order who ≡ None → number_of (in_bag k order) who ≡ None
@@ -146,7 +146,7 @@ once_joined : (who : AccountId) (n : ℕ) (order : Order) → is_listed order wh
 unfolding IsDistinct
 once_joined who n order absent once = once_append order ((who, n) ∷ []) once (tt, tt) (λ other listed. by_same other who
     (λ same. absurd (true≢false (sym listed ∙ ap (λ w. is_listed order w) same ∙ absent)))
-    (λ differ. rw (same_back other who differ) refl))
+    (λ differ. rw (same_turned other who differ) refl))
 
 once_left : (who : AccountId) (order : Order) → IsDistinct same_account (walk order) → IsDistinct same_account (walk (left order who))
 unfolding IsDistinct
@@ -177,7 +177,7 @@ once_placed who n lighter (entry ∷ order) absent once = at (same_account entry
   at : (b : Bool) → IsDistinct same_account (walk (placed_before order (who, n) lighter))
       → IsDistinct same_account (walk (if b then (who, n) ∷ entry ∷ order else entry ∷ placed_before order (who, n) lighter))
   at true rest = (apart, once)
-  at false rest = (all_placed (λ other. same_account entry.0 other ≡ false) who n lighter order (same_back who entry.0 apart.0) once.0, rest)
+  at false rest = (all_placed (λ other. same_account entry.0 other ≡ false) who n lighter order (same_turned who entry.0 apart.0) once.0, rest)
 
 listed_append : (who : AccountId) (xs ys : Order) → is_listed xs who ≡ false → is_listed ys who ≡ false → is_listed (xs ++ ys) who ≡ false
 listed_append who [] ys a b = b
@@ -230,7 +230,7 @@ all_walk P number (suc more) order all =
 -- an account that stands once is in no other bag
 nowhere : (who : AccountId) (n : ℕ) (order : Order) → Apart who (walk order) → OnlyIn who n order
 nowhere who n [] apart = tt
-nowhere who n (entry ∷ order) apart = ((λ same. absurd (true≢false (sym same ∙ same_back who entry.0 apart.0))), nowhere who n order apart.1)
+nowhere who n (entry ∷ order) apart = ((λ same. absurd (true≢false (sym same ∙ same_turned who entry.0 apart.0))), nowhere who n order apart.1)
 
 only_there : (who : AccountId) (n : ℕ) (order : Order) → IsDistinct same_account (walk order) → number_of order who ≡ Some n → OnlyIn who n order
 unfolding IsDistinct

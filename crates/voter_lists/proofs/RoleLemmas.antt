@@ -1,5 +1,5 @@
 -- Roles stay sound.
-use Rattle.std.proofs.Common.{◌≡◌, ℕ, ◌≤◌, Bool, true, false, cond, not, ◌||◌, nat_eq, nat_lt, if◌then◌else◌, List, [], ◌∷◌, length, All, Some, None, is_some, refl, ap, subst, arith, true≢false}
+use Rattle.std.proofs.Common.{◌≡◌, ℕ, ◌≤◌, Bool, true, false, cond, not, nat_eq, nat_lt, if◌then◌else◌, List, [], ◌∷◌, length, All, Some, None, is_some, refl, ap, subst, arith, true≢false}
 use Rattle.std.specs.BTreeMap.{insert_entry, is_at}
 use Rattle.std.specs.BTreeSet.{insert_key}
 use Rattle.std.specs.Set.{remove_key}
@@ -10,6 +10,7 @@ use Rattle.std.specs.declared.cmp.Ordering.{Ordering}
 use Rattle.std.specs.declared.cmp.Ordering.TheVariants.{Less, Equal, Greater}
 use Rattle.std.proofs.lemmas.Grind.{common_steps}
 use Rattle.std.proofs.lemmas.List.Elements.{All-cons, All-nil, All-head, All-tail}
+use Rattle.std.proofs.lemmas.Bool.{or_parts}
 use Rattle.npos_base.specs.declared.account.AccountId.{AccountId}
 use Rattle.npos_base.specs.Account.{account_cmp, same_account}
 use Rattle.npos_base.proofs.AccountOrder.{account_total, account_exact}
@@ -19,7 +20,7 @@ use Rattle.voter_lists.specs.declared.standing.Standing.{Standing}
 use Rattle.voter_lists.specs.declared.standing.Standing.TheVariants.{Nominator, Validator}
 use Rattle.voter_lists.specs.declared.standing.Role.{Role}
 use Rattle.voter_lists.specs.declared.standing.Role.TheVariants as role
-use Rattle.voter_lists.specs.Roles.{RoleList, validators_of, is_validator, is_no_target, has_repeat, nominate_refusal, validate_refusal, without_role, with_standing}
+use Rattle.voter_lists.specs.Roles.{RoleList, validators_of, is_validator, is_no_target, has_repeated_account, nominate_refusal, validate_refusal, without_role, with_standing}
 use Rattle.voter_lists.specs.Ranked.{AreRanked}
 use Rattle.voter_lists.specs.Taken.{IsNomination, CanTake, with_role, IsSoundStanding, AreSound}
 use Rattle.voter_lists.proofs.ValidatorLemmas.{ranked_nominating, ranked_validating, ranked_left, ranked_none}
@@ -90,21 +91,17 @@ none_due false false true d first second third fourth e = absurd (true≢false (
 none_due false false false true first second third fourth e = absurd (true≢false (ap is_some e))
 none_due false false false false first second third fourth e = (refl, (refl, (refl, refl)))
 
-either_false : (a b : Bool) → (a || b) ≡ false → (a ≡ false) × (b ≡ false)
-either_false true b e = absurd (true≢false e)
-either_false false b e = (refl, e)
-
 names_others : (roles : RoleList) (who : AccountId) (targets : List AccountId) → list_any (λ target. is_no_target roles who target) targets ≡ false
     → list_any (λ target. same_account target who) targets ≡ false
 names_others roles who [] none = refl
 names_others roles who (target ∷ targets) none =
-    let first = either_false (is_no_target roles who target) (list_any (λ t. is_no_target roles who t) targets) none in
-    let second = either_false (not (is_validator roles target)) (same_account target who) first.0 in
+    let first = or_parts (is_no_target roles who target) (list_any (λ t. is_no_target roles who t) targets) none in
+    let second = or_parts (not (is_validator roles target)) (same_account target who) first.0 in
     rw second.1 (names_others roles who targets first.1)
 
 pub nominates : (roles : RoleList) (who : AccountId) (targets : List AccountId) → nominate_refusal roles who targets ≡ None → IsNomination who targets
 nominates roles who targets none =
-    let due = none_due (nat_eq (length targets) 0) (nat_lt 24 (length targets)) (has_repeat targets) (list_any (λ target. is_no_target roles who target) targets) _ _ _ _ none in
+    let due = none_due (nat_eq (length targets) 0) (nat_lt 24 (length targets)) (has_repeated_account targets) (list_any (λ target. is_no_target roles who target) targets) _ _ _ _ none in
     record {
       some = grind (arith, common_steps, due.0);
       few = grind (arith, common_steps, due.1.0);

@@ -3,16 +3,12 @@
 use Rattle.std.specs.Prelude.{◌≡◌, ℕ, ◌+◌, ◌<◌, ◌≤◌, false, List, ◌++◌, length, map, take, slice_get, slice_set, slice_index_or, [], ◌∷◌, Option, Some, None, IfSome}
 use Rattle.std.specs.List.{range_with_len}
 use Rattle.npos_base.specs.declared.account.AccountId.{AccountId}
-use Rattle.npos_base.specs.Account.{same_account}
+use Rattle.npos_base.specs.Account.{same_account, account_at}
 use Rattle.account_places.specs.Places.{place_in, by_account}
 use Rattle.voter_lists.specs.Rings.{Lists, items, list_of, keys_from, list_count, key_limit, IsFit}
 use Rattle.voter_lists.specs.Bag.{without}
 use Rattle.voter_lists.specs.BagRows.{falling, AreHomes}
 use Rattle.voter_lists.specs.declared.nodes.Nodes.{Nodes}
-
--- the account at a place
-abbrev pub account_at : List AccountId → ℕ → AccountId
-account_at accounts place = slice_index_or accounts place (record { hi = 0; lo = 0 })
 
 -- the list of a place, where there is one
 abbrev pub list_at : Lists → Option ℕ → Option ℕ

@@ -67,10 +67,10 @@ abbrev pub KeepsOthers : RoleList → RoleList → AccountId → Type 0
 KeepsOthers old new who = (other : AccountId) → other ≢ who → standing_of new other ≡ standing_of old other
 
 -- some account stands twice
-abbrev pub has_repeat : List AccountId → Bool
-has_repeat [] = false
-has_repeat (account ∷ accounts) = list_any (λ other. same_account other account) accounts
-    || has_repeat accounts
+abbrev pub has_repeated_account : List AccountId → Bool
+has_repeated_account [] = false
+has_repeated_account (account ∷ accounts) = list_any (λ other. same_account other account) accounts
+    || has_repeated_account accounts
 
 -- the account is no validator, or it is the nominator
 abbrev pub is_no_target : RoleList → AccountId → AccountId → Bool
@@ -80,7 +80,7 @@ abbrev pub nominate_refusal : RoleList → AccountId → List AccountId → Opti
 nominate_refusal roles who targets =
     if nat_eq (length targets) 0 then Some NoTargets
     else if nat_lt MOST_NOMINATIONS (length targets) then Some TooManyTargets
-    else if has_repeat targets then Some RepeatedTarget
+    else if has_repeated_account targets then Some RepeatedTarget
     else if list_any (λ target. is_no_target roles who target) targets then Some NotValidator
     else None
 

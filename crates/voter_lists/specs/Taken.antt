@@ -11,14 +11,14 @@ use Rattle.voter_lists.specs.declared.standing.Standing.{Standing}
 use Rattle.voter_lists.specs.declared.standing.Standing.TheVariants as standing
 use Rattle.voter_lists.specs.declared.standing.Role.{Role}
 use Rattle.voter_lists.specs.declared.standing.Role.TheVariants as role
-use Rattle.voter_lists.specs.Roles.{RoleList, validators_of, has_repeat, nominated, validate_refusal, validating}
+use Rattle.voter_lists.specs.Roles.{RoleList, validators_of, has_repeated_account, nominated, validate_refusal, validating}
 use Rattle.voter_lists.specs.Bags.{Order, Listing, walk}
 
 -- somebody is named, at most 24, nobody twice, and not who names them
 pub record IsNomination (who : AccountId) (targets : List AccountId) : Type 0 where
   pub some : 1 ≤ length targets
   pub few : length targets ≤ MOST_NOMINATIONS
-  pub distinct : has_repeat targets ≡ false
+  pub distinct : has_repeated_account targets ≡ false
   pub others : list_any (λ target. same_account target who) targets ≡ false
 
 -- An account can take a role: as a nominator of such targets, whatever those do themselves, or as a

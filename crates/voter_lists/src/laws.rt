@@ -4,7 +4,7 @@ ghost use Rattle.std.specs.List.{IsDistinct};
 ghost use Rattle.npos_base.specs.declared.account.AccountId.{AccountId};
 ghost use Rattle.voter_lists.specs.Bags.{Order, Listing, bag_of, number_of, is_listed, is_at_home, rebag_refusal, put_in_front_refusal, in_walk_order, joined, inserted, removed, moved, put_in_front};
 ghost use Rattle.npos_base.specs.Account.{same_account};
-ghost use Rattle.voter_lists.specs.Roles.{RoleList, has_repeat, nominate_refusal, without_role};
+ghost use Rattle.voter_lists.specs.Roles.{RoleList, has_repeated_account, nominate_refusal, without_role};
 ghost use Rattle.voter_lists.specs.declared.standing.Role.{Role};
 ghost use Rattle.voter_lists.specs.Taken.{NeverRises, AreSound, CanTake, IsNomination, with_role};
 ghost use Rattle.voter_lists.specs.OneWalk.{IsOneWalk, StandsIn, AreOneList, listing_of, appended, taken_out, appended_anew, put_before};
@@ -78,7 +78,7 @@ pub fn calls_keep_each_account_once()
 /// A list of accounts repeats one exactly where its accounts are not distinct.
 pub fn accounts_repeat_or_are_distinct()
     ensures { (accounts : List AccountId)
-        → (has_repeat accounts ≡ false) ↔ IsDistinct same_account accounts }
+        → (has_repeated_account accounts ≡ false) ↔ IsDistinct same_account accounts }
 {}
 
 /// A list of accounts with their bags is the list of its walk exactly where no account stands in a

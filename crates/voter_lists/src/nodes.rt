@@ -6,7 +6,8 @@ ghost use Rattle.voter_lists.specs.Bag.{without, with_before};
 ghost use Rattle.voter_lists.specs.Bags.{account_after};
 ghost use Rattle.voter_lists.specs.BagRows.{falling};
 ghost use Rattle.voter_lists.specs.Rings.{list_of, list_count, items, after, IsFit, Relinks};
-ghost use Rattle.voter_lists.specs.Nodes.{account_at, bags_in, home_of, IsStanding, Becomes, Stays, IsTop, IsWalk, moved_bags, ahead};
+ghost use Rattle.npos_base.specs.Account.{account_at};
+ghost use Rattle.voter_lists.specs.Nodes.{bags_in, home_of, IsStanding, Becomes, Stays, IsTop, IsWalk, moved_bags, ahead};
 
 use crate::rings::Rings;
 use account_places::Places;

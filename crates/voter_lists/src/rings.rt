@@ -93,6 +93,7 @@ impl Rings {
 
     /// Makes room for the key and each key below it.
     pub(crate) fn reserve_key(&mut self, key: usize) -> Result<(), NoMemory>
+        requires { key < 2 ^ 63 }
         ensures room { OnOk result (key < key_limit self.new) }
         ensures fits { OnOk result (key + 1 < 2 ^ 64) }
         ensures grows { key_limit self.old ≤ key_limit self.new }
@@ -100,9 +101,6 @@ impl Rings {
     {
         if key < self.owners.len() {
             return Ok(());
-        }
-        if key >= usize::MAX - self.heads {
-            return Err(NoMemory);
         }
         self.links
             .resize(self.heads + key + 1, Link { prev: 0, next: 0 })?;

@@ -7,7 +7,7 @@ ghost use Rattle.npos_base.specs.Account.{account_cmp, same_account};
 ghost use Rattle.npos_base.specs.declared.limits.TheConstants.{MOST_VALIDATORS};
 ghost use Rattle.npos_base.specs.Refusal.{MeetsAlways, answer_of};
 ghost use Rattle.voter_lists.specs.Owed.{Meets};
-ghost use Rattle.voter_lists.specs.Roles.{role_of, nominated_by, validators_of, is_validator, KeepsOthers, standing_of, has_repeat, is_no_target, nominate_refusal, nominated, validate_refusal, validating, chill_refusal, without_role};
+ghost use Rattle.voter_lists.specs.Roles.{role_of, nominated_by, validators_of, is_validator, KeepsOthers, standing_of, has_repeated_account, is_no_target, nominate_refusal, nominated, validate_refusal, validating, chill_refusal, without_role};
 ghost use Rattle.voter_lists.specs.Taken.{CanTake, with_role};
 
 use crate::ListRefusal;
@@ -239,7 +239,7 @@ impl Roles {
 
 /// Whether some account stands twice. The accounts are few.
 fn repeats(accounts: &[AccountId]) -> bool
-    ensures { result ≡ has_repeat accounts.now }
+    ensures { result ≡ has_repeated_account accounts.now }
 {
     let mut rest = accounts;
     while let Some((first, others)) = rest.split_first() {

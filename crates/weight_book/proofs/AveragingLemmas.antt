@@ -8,7 +8,7 @@ use Rattle.std.specs.List.Sorted.{IsStrictlyIncreasing}
 use Rattle.std.proofs.Math.Nat.{mul-div-le, le_of_mul-le-mul_left, div-zero, mul-add, add-mul, mul_comm, mul-le-mul_left}
 use Rattle.std.proofs.lemmas.List.Sums.{sum_by-cons, sum_by-le, length-filter}
 use Rattle.std.proofs.lemmas.List.Elements.{All-cons}
-use Rattle.std.proofs.lemmas.Bool.{cases_Bool, cases_lt, cond_both, or_cases, or_left, or_right, eqb-true}
+use Rattle.std.proofs.lemmas.Bool.{cases_Bool, cases_lt, or_cases, or_left, or_right, eqb-true}
 use Rattle.std.proofs.lemmas.Nat.{mul-le}
 use Rattle.std.proofs.lemmas.List.Folds.{list_any_at}
 use Rattle.std.proofs.lemmas.Bool.Decides.{Decides-eqb}
@@ -16,6 +16,7 @@ use Rattle.std.proofs.lemmas.List.Kept.{AllPairs-from_increasing}
 use Rattle.std.proofs.lemmas.Map.Made.{IsDistinct-from_AllPairs}
 use Rattle.npos_base.specs.declared.figures.Edge.{Edge}
 use Rattle.election_snapshot.specs.Snapshot.{Snapshot, IsWellFormed, has, nominates, stake_of, total_stake, threshold}
+use Rattle.election_snapshot.proofs.HasLemmas.{filter_has}
 use Rattle.weight_book.specs.Weights.{Weights, edges_to, support, amount_sum}
 use Rattle.weight_book.specs.Passing.{pay, paid, slack, nominators, prescore, Passes}
 use Rattle.weight_book.specs.Proportional.{IsCohesive, nominated_by, group_stake, AveragingLaw}
@@ -27,15 +28,6 @@ list_any_has test [] number h t = h
 list_any_has test (other ∷ numbers) number h t = elim (or_cases (nat_eq other number) (has numbers number) h) [
   | inl e ↦ or_left (test other) (list_any test numbers) (ap test (eqb-true other number e) ∙ t)
   | inr e ↦ or_right (test other) (list_any test numbers) (list_any_has test numbers number e t)
-]
-
-has_filter : (test : ℕ → Bool) (numbers : List ℕ) (number : ℕ) → has numbers number ≡ true → test number ≡ true → has (filter test numbers) number ≡ true
-has_filter test [] number h t = h
-has_filter test (other ∷ numbers) number h t = elim (or_cases (nat_eq other number) (has numbers number) h) [
-  | inl e ↦ rw (ap test (eqb-true other number e) ∙ t) (or_left (nat_eq other number) (has (filter test numbers) number) e)
-  | inr e ↦ cond_both (test other) (other ∷ filter test numbers) (filter test numbers) (λ ns. has ns number ≡ true)
-      (λ _. or_right (nat_eq other number) (has (filter test numbers) number) (has_filter test numbers number e t))
-      (λ _. has_filter test numbers number e t)
 ]
 
 -- all of the numbers stand in the list, or one that does not
@@ -121,7 +113,7 @@ module _ (snapshot : Snapshot) (weights : Weights) (formed : IsWellFormed snapsh
       one edge member nominated = elim (cases_Bool (has group edge.voter)) [
         | inl g ↦
             let by_group : nominated_by snapshot group edge.target ≡ true = list_any_has (λ voter. nominates snapshot voter edge.target) group edge.voter g nominated in
-            let there : has represented edge.target ≡ true = has_filter (nominated_by snapshot group) weights.committee edge.target member by_group in
+            let there : has represented edge.target ≡ true = filter_has (nominated_by snapshot group) weights.committee edge.target member by_group in
             rw (g, there) (omega arith)
         | inr g ↦ rw g (omega arith)
       ]
@@ -170,7 +162,7 @@ module _ (snapshot : Snapshot) (weights : Weights) (formed : IsWellFormed snapsh
     too_many : All (λ target. has weights.committee target ≡ true) cohesive.common → ⊥
     too_many all =
         let covered = sum_covered (λ _. 1) cohesive.common represented cohesive.common_distinct
-        (λ k d h. has_filter (nominated_by snapshot group) weights.committee (get_or cohesive.common k d) (all k d h)
+        (λ k d h. filter_has (nominated_by snapshot group) weights.committee (get_or cohesive.common k d) (all k d h)
         (list_any_at (λ voter. nominates snapshot voter (get_or cohesive.common k d)) group 0 0 some_voter (cohesive.all_nominate 0 0 some_voter k d h))) in
         omega (arith, few, covered, sum_of_ones cohesive.common, sum_of_ones represented, cohesive.common_count)
 
@@ -178,7 +170,7 @@ module _ (snapshot : Snapshot) (weights : Weights) (formed : IsWellFormed snapsh
   left_counts : (k : ℕ) → k < length cohesive.common
       → sum_by (slack t snapshot weights.edges) group ≤ prescore t snapshot weights.edges (get_or cohesive.common k 0)
   left_counts k h = sum_covered (slack t snapshot weights.edges) group (nominators snapshot (get_or cohesive.common k 0)) group_distinct
-      (λ i d l. has_filter (λ voter. nominates snapshot voter (get_or cohesive.common k 0)) (range_with_len 0 (length snapshot.voters)) (get_or group i d)
+      (λ i d l. filter_has (λ voter. nominates snapshot voter (get_or cohesive.common k 0)) (range_with_len 0 (length snapshot.voters)) (get_or group i d)
       (has_range 0 (length snapshot.voters) (get_or group i d) (omega arith) (omega (arith, cohesive.voters_in_range i d l)))
       (cohesive.all_nominate i d l k 0 h))
 

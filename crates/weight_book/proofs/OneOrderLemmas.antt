@@ -8,6 +8,7 @@ use Rattle.std.proofs.lemmas.List.Elements.{recursion_from_All, All-from_recursi
 use Rattle.std.proofs.lemmas.List.Kept.{AllPairs-cons}
 use Rattle.std.proofs.lemmas.List.Sums.{sum_by-cons}
 use Rattle.std.proofs.lemmas.List.Sorted.{sum_by-IsPermutation}
+use Rattle.std.proofs.lemmas.Bool.{and_parts}
 use Rattle.npos_base.specs.declared.figures.Edge.{Edge}
 use Rattle.weight_book.specs.GivenEdges.{gives, is_before, kept_edges, AreRising, OneOrderLaw}
 use Rattle.weight_book.proofs.GivenEdgeLemmas.{IsAhead, Rise, before_apart, sum_in_order, support_kept, kept_rise, kept_give}
@@ -15,14 +16,10 @@ use Rattle.weight_book.proofs.GivenEdgeLemmas.{IsAhead, Rise, before_apart, sum_
 abbrev same_edge : Edge → Edge → Bool
 same_edge a b = nat_eq a.voter b.voter && (nat_eq a.target b.target && nat_eq a.amount b.amount)
 
-both : (a b : Bool) → (a && b) ≡ true → (a ≡ true) × (b ≡ true)
-both true b e = (refl, e)
-both false b e = absurd (true≢false (sym e))
-
 edge_is : (a b : Edge) → same_edge a b ≡ true → a ≡ b
 edge_is a b e =
-    let first = both (nat_eq a.voter b.voter) (nat_eq a.target b.target && nat_eq a.amount b.amount) e in
-    let second = both (nat_eq a.target b.target) (nat_eq a.amount b.amount) first.1 in
+    let first = and_parts (nat_eq a.voter b.voter) (nat_eq a.target b.target && nat_eq a.amount b.amount) e in
+    let second = and_parts (nat_eq a.target b.target) (nat_eq a.amount b.amount) first.1 in
     let voters : a.voter ≡ b.voter = grind (arith, nat_tests, first.0) in
     let targets : a.target ≡ b.target = grind (arith, nat_tests, second.0) in
     let amounts : a.amount ≡ b.amount = grind (arith, nat_tests, second.1) in

@@ -1,8 +1,8 @@
 -- Weights: a committee, and how much of its stake each voter gives to which member.
-use Rattle.std.specs.Prelude.{◌≡◌, ℕ, ◌<◌, ◌≤◌, IsTrue, nat_eq, List, [], length, filter, sum_by, All}
+use Rattle.std.specs.Prelude.{◌≡◌, ℕ, ◌<◌, ◌≤◌, IsTrue, nat_eq, List, [], length, All}
 use Rattle.std.specs.List.{IsDistinct}
 use Rattle.npos_base.specs.declared.figures.Edge.{Edge}
-pub use Rattle.npos_base.specs.Edge.{same_pair}
+pub use Rattle.npos_base.specs.Edge.{same_pair, edges_from, edges_to, amount_sum, support}
 use Rattle.election_snapshot.specs.Snapshot.{Snapshot, has, nominates, stake_of}
 
 -- the members are positions of targets
@@ -12,19 +12,6 @@ pub record Weights : Type 0 where
 
 abbrev pub no_weights : Weights
 no_weights = record { committee = []; edges = [] }
-
-abbrev pub edges_from : List Edge → ℕ → List Edge
-edges_from edges voter = filter (λ edge. nat_eq edge.voter voter) edges
-
-abbrev pub edges_to : List Edge → ℕ → List Edge
-edges_to edges target = filter (λ edge. nat_eq edge.target target) edges
-
-abbrev pub amount_sum : List Edge → ℕ
-amount_sum edges = sum_by (λ edge. edge.amount) edges
-
--- what a target gets
-abbrev pub support : List Edge → ℕ → ℕ
-support edges target = amount_sum (edges_to edges target)
 
 -- what a voter gives
 abbrev pub spent : List Edge → ℕ → ℕ

@@ -60,7 +60,7 @@ impl Weights {
         })
     }
 
-    /// The members and edges that are at hand. Neither are copied, and no room is made for more of
+    /// The members and edges that are at hand. Neither is copied, and no room is made for more of
     /// them. The supports are kept for so many targets.
     pub fn of(
         alloc: Global,

@@ -16,7 +16,7 @@ returns-in_err-take_single c =
 pub push_reserved-requires : goal.push_reserved-requires
 push_reserved-requires c =
     let long = single_long c.loop.here c.take_single.new.cursor c.in_ok-take_single.field-0 c.in_ok-take_single.ensures in
-    omega (arith, c.loop.invariant.count, c.loop.invariant.room, c.loop.invariant.bytes, c.in_ok-entries.ensures.exact, c.room_for-room.ensures.room, ap length c.rest.ensures, long, c.loop-test.true)
+    omega (arith, c.loop.invariant.count, c.loop.invariant.room, c.loop.invariant.bytes, c.in_ok-entries.ensures.room, ap length c.rest.ensures, long, c.loop-test.true)
 
 pub loop-preserved : goal.loop-preserved
 loop-preserved c =

@@ -7,6 +7,6 @@ returns-clause-held c =
     let size = 2 * c.args.shares + 2 in
     let most = c.args.left / size in
     let whole : size * most ≤ c.args.left = mul-div-le c.args.left size in
-    let within : c.min.result ≤ most = search rules in
+    let within : c.min-room.result ≤ most = search rules in
     let pairs : 2 * most ≤ size * most = mul-le-mul_right most (omega arith) in
-    omega (arith, whole, within, pairs)
+    omega (arith, whole, within, pairs, c.in_ok-entries.ensures.exact)

@@ -5,9 +5,8 @@ use Rattle.std.proofs.lemmas.Bool.Decides.{nat_tests}
 use Rattle.std.proofs.lemmas.Grind.{common_steps}
 use Rattle.std.proofs.lemmas.List.{get_or-set_other}
 use Rattle.std.proofs.lemmas.Map.Keys.{apart_from_distinct}
-use Rattle.npos_base.specs.Account.{account_cmp}
+use Rattle.npos_base.specs.Account.{account_cmp, account_at}
 use Rattle.era_book.specs.declared.seat.Share.{Share}
-use Rattle.era_book.specs.Committee.{account_at}
 use Rattle.era_book.specs.Seats.{members_seen, seat_of, shares_of}
 use Rattle.era_book.proofs.SeatLemmas.{member_seated}
 use Rattle.era_book.proofs.elected.seats_of.Goals as goal

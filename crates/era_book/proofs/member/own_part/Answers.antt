@@ -1,8 +1,7 @@
 use Rattle.std.proofs.Common.{rules, ◌≡◌, Some, None, Option, find, sym, ap, ◌∙◌}
 use Rattle.std.specs.Option.{option_map_or}
-use Rattle.npos_base.specs.Account.{same_account}
+use Rattle.npos_base.specs.Account.{same_account, account_at}
 use Rattle.era_book.specs.declared.seat.Share.{Share}
-use Rattle.era_book.specs.Committee.{account_at}
 use Rattle.era_book.proofs.LineLemmas.{own_seen}
 use Rattle.era_book.proofs.member.own_part.Goals as goal
 

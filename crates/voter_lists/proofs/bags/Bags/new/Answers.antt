@@ -2,7 +2,8 @@
 use Rattle.std.proofs.Common.{◌≡◌, ◌∙◌, ◌+◌, [], length, ap, replicate}
 use Rattle.account_places.specs.Places.{place_in, by_account}
 use Rattle.voter_lists.specs.BagRows.{walk_from}
-use Rattle.voter_lists.specs.Nodes.{bags_in, account_at, list_at}
+use Rattle.npos_base.specs.Account.{account_at}
+use Rattle.voter_lists.specs.Nodes.{bags_in, list_at}
 use Rattle.voter_lists.proofs.ListingLemmas.{empty_homes, empty_walk}
 use Rattle.voter_lists.proofs.NodeLemmas.{bags_empty}
 use Rattle.voter_lists.proofs.bags.Bags.new.Goals as goal

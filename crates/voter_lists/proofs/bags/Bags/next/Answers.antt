@@ -3,7 +3,8 @@ use Rattle.std.proofs.Common.{◌∙◌, sym, ap, take, Some}
 use Rattle.std.specs.Option.{option_map}
 use Rattle.voter_lists.specs.Bags.{is_listed}
 use Rattle.voter_lists.specs.BagRows.{falling}
-use Rattle.voter_lists.specs.Nodes.{bags_in, home_of, account_at}
+use Rattle.npos_base.specs.Account.{account_at}
+use Rattle.voter_lists.specs.Nodes.{bags_in, home_of}
 use Rattle.voter_lists.proofs.ListingLemmas.{noted_somewhere}
 use Rattle.voter_lists.proofs.WalkLemmas.{or_first}
 use Rattle.voter_lists.proofs.LinkedLemmas.{after_is}

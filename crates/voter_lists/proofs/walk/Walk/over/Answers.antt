@@ -1,7 +1,8 @@
 -- All bags are ahead.
 use Rattle.std.proofs.Common.{ap, take_all, arith}
 use Rattle.voter_lists.specs.BagRows.{falling}
-use Rattle.voter_lists.specs.Nodes.{bags_in, account_at}
+use Rattle.npos_base.specs.Account.{account_at}
+use Rattle.voter_lists.specs.Nodes.{bags_in}
 use Rattle.voter_lists.proofs.NodeLemmas.{bags_length}
 use Rattle.voter_lists.proofs.walk.Walk.over.Goals as goal
 
