@@ -8,22 +8,24 @@ use Rattle.std.proofs.lemmas.List.Sums.{sum_by-cons}
 use Rattle.std.proofs.lemmas.Bool.{cases_Bool, cases_lt, cases_eq, eq-eqb, eqb-true, ne_eqb, and_parts, or_left, or_parts, not-false, not-true, and_from, true≢false}
 use Rattle.npos_base.specs.declared.figures.Edge.{Edge}
 use Rattle.election_snapshot.specs.Snapshot.{Snapshot, has, nominates, stake_of, total_stake}
+use Rattle.election_snapshot.proofs.HasLemmas.{all_has}
 use Rattle.weight_book.specs.Weights.{Weights, Follows, IsFeasible, edges_from, edges_to, amount_sum, support, spent}
 use Rattle.weight_book.proofs.SumLemmas.{sum_covered, sum_of_ones, sum_filter-cons}
 use Rattle.support_balance.specs.Turns.{given, edges_but, backs, LiesLow, IsTurn}
 use Rattle.support_balance.specs.Rounds.{GiveSame, AreTurns, AreRounds, IsBalanced, IsBefore}
-use Rattle.support_balance.proofs.GivenLemmas.{pair_weight, IsApart, apart_weight}
+use Rattle.support_balance.proofs.GivenLemmas.{pair_weight, LeadsElsewhere, apart_weight}
 use Rattle.support_balance.proofs.RowLemmas.{weight, to_weight}
 use Rattle.support_balance.proofs.SplitLemmas.{range_distinct}
 use Rattle.support_balance.proofs.SpendLemmas.{balanced_whole}
 use Rattle.support_balance.proofs.BackingLemmas.{distinct_before}
 use Rattle.weight_book.specs.Passing.{prescore}
 use Rattle.support_balance.proofs.PutLemmas.{balanced_between}
+use Rattle.support_balance.proofs.JoinLemmas.{before_trans}
 use Rattle.phragmms_miner.specs.Scores.{score, IsBest}
 use Rattle.phragmms_miner.specs.Run.{AreSeated, IsRun}
 use Rattle.phragmms_miner.proofs.ScoreLemmas.{greatest_within}
 use Rattle.phragmms_miner.proofs.RunLemmas.{next_seated}
-use Rattle.phragmms_miner.proofs.OneLemmas.{but_passes, but_none, in_order, then_before, given-cons, given_none}
+use Rattle.phragmms_miner.proofs.OneLemmas.{but_passes, but_none, in_order, given-cons, given_none}
 
 -- ## The lowest of the least
 
@@ -106,7 +108,7 @@ none_any p (x ∷ xs) e =
 -- no edge leads there, so nothing is given
 none_of_pair : (edges : List Edge) (voter target : ℕ) → list_any (is_of voter target) edges ≡ false → given edges voter target ≡ 0
 none_of_pair edges voter target none = given_none edges voter target (λ k d h. apart (get_or edges k d) (none_any (is_of voter target) edges none k d h)) where
-  apart : (edge : Edge) → is_of voter target edge ≡ false → IsApart voter target edge
+  apart : (edge : Edge) → is_of voter target edge ≡ false → LeadsElsewhere voter target edge
   apart edge e = elim (cases_eq edge.voter voter) [
     | inr ne ↦ inl ne
     | inl v ↦ elim (cases_eq edge.target target) [
@@ -362,7 +364,7 @@ Rising (edge ∷ edges) = AllByRecursion (IsBefore edge) edges × Rising edges
 
 further : (one first : Edge) (edges : List Edge) → IsBefore one first → AllByRecursion (IsBefore first) edges → AllByRecursion (IsBefore one) edges
 further one first [] before all = tt
-further one first (edge ∷ edges) before all = (then_before one first edge before all.0, further one first edges before all.1)
+further one first (edge ∷ edges) before all = (before_trans one first edge before all.0, further one first edges before all.1)
 
 put_rises : (edge : Edge) (edges : List Edge) → Rising edges → Rising (put edge edges)
 unfolding put put_by Rising
@@ -467,13 +469,6 @@ distinct_push (y ∷ xs) x distinct none =
     apart [] all e = (e, tt)
     apart (other ∷ ys) all e = (all.0, apart ys all.1 e)
 
-member_in : (P : ℕ → Type 0) (xs : List ℕ) (x : ℕ) → All P xs → has xs x ≡ true → P x
-member_in P [] x all there = absurd (true≢false (sym there))
-member_in P (y ∷ xs) x all there = elim (cases_Bool (nat_eq y x)) [
-  | inl t ↦ subst P (eqb-true y x t) (All-head P y xs all)
-  | inr t ↦ member_in P xs x (All-tail P y xs all) (rw t at there)
-]
-
 module _ (snapshot : Snapshot) (rounds seat : ℕ) (some : 1 ≤ rounds) (old : Weights) (state : IsSeatedWell snapshot rounds seat old) (open_seat : seat < length snapshot.targets) where
   within_total : (target : ℕ) → score snapshot old.edges target ≤ total_stake snapshot
   within_total target = greatest_within (λ price. prescore price snapshot old.edges target) (total_stake snapshot)
@@ -507,7 +502,7 @@ module _ (snapshot : Snapshot) (rounds seat : ℕ) (some : 1 ≤ rounds) (old : 
         (All-cons (λ member. member < length snapshot.targets) pick [] best.in_range (All-nil (λ member. member < length snapshot.targets)))
 
     in_members : (target : ℕ) → has members target ≡ true → target < length snapshot.targets
-    in_members target there = member_in (λ member. member < length snapshot.targets) members target all_members there
+    in_members target there = all_has (λ member. member < length snapshot.targets) members target all_members there
 
     old_fine : All (IsFine snapshot members in_members) old.edges
     old_fine k d h = (

@@ -2,6 +2,7 @@
 use Rattle.std.proofs.Common.{◌≡◌, ℕ, suc, ◌-◌, ◌<◌, ◌≤◌, ◌⊎◌, Bool, true, false, nat_eq, nat_lt, List, [], ◌∷◌, length, filter, get_or, All, inl, inr, refl, ap, sym, ◌∙◌, arith}
 use Rattle.std.proofs.lemmas.Bool.{cases_Bool, cases_lt, cases_eq, eq-eqb, ltb-false, eqb-true, true≢false}
 use Rattle.election_snapshot.specs.Snapshot.{has}
+use Rattle.election_snapshot.proofs.HasLemmas.{filter_has}
 use Rattle.phragmms_miner.specs.Scores.{greatest}
 use Rattle.phragmms_miner.specs.Search.{IsBestOf, AreRising}
 use Rattle.std.proofs.lemmas.List.Folds.{list_any_at}
@@ -21,18 +22,6 @@ has_filter p (y ∷ xs) x h = elim (cases_Bool (p y)) [
       elim (cases_Bool (nat_eq y x)) [
         | inl e ↦ rw e (refl, rest.1)
         | inr e ↦ rw e (rest.0, rest.1)
-      ]
-]
-
-pub filter_has : (p : ℕ → Bool) (xs : List ℕ) (x : ℕ) → has xs x ≡ true → p x ≡ true → has (filter p xs) x ≡ true
-filter_has p [] x h t = h
-filter_has p (y ∷ xs) x h t = elim (cases_Bool (nat_eq y x)) [
-  | inl e ↦ rw (ap p (eqb-true y x e) ∙ t, e) refl
-  | inr e ↦
-      let rest = filter_has p xs x (rw e at h) t in
-      elim (cases_Bool (p y)) [
-        | inl u ↦ rw (u, e) rest
-        | inr u ↦ rw u rest
       ]
 ]
 

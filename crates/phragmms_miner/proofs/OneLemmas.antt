@@ -10,12 +10,14 @@ use Rattle.election_snapshot.specs.Snapshot.{Snapshot}
 use Rattle.weight_book.specs.Weights.{Weights, edges_from, edges_to, amount_sum, support}
 use Rattle.support_balance.specs.Turns.{given, edges_but, LiesLow, IsTurn}
 use Rattle.support_balance.specs.Rounds.{GiveSame, AreTurns, IsRound, AreRounds, IsSettled, IsBalanced, IsBefore}
-use Rattle.support_balance.proofs.GivenLemmas.{pair_weight, given_weight, IsApart, apart_none, own_pair, same_edge}
+use Rattle.support_balance.proofs.GivenLemmas.{pair_weight, given_weight, LeadsElsewhere, apart_none, own_pair, same_edge, before_apart}
 use Rattle.support_balance.proofs.SplitLemmas.{support_split, from_but}
 use Rattle.support_balance.proofs.PutLemmas.{same_then}
 use Rattle.support_balance.proofs.UniqueLemmas.{unique}
+use Rattle.support_balance.proofs.JoinLemmas.{before_trans}
+use Rattle.support_balance.proofs.FallLemmas.{support_same}
 use Rattle.phragmms_miner.specs.Run.{IsSeated, AreSeated, IsRun}
-use Rattle.phragmms_miner.proofs.SameLemmas.{support_same, score_same, best_same}
+use Rattle.phragmms_miner.proofs.SameLemmas.{score_same, best_same}
 
 pub same_back : (old new : List Edge) → GiveSame old new → GiveSame new old
 same_back old new same voter target = sym (same voter target)
@@ -211,18 +213,8 @@ given-cons edge edges voter target =
     given_weight (edge ∷ edges) voter target
     ∙ (sum_by-cons (pair_weight voter target) edge edges ∙ ap (λ n. pair_weight voter target edge + n) (sym (given_weight edges voter target)))
 
-pub given_none : (edges : List Edge) (voter target : ℕ) → All (IsApart voter target) edges → given edges voter target ≡ 0
+pub given_none : (edges : List Edge) (voter target : ℕ) → All (LeadsElsewhere voter target) edges → given edges voter target ≡ 0
 given_none edges voter target all = given_weight edges voter target ∙ apart_none edges voter target all
-
-before_apart : (one other : Edge) → IsBefore one other → IsApart one.voter one.target other
-before_apart one other (inl v) = inl (λ same. omega (arith, v, same))
-before_apart one other (inr t) = inr (λ same. omega (arith, t.1, same))
-
-pub then_before : (a b c : Edge) → IsBefore a b → IsBefore b c → IsBefore a c
-then_before a b c (inl v) (inl w) = inl (omega (arith, v, w))
-then_before a b c (inl v) (inr t) = inl (omega (arith, v, t.0))
-then_before a b c (inr s) (inl w) = inl (omega (arith, s.0, w))
-then_before a b c (inr s) (inr t) = inr (s.0 ∙ t.0, omega (arith, s.1, t.1))
 
 pub in_order : (one other : Edge) → IsBefore one other ⊎ (IsBefore other one ⊎ ((one.voter ≡ other.voter) × (one.target ≡ other.target)))
 in_order one other = elim (cases_lt one.voter other.voter) [
@@ -245,14 +237,14 @@ tail_rises : (edge : Edge) (edges : List Edge) → AllPairs IsBefore (edge ∷ e
 tail_rises edge edges rising i j d a b = rising (suc i) (suc j) d (omega (arith, a)) (omega (arith, b))
 
 -- what stands behind an edge leads elsewhere
-behind : (edge : Edge) (edges : List Edge) → AllPairs IsBefore (edge ∷ edges) → All (IsApart edge.voter edge.target) edges
+behind : (edge : Edge) (edges : List Edge) → AllPairs IsBefore (edge ∷ edges) → All (LeadsElsewhere edge.voter edge.target) edges
 behind edge edges rising k d h = before_apart edge (get_or edges k d) (rising 0 (suc k) d (omega arith) (omega (arith, h)))
 
 all_behind : (first edge : Edge) (edges : List Edge) → IsBefore first edge → AllPairs IsBefore (edge ∷ edges) → given (edge ∷ edges) first.voter first.target ≡ 0
 all_behind first edge edges before rising = given_none (edge ∷ edges) first.voter first.target by where
-  by : All (IsApart first.voter first.target) (edge ∷ edges)
+  by : All (LeadsElsewhere first.voter first.target) (edge ∷ edges)
   by zero d h = before_apart first edge before
-  by (suc k) d h = before_apart first (get_or edges k d) (then_before first edge (get_or edges k d) before (rising 0 (suc k) d (omega arith) h))
+  by (suc k) d h = before_apart first (get_or edges k d) (before_trans first edge (get_or edges k d) before (rising 0 (suc k) d (omega arith) h))
 
 own_amount : (edge : Edge) (edges : List Edge) → AllPairs IsBefore (edge ∷ edges) → given (edge ∷ edges) edge.voter edge.target ≡ edge.amount
 own_amount edge edges rising = omega (arith, given-cons edge edges edge.voter edge.target, own_pair edge, given_none edges edge.voter edge.target (behind edge edges rising))

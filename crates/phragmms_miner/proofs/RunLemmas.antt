@@ -1,5 +1,5 @@
 -- The run, seat by seat.
-use Rattle.std.proofs.Common.{◌≡◌, ℕ, zero, suc, ◌+◌, ◌<◌, ◌≤◌, Bool, true, false, not, List, [], ◌∷◌, ◌++◌, length, take, filter, get_or, slice_index_or, All, inl, inr, refl, ap, sym, subst, ◌∙◌, arith, append-nil}
+use Rattle.std.proofs.Common.{◌≡◌, ℕ, zero, suc, ◌+◌, ◌<◌, ◌≤◌, Bool, true, false, not, List, [], ◌∷◌, ◌++◌, length, take, filter, get_or, slice_index_or, inl, inr, refl, ap, sym, subst, ◌∙◌, arith, append-nil}
 use Rattle.std.specs.List.{range_with_len}
 use Rattle.std.proofs.lemmas.List.{take-append-le, take_all, get_or_append_left, get_or_push}
 use Rattle.std.proofs.lemmas.List.Elements.{All-filter, filter-append}
@@ -8,6 +8,7 @@ use Rattle.std.proofs.lemmas.List.FromFn.{get_or-range_with_len, length-range_wi
 use Rattle.std.proofs.lemmas.Bool.{cases_Bool, true≢false}
 use Rattle.npos_base.specs.declared.figures.Edge.{Edge}
 use Rattle.election_snapshot.specs.Snapshot.{Snapshot, has, stake_of}
+use Rattle.election_snapshot.proofs.HasLemmas.{filter_has}
 use Rattle.weight_book.specs.Weights.{Weights, Follows, IsFeasible, spent}
 use Rattle.weight_book.proofs.StakeLemmas.{range_more}
 use Rattle.weight_book.proofs.SumLemmas.{has_range, sum_covered, sum_of_ones}
@@ -17,7 +18,7 @@ use Rattle.support_balance.proofs.SplitLemmas.{range_distinct}
 use Rattle.phragmms_miner.specs.Scores.{score, IsBest}
 use Rattle.phragmms_miner.specs.Search.{IsBestOf, AreRising}
 use Rattle.phragmms_miner.specs.Run.{IsSeated, AreSeated, IsRun, IsNext}
-use Rattle.phragmms_miner.proofs.NarrowLemmas.{has_filter, filter_has, has_place}
+use Rattle.phragmms_miner.proofs.NarrowLemmas.{has_filter, has_place}
 
 abbrev pub outside_of : List ℕ → ℕ → List ℕ
 outside_of committee targets = filter (λ target. not (has committee target)) (range_with_len 0 targets)
@@ -114,9 +115,6 @@ outside_less committee target t =
     let test : ℕ → Bool = λ u. not (has committee u) in
     ap (filter test) (range_more target) ∙ filter-append test (range_with_len 0 target) (target ∷ [])
     ∙ ap (λ xs. outside_of committee target ++ xs) (one_out test target (ap not t)) ∙ append-nil (outside_of committee target)
-
-pub within_members : (P : ℕ → Type 0) (members : List ℕ) (target : ℕ) → All P members → has members target ≡ true → P target
-within_members P members target all some = let (k, h, is) = has_place members target some in subst P (is 0) (all k 0 h)
 
 module _ (snapshot : Snapshot) (rounds : ℕ) (backed weights : Weights) (filled : length backed.committee ≡ snapshot.seats) (members : weights.committee ≡ backed.committee)
     (same : GiveSame backed.edges weights.edges) where

@@ -2,18 +2,17 @@
 use Rattle.std.proofs.Common.{◌≡◌, ℕ, zero, suc, ◌+◌, ◌-◌, ◌*◌, ◌/◌, ◌<◌, min, true, false, cond, nat_eq, nat_le, List, [], ◌∷◌, get_or, sum_by, All, inl, inr, refl, ap, ap₂, sym, ◌∙◌, arith}
 use Rattle.std.specs.List.{IsDistinct, AllByRecursion, range_with_len}
 use Rattle.std.proofs.lemmas.List.Sums.{sum_by-cons, get_or-le-sum_by}
-use Rattle.std.proofs.lemmas.List.Elements.{All-head, All-tail, All-filter}
-use Rattle.std.proofs.lemmas.Bool.{cases_Bool, cases_lt, cond-true, eqb-true, eq-eqb, true≢false}
+use Rattle.std.proofs.lemmas.List.Elements.{All-filter}
+use Rattle.std.proofs.lemmas.Bool.{cases_Bool, cases_lt, eqb-true, eq-eqb, true≢false}
 use Rattle.npos_base.specs.declared.figures.Edge.{Edge}
-use Rattle.election_snapshot.specs.Snapshot.{Snapshot, has, stake_of, total_stake}
+use Rattle.election_snapshot.specs.Snapshot.{Snapshot, stake_of, total_stake}
 use Rattle.weight_book.specs.Weights.{edges_from, edges_to, support, same_pair}
 use Rattle.weight_book.specs.Passing.{pay, paid, slack, prescore, nominators}
-use Rattle.weight_book.proofs.SumLemmas.{sum_at, sum_among, parts_all, sum_same, has_range}
+use Rattle.weight_book.proofs.SumLemmas.{sum_at, parts_all, sum_same, has_range}
 use Rattle.support_balance.specs.Turns.{given}
 use Rattle.support_balance.specs.Rounds.{GiveSame}
-use Rattle.support_balance.proofs.RowLemmas.{weight, to_weight}
-use Rattle.support_balance.proofs.GivenLemmas.{given_weight, sum_passing}
 use Rattle.support_balance.proofs.SplitLemmas.{range_distinct}
+use Rattle.support_balance.proofs.FallLemmas.{support_same}
 use Rattle.phragmms_miner.specs.Scores.{greatest, score, IsBest}
 
 -- a sum over edges is the sum over their keys
@@ -34,22 +33,6 @@ old_small key old new k d h = omega (arith, get_or-le-sum_by key old k d h)
 new_small : (key : Edge → ℕ) (old new : List Edge) → All (λ (e : Edge). key e < bound_of key old new) new
 unfolding bound_of
 new_small key old new k d h = omega (arith, get_or-le-sum_by key new k d h)
-
--- a support is what all voters give
-support_given : (edges : List Edge) (target bound : ℕ) → All (λ (e : Edge). e.voter < bound) edges
-    → sum_by (λ voter. given edges voter target) (range_with_len 0 bound) ≡ support edges target
-support_given edges target bound small =
-    sum_same (λ voter. given edges voter target) (sum_at (λ (e : Edge). e.voter) (weight target) edges)
-    (λ voter. given_weight edges voter target ∙ sym (sum_passing (λ (e : Edge). nat_eq e.voter voter) (weight target) edges)) (range_with_len 0 bound)
-    ∙ (by_key (λ (e : Edge). e.voter) (weight target) edges bound small ∙ sym (to_weight edges target))
-
-pub support_same : (old new : List Edge) → GiveSame old new → (target : ℕ) → support new target ≡ support old target
-support_same old new same target =
-    let key : Edge → ℕ = λ e. e.voter in
-    let bound = bound_of key old new in
-    sym (support_given new target bound (new_small key old new))
-    ∙ (sum_same (λ voter. given new voter target) (λ voter. given old voter target) (λ voter. same voter target) (range_with_len 0 bound)
-    ∙ support_given old target bound (old_small key old new))
 
 -- ## What is paid
 

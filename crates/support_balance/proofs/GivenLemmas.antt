@@ -1,5 +1,5 @@
 -- What a voter gives to a target.
-use Rattle.std.proofs.Common.{◌≡◌, ◌≢◌, ℕ, zero, suc, ◌+◌, ◌<◌, ◌≤◌, Bool, true, false, cond, nat_eq, List, [], ◌∷◌, length, filter, sum_by, get_or, All, inl, inr, refl, ap, ap₂, sym, ◌∙◌, arith, ◌⊎◌}
+use Rattle.std.proofs.Common.{◌≡◌, ◌≢◌, ℕ, zero, suc, ◌+◌, ◌<◌, ◌≤◌, true, false, cond, nat_eq, List, [], ◌∷◌, length, sum_by, get_or, All, inl, inr, refl, ap, ap₂, sym, ◌∙◌, arith, ◌⊎◌}
 use Rattle.std.specs.List.{AllPairs}
 use Rattle.std.proofs.lemmas.List.{length-map, get_or-map}
 use Rattle.std.proofs.lemmas.List.Sums.{sum_by-cons}
@@ -7,7 +7,7 @@ use Rattle.std.proofs.lemmas.List.Elements.{All-head, All-tail}
 use Rattle.std.proofs.lemmas.Bool.{cases_Bool, cond-true, cond-false, ne_eqb, eq-eqb, eqb-true, true≢false, cond_both}
 use Rattle.npos_base.specs.declared.figures.Edge.{Edge}
 use Rattle.weight_book.specs.Weights.{edges_from}
-use Rattle.weight_book.proofs.SumLemmas.{sum_filter-cons}
+use Rattle.weight_book.proofs.GivenEdgeLemmas.{filtered_sum}
 use Rattle.support_balance.specs.Turns.{given}
 use Rattle.support_balance.specs.Rounds.{GiveSame, IsBefore}
 use Rattle.support_balance.specs.Rows.{AreAlike, amounts, differs}
@@ -16,20 +16,15 @@ use Rattle.support_balance.specs.Rows.{AreAlike, amounts, differs}
 abbrev pub pair_weight : ℕ → ℕ → Edge → ℕ
 pair_weight voter target edge = cond (nat_eq edge.voter voter) (cond (nat_eq edge.target target) edge.amount 0) 0
 
--- a sum over what passes a test
-pub sum_passing : {X : Type 0} (p : X → Bool) (f : X → ℕ) (xs : List X) → sum_by f (filter p xs) ≡ sum_by (λ x. cond (p x) (f x) 0) xs
-sum_passing p f [] = refl
-sum_passing p f (x ∷ xs) = sum_filter-cons p f x xs ∙ ap (λ n. cond (p x) (f x) 0 + n) (sum_passing p f xs) ∙ sym (sum_by-cons (λ x. cond (p x) (f x) 0) x xs)
-
 pub given_weight : (edges : List Edge) (voter target : ℕ) → given edges voter target ≡ sum_by (pair_weight voter target) edges
-given_weight edges voter target = sum_passing (λ (e : Edge). nat_eq e.target target) (λ (e : Edge). e.amount) (edges_from edges voter)
-    ∙ sum_passing (λ (e : Edge). nat_eq e.voter voter) (λ (e : Edge). cond (nat_eq e.target target) e.amount 0) edges
+given_weight edges voter target = filtered_sum (λ (e : Edge). e.amount) (λ (e : Edge). nat_eq e.target target) (edges_from edges voter)
+    ∙ filtered_sum (λ (e : Edge). cond (nat_eq e.target target) e.amount 0) (λ (e : Edge). nat_eq e.voter voter) edges
 
 -- no edge leads from the voter to the target
-abbrev pub IsApart : ℕ → ℕ → Edge → Type 0
-IsApart voter target edge = (edge.voter ≢ voter) ⊎ (edge.target ≢ target)
+abbrev pub LeadsElsewhere : ℕ → ℕ → Edge → Type 0
+LeadsElsewhere voter target edge = (edge.voter ≢ voter) ⊎ (edge.target ≢ target)
 
-pub apart_weight : (edge : Edge) (voter target : ℕ) → IsApart voter target edge → pair_weight voter target edge ≡ 0
+pub apart_weight : (edge : Edge) (voter target : ℕ) → LeadsElsewhere voter target edge → pair_weight voter target edge ≡ 0
 apart_weight edge voter target apart = elim apart [
   | inl v ↦ cond-false (nat_eq edge.voter voter) (cond (nat_eq edge.target target) edge.amount 0) 0 (ne_eqb edge.voter voter v)
   | inr t ↦
@@ -50,22 +45,22 @@ none_weight edge voter target none =
     let outer : pair_weight voter target edge ≤ 0 = cond_both (nat_eq edge.voter voter) (cond (nat_eq edge.target target) edge.amount 0) 0 (λ n. n ≤ 0) (λ _. inner) (λ _. omega arith) in
     omega (arith, outer)
 
-pub apart_none : (edges : List Edge) (voter target : ℕ) → All (IsApart voter target) edges → sum_by (pair_weight voter target) edges ≡ 0
+pub apart_none : (edges : List Edge) (voter target : ℕ) → All (LeadsElsewhere voter target) edges → sum_by (pair_weight voter target) edges ≡ 0
 apart_none [] voter target all = refl
 apart_none (edge ∷ edges) voter target all = omega (
   arith,
   sum_by-cons (pair_weight voter target) edge edges,
-  apart_weight edge voter target (All-head (IsApart voter target) edge edges all),
-  apart_none edges voter target (All-tail (IsApart voter target) edge edges all),
+  apart_weight edge voter target (All-head (LeadsElsewhere voter target) edge edges all),
+  apart_none edges voter target (All-tail (LeadsElsewhere voter target) edge edges all),
 )
 
-before_apart : (one other : Edge) → IsBefore one other → IsApart one.voter one.target other
+pub before_apart : (one other : Edge) → IsBefore one other → LeadsElsewhere one.voter one.target other
 before_apart one other before = elim before [
   | inl v ↦ inl (λ same. omega (arith, v, same))
   | inr t ↦ inr (λ same. omega (arith, t.1, same))
 ]
 
-behind_apart : (one other : Edge) → IsBefore one other → IsApart other.voter other.target one
+behind_apart : (one other : Edge) → IsBefore one other → LeadsElsewhere other.voter other.target one
 behind_apart one other before = elim before [
   | inl v ↦ inl (λ same. omega (arith, v, same))
   | inr t ↦ inr (λ same. omega (arith, t.1, same))

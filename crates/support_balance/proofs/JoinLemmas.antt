@@ -208,7 +208,7 @@ module _ (snapshot : Snapshot) (target : ℕ) (edges : List Edge) (up : AllPairs
     inside = so.inside;
   }
 
-before_trans : (one other third : Edge) → IsBefore one other → IsBefore other third → IsBefore one third
+pub before_trans : (one other third : Edge) → IsBefore one other → IsBefore other third → IsBefore one third
 before_trans one other third x y = elim x [
   | inl a ↦ elim y [
     | inl b ↦ inl (omega (arith, a, b))

@@ -1,14 +1,15 @@
 -- Weights that follow, laid along the slots of their members.
-use Rattle.std.proofs.Common.{◌≡◌, ℕ, suc, ◌^◌, ◌<◌, ◌≤◌, Bool, true, false, nat_eq, slice_index_or, List, [], ◌∷◌, length, get_or, All, IsPermutation, inl, inr, refl, ap, sym, subst, ◌∙◌, arith}
+use Rattle.std.proofs.Common.{◌≡◌, ℕ, ◌^◌, ◌<◌, ◌≤◌, Bool, true, false, nat_eq, slice_index_or, List, [], ◌∷◌, length, get_or, All, IsPermutation, inl, inr, refl, ap, sym, subst, ◌∙◌, arith}
 use Rattle.std.specs.List.{AllPairs, IsDistinct}
 use Rattle.std.specs.List.Sorted.{IsNonDecreasingBy}
 use Rattle.std.proofs.lemmas.List.Elements.{All-from_recursion, All-filter}
 use Rattle.std.proofs.lemmas.List.Kept.{AllPairs-cons, AllPairs-filter}
 use Rattle.std.proofs.lemmas.List.Sorted.{All-permutation, sum_by-IsPermutation}
 use Rattle.std.proofs.lemmas.Map.Keys.{IsDistinct-IsPermutation}
-use Rattle.std.proofs.lemmas.Bool.{cases_Bool, cases_lt, eqb-true, true≢false}
+use Rattle.std.proofs.lemmas.Bool.{cases_Bool, cases_lt, true≢false}
 use Rattle.npos_base.specs.declared.figures.Edge.{Edge}
 use Rattle.election_snapshot.specs.Snapshot.{Snapshot, IsWellFormed, has}
+use Rattle.election_snapshot.proofs.HasLemmas.{all_has}
 use Rattle.weight_book.specs.Weights.{Weights, edges_from, same_pair, support, Follows}
 use Rattle.weight_book.proofs.SumLemmas.{eqb_turned}
 use Rattle.support_balance.specs.Rounds.{IsBefore, GiveSame}
@@ -75,18 +76,11 @@ marked_has marks (slot ∷ slots) edge mark some = elim (cases_Bool (same_pair s
       ]
 ]
 
-within_members : (P : ℕ → Type 0) (members : List ℕ) (target : ℕ) → All P members → has members target ≡ true → P target
-within_members P [] target all some = absurd (true≢false (sym some))
-within_members P (member ∷ members) target all some = elim (cases_Bool (nat_eq member target)) [
-  | inl t ↦ subst P (eqb-true member target t) (all 0 0 (omega arith))
-  | inr t ↦ within_members P members target (λ k d h. all (suc k) d (omega (arith, h))) (rw t at some)
-]
-
 module _ (snapshot : Snapshot) (formed : IsWellFormed snapshot) (weights : Weights) (follows : Follows snapshot weights) (slots : List Edge)
     (are : AreSlots snapshot (length snapshot.voters) slots) (is_member : List Bool) (marks : (target : ℕ) → slice_index_or is_member target false ≡ has weights.committee target)
     (marks_count : length is_member ≡ length snapshot.targets) (sorted : List Edge) (up : IsNonDecreasingBy place_of sorted) (moved : IsPermutation weights.edges sorted) where
   small_targets : All (λ (e : Edge). e.target < 65536) weights.edges
-  small_targets k d h = within_members (λ target. target < 65536) weights.committee (get_or weights.edges k d).target
+  small_targets k d h = all_has (λ target. target < 65536) weights.committee (get_or weights.edges k d).target
       (λ i e l. omega (arith, follows.members_in_range i e l, formed.voters.targets_few)) (follows.to_members k d h)
 
   pub rising_sorted : AllPairs IsBefore sorted

@@ -8,15 +8,16 @@ use Rattle.npos_base.specs.declared.figures.Edge.{Edge}
 use Rattle.election_snapshot.specs.Snapshot.{has}
 use Rattle.weight_book.specs.Weights.{edges_from, edges_to, amount_sum, support, spent}
 use Rattle.weight_book.proofs.SumLemmas.{parts_all, sum_same, has_range}
+use Rattle.weight_book.proofs.GivenEdgeLemmas.{filtered_sum}
 use Rattle.support_balance.specs.Turns.{given, edges_but}
 use Rattle.support_balance.proofs.RowLemmas.{weight, to_weight}
-use Rattle.support_balance.proofs.GivenLemmas.{pair_weight, given_weight, sum_passing}
+use Rattle.support_balance.proofs.GivenLemmas.{pair_weight, given_weight}
 
 -- a support is what the voter gives and what the others give
 pub support_split : (edges : List Edge) (voter target : ℕ) → support edges target ≡ support (edges_but edges voter) target + given edges voter target
 support_split edges voter target = to_weight edges target ∙ split edges
     ∙ ap₂ (λ n m. n + m)
-    (sym (sum_passing (λ (e : Edge). not (nat_eq e.voter voter)) (weight target) edges) ∙ sym (to_weight (edges_but edges voter) target))
+    (sym (filtered_sum (weight target) (λ (e : Edge). not (nat_eq e.voter voter)) edges) ∙ sym (to_weight (edges_but edges voter) target))
     (sym (given_weight edges voter target))
   where
     split : (es : List Edge) → sum_by (weight target) es

@@ -5,7 +5,7 @@ ghost use Rattle.std.specs.List.{AllPairs};
 ghost use Rattle.std.specs.List.Sorted.{IsNonDecreasing, IsNonDecreasingBy};
 ghost use Rattle.support_balance.specs.Rounds.{IsBefore, GiveSame};
 ghost use Rattle.support_balance.specs.Slots.{AreSlots, marked, has_pair, AreLaid, slot_of, IsTaken, IsPassed, IsJoined};
-ghost use Rattle.npos_base.specs.Edge.{place_of as place};
+ghost use Rattle.npos_base.specs.Edge.{place_of};
 ghost use Rattle.election_snapshot.specs.Snapshot.{has};
 ghost use Rattle.weight_book.specs.Weights.{support};
 
@@ -155,19 +155,12 @@ fn stands_before(edge: &Edge, voter: u32, target: u16) -> bool
 
 /// The edges in order.
 pub(crate) fn in_order(alloc: Global, edges: &[Edge]) -> Result<Vec<Edge>, NoMemory>
-    ensures rising { IfOk result (λ sorted. IsNonDecreasingBy place sorted.items) }
+    ensures rising { IfOk result (λ sorted. IsNonDecreasingBy place_of sorted.items) }
     ensures same { IfOk result (λ sorted. IsPermutation edges.now sorted.items) }
 {
     let mut sorted = Vec::from_slice(alloc, edges)?;
-    sorted.sort_unstable_by_key(|edge| place_of(edge));
+    sorted.sort_unstable_by_key(|edge| edge.place());
     Ok(sorted)
-}
-
-/// A number that rises with the voter, then with the target.
-fn place_of(edge: &Edge) -> u64
-    ensures { result ≡ place edge.now }
-{
-    u64::from(edge.voter) * 65_536 + u64::from(edge.target)
 }
 
 /// Marks the members alone.

@@ -33,7 +33,9 @@ pub(crate) fn rounds(
     made
 }
 
-/// Makes one round, and tells whether an amount changed.
+/// Makes one round, and tells whether an amount changed. A function by itself keeps what its loop
+/// needs in registers.
+#[inline(never)]
 fn round(snapshot: &Snapshot, edges: &mut [Edge], supports: &mut [u128]) -> bool
     requires { AreKept supports.old edges.old }
     ensures kept { AreKept supports.new edges.new }

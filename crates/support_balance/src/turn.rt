@@ -65,7 +65,9 @@ fn is_level(stake: u64, row: &[Edge], supports: &[u128]) -> bool
 }
 
 /// The level to which the stake raises the members: each pool's height is an upper bound, and the
-/// next pool leaves out what lies above it.
+/// next pool leaves out what lies above it. Most turns find their voter level and do not come here,
+/// so this and `hand_out` leave the registers to them.
+#[inline(never)]
 fn level_of(stake: u64, row: &[Edge], supports: &[u128]) -> Level
     requires row { IsRow supports.now row.now }
     requires some { 1 ≤ length row.now }
@@ -109,6 +111,7 @@ fn pool_within(cap: u128, row: &[Edge], supports: &[u128]) -> Pool
 
 /// Gives each member what is missing to the level, and a unit more to the first ones that it covers
 /// while there are units above the height. Tells whether an amount changed.
+#[inline(never)]
 fn hand_out(level: Level, row: &mut [Edge], supports: &mut [u128]) -> bool
     requires row { IsRow supports.old row.old }
     requires fits { All (λ base. base ≤ level.height

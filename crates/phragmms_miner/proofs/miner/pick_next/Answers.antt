@@ -1,7 +1,8 @@
 use Rattle.std.proofs.Common.{arith, ◌≡◌, ◌<◌, length, get_or}
 use Rattle.weight_book.specs.Weights.{Follows}
-use Rattle.phragmms_miner.proofs.RunLemmas.{outside_rising, some_outside, best_of_all, within_members}
+use Rattle.phragmms_miner.proofs.RunLemmas.{outside_rising, some_outside, best_of_all}
 use Rattle.phragmms_miner.proofs.miner.pick_next.Goals as goal
+use Rattle.election_snapshot.proofs.HasLemmas.{all_has}
 
 pub best_outside-requires-clause-spare : goal.best_outside-requires-clause-spare
 best_outside-requires-clause-spare c =
@@ -9,7 +10,7 @@ best_outside-requires-clause-spare c =
     let count : length c.supports.result.now ≡ length c.args.snapshot.now.targets = rw c.requires.snapshot at c.supports.ensures.count in
     rw c.edges-edges.ensures.edges (record {
       voters = follows.voters_in_range;
-      targets = λ k d h. within_members (λ target. target < length c.supports.result.now) c.args.backing.now.weights.committee
+      targets = λ k d h. all_has (λ target. target < length c.supports.result.now) c.args.backing.now.weights.committee
           (get_or c.args.backing.now.weights.edges k d).target (λ i e l. omega (arith, follows.members_in_range i e l, count)) (follows.to_members k d h);
       sums = c.supports.ensures.supports;
       within = c.requires.within;
