@@ -1,5 +1,5 @@
 -- The round that is open in a sound chain, and the committee that waits, are sound in the state that the chain keeps.
-use Rattle.std.proofs.Common.{◌≡◌, ◌⊎◌, inl, inr, ℕ, zero, suc, ◌+◌, ◌-◌, ◌*◌, ◌^◌, ◌≤◌, ◌<◌, Bool, true, false, not, ◌&&◌, nat_eq, nat_lt, nat_le, All, is_some, List, [], ◌∷◌, length, map, take, zip, sum_by, get_or, Option, Some, None, option_map, refl, ap, ap₂, sym, subst, ◌∙◌, arith, true≢false}
+use Rattle.std.proofs.Common.{◌≡◌, ◌⊎◌, inl, inr, ℕ, zero, suc, ◌+◌, ◌-◌, ◌*◌, ◌^◌, ◌≤◌, ◌<◌, Bool, true, false, not, ◌&&◌, nat_eq, nat_lt, nat_le, All, is_some, List, [], ◌∷◌, length, map, take, zip, sum_by, get_or, Option, Some, None, option_map, refl, ap, ap₂, sym, subst, ◌∙◌, arith}
 use Rattle.std.specs.List.{list_any, AllByRecursion, AllPairs, IsDistinct}
 use Rattle.std.specs.List.Sorted.{IsStrictlySortedBy}
 use Rattle.std.specs.Ordering.{is_lt}
@@ -17,7 +17,7 @@ use Rattle.npos_base.specs.declared.account.AccountId.{AccountId}
 use Rattle.npos_base.specs.declared.figures.Edge.{Edge}
 use Rattle.npos_base.specs.declared.limits.TheConstants.{MOST_NOMINATIONS, MOST_TARGETS, MOST_VOTERS, MOST_SEATS, WHOLE_FRACTION}
 use Rattle.npos_base.specs.Account.{account_cmp, same_account}
-use Rattle.npos_base.proofs.AccountOrder.{same_exact, same_itself}
+use Rattle.npos_base.proofs.AccountOrder.{same_turned}
 use Rattle.npos_base.proofs.NumberTests.{number_test, other_number}
 use Rattle.block_wire.specs.declared.genesis.Params.{Params}
 use Rattle.block_wire.specs.declared.bundle.BundleVoter.{BundleVoter}
@@ -57,12 +57,6 @@ not_none a above = number_test a 0 (λ none. omega (arith, above, none))
 
 -- ## Accounts that are new
 
-turned : (a b : AccountId) → same_account a b ≡ false → same_account b a ≡ false
-turned a b apart = at (same_account b a) refl where
-  at : (t : Bool) → same_account b a ≡ t → t ≡ false
-  at true same = absurd (true≢false (sym (same_itself a) ∙ ap (λ x. same_account a x) (sym (same_exact b a same)) ∙ apart))
-  at false same = refl
-
 -- an item's account does not stand before it
 each_stands_not : {A : Type 0} (who : A → AccountId) (items : List A) → IsDistinct same_account (map who items)
     → state.EachIs (λ before item. stands_in (map who before) (who item) ≡ false) items
@@ -71,7 +65,7 @@ each_stands_not who [] distinct place d few = absurd (omega (arith, few))
 each_stands_not who (item ∷ items) distinct zero d few = refl
 each_stands_not who (item ∷ items) distinct (suc place) d few =
     or_from (same_account (who (get_or items place d)) (who item)) (stands_in (map who (take place items)) (who (get_or items place d)))
-    (turned (who item) (who (get_or items place d)) (distinct_pairs who (item ∷ items) distinct 0 (suc place) d (omega arith) few))
+    (same_turned (who item) (who (get_or items place d)) (distinct_pairs who (item ∷ items) distinct 0 (suc place) d (omega arith) few))
     (each_stands_not who items distinct.1 place d (omega (arith, few)))
 
 -- ## Targets

@@ -8,7 +8,7 @@ use Rattle.std.proofs.lemmas.List.Folds.{list_any_none}
 use Rattle.std.proofs.lemmas.List.Sums.{sum_by-cons}
 use Rattle.npos_base.specs.declared.account.AccountId.{AccountId}
 use Rattle.npos_base.specs.Account.{same_account}
-use Rattle.npos_base.proofs.AccountOrder.{same_exact, same_itself}
+use Rattle.npos_base.proofs.AccountOrder.{same_exact, same_itself, same_turned}
 use Rattle.block_wire.specs.declared.genesis.Params.{Params}
 use Rattle.stake_ledger.specs.declared.chunks.Chunk.{Chunk}
 use Rattle.stake_ledger.specs.declared.row.Row.{Row}
@@ -16,7 +16,6 @@ use Rattle.stake_ledger.specs.declared.book_row.BookRow.{BookRow}
 use Rattle.stake_ledger.specs.Rows.{empty_row}
 use Rattle.stake_ledger.specs.BookRows.{rows_fault}
 use Rattle.stake_ledger.proofs.AnewLemmas.{saved_law}
-use Rattle.voter_lists.proofs.HomeLemmas.{same_back}
 use Rattle.submission_queue.specs.declared.submission.Submission.{Submission}
 use Rattle.round_decision.specs.Deposits.{deposits_of}
 use Rattle.chain_params.specs.Rules.{era_of, bonding_eras_of, deposit_of}
@@ -79,7 +78,7 @@ turned x y = at (same_account x y) refl where
   at true is =
       let same : x ≡ y = same_exact x y is in
       is ∙ sym (ap (λ (z : AccountId). same_account y z) same ∙ same_itself y)
-  at false is = is ∙ sym (same_back x y is)
+  at false is = is ∙ sym (same_turned x y is)
 
 -- one more deposit, or none
 one_more : (b : Bool) (deposit given sum : ℕ) (item : QueueRow) (rest : List QueueRow) → given ≡ deposit → sum ≡ deposit * length rest

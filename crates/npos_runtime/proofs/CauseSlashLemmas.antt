@@ -1,28 +1,15 @@
 -- The slashes that wait in a sound chain are sound in the state that the chain keeps.
-use Rattle.std.proofs.Common.{◌≡◌, ℕ, zero, suc, ◌-◌, ◌≤◌, ◌<◌, Bool, true, false, not, nat_eq, nat_lt, nat_le, All, List, [], ◌∷◌, map, take, get_or, Option, Some, None, option_map, refl, ap, sym, ◌∙◌, arith}
-use Rattle.std.specs.List.{list_any, AllPairs}
-use Rattle.std.proofs.lemmas.Bool.{lt-ltb, le-leb, or_from}
-use Rattle.std.proofs.lemmas.List.Elements.{All-weaker}
-use Rattle.std.proofs.lemmas.List.Folds.{list_any_none}
-use Rattle.npos_base.specs.declared.account.AccountId.{AccountId}
-use Rattle.npos_base.specs.Account.{same_account}
-use Rattle.npos_base.proofs.NumberTests.{number_test}
+use Rattle.std.proofs.Common.{◌≡◌, ℕ, ◌-◌, ◌≤◌, ◌<◌, nat_lt, nat_le, get_or, Option, Some, None, option_map, refl, sym, arith}
+use Rattle.std.proofs.lemmas.Bool.{lt-ltb, le-leb}
 use Rattle.block_wire.specs.declared.genesis.Params.{Params}
-use Rattle.era_book.specs.declared.exposure.Backer.{Backer}
 use Rattle.era_book.specs.declared.deferred.DeferredSlash.{DeferredSlash}
-use Rattle.era_book.specs.Exposures.{AreApart}
-use Rattle.chain_params.specs.Rules.{era_of}
-use Rattle.state_rules.specs.Lists.{has_bad, bad_place}
-use Rattle.state_rules.specs.Known.{has_row}
 use Rattle.state_rules.specs.Terms.{defer_in, era_before, defer_of}
-use Rattle.state_rules.specs.Eras.{is_bad_line}
 use Rattle.state_rules.specs.Sound.{EachIs, IsSoundSlash, IsNextNumber}
-use Rattle.state_rules.proofs.SoundLemmas.{none_is, no_some}
 use Rattle.npos_runtime.specs.declared.chain.Chain.{Chain}
 use Rattle.npos_runtime.specs.KeptState.{kept, IsTold}
 use Rattle.npos_runtime.specs.Live.{IsReady}
 use Rattle.npos_runtime.specs.Sound.{IsSoundChain}
-use Rattle.npos_runtime.proofs.KeptRowLemmas.{pairs_follow, distinct_pairs}
+use Rattle.npos_runtime.proofs.KeptRowLemmas.{pairs_follow}
 use Rattle.npos_runtime.proofs.CauseRowLemmas.{era_kept}
 use Rattle.npos_runtime.proofs.CauseEraLemmas.{lines_known, lines_good}
 

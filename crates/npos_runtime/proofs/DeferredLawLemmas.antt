@@ -11,6 +11,7 @@ use Rattle.block_wire.specs.declared.call.Call.{Call}
 use Rattle.block_wire.specs.declared.block.Block.{Block}
 use Rattle.stake_ledger.specs.Ledger.{Ledger, row_at}
 use Rattle.stake_ledger.specs.Calls.{slash_amount}
+use Rattle.election_snapshot.specs.Snapshot.{has}
 use Rattle.era_book.specs.declared.exposure.Backer.{Backer}
 use Rattle.era_book.specs.declared.deferred.DeferredSlash.{DeferredSlash}
 use Rattle.era_book.specs.Exposures.{amount_for}
@@ -31,7 +32,7 @@ use Rattle.npos_runtime.specs.Offices.{slashed_once, slashes, slashing_rule, def
 use Rattle.npos_runtime.specs.Step.{waiting_after, eras_after, applied_in, before_calls, call_after, call_outcome, calls_outcome, step, after_blocks}
 use Rattle.npos_runtime.specs.Live.{IsLive, CanDefer, IsBetweenBlocks}
 use Rattle.npos_runtime.specs.EraLaws.{event_of, over_calls, over_blocks, taken_for, taken_by, due_by, amount_taken, told_taken}
-use Rattle.npos_runtime.specs.DeferredLaws.{AreApplied, AppliesWhatIsDue, QueuedLaw, AppliedLaw, waiting_for, numbers_at, numbers_of, is_among, taken_behind, applied_for, waiting_due, TakenInAllLaw}
+use Rattle.npos_runtime.specs.DeferredLaws.{AreApplied, AppliesWhatIsDue, QueuedLaw, AppliedLaw, waiting_for, numbers_at, numbers_of, taken_behind, applied_for, waiting_due, TakenInAllLaw}
 use Rattle.npos_runtime.proofs.RuleLemmas.{KeepsDues}
 use Rattle.npos_runtime.proofs.CallTable.{lawful_call}
 use Rattle.npos_runtime.proofs.PartLemmas.{live_with, with_eras}
@@ -260,7 +261,7 @@ module _ (numbers : List ℕ) (who : AccountId) where
         ≤ waiting_due numbers who chain.eras.queue) (sym none) (later counts chain)
     at (Some slash) found later =
         let done : Outcome = done_slash chain slash found in
-        let among : Bool = is_among numbers slash.number in
+        let among : Bool = has numbers slash.number in
         let rest : Outcome = applied more done.state in
         subst (λ (o : Option DeferredSlash). taken_behind numbers counts who (after (apply_slash o chain) (applied more)).lines
         + waiting_due numbers who (after (apply_slash o chain) (applied more)).state.eras.queue

@@ -7,13 +7,13 @@ use Rattle.std.proofs.lemmas.List.Elements.{All-nil, All-cons, All-head, All-tai
 use Rattle.std.proofs.lemmas.List.Sums.{sum_by-cons}
 use Rattle.npos_base.specs.declared.account.AccountId.{AccountId}
 use Rattle.npos_base.specs.declared.figures.Edge.{Edge}
-use Rattle.npos_base.specs.Account.{same_account}
+use Rattle.npos_base.specs.Account.{same_account, account_at}
 use Rattle.npos_base.proofs.AccountOrder.{same_exact}
 use Rattle.election_snapshot.specs.Snapshot.{Voter, Snapshot, has, nobody, stake_of}
 use Rattle.election_snapshot.specs.Draft.{accounts_of}
 use Rattle.weight_book.specs.Weights.{Weights, Follows, spent}
 use Rattle.era_book.specs.Exposures.{IsSoundExposure, AreSound, exposed_for}
-use Rattle.era_book.specs.Committee.{account_at, spent_by}
+use Rattle.era_book.specs.Committee.{spent_by}
 use Rattle.era_book.proofs.CommitteeLemmas.{filter_sum, spent_law}
 use Rattle.era_book.proofs.BackerLemmas.{apart_at}
 use Rattle.era_book.proofs.SoundLemmas.{sound_law, order_law}

@@ -1,9 +1,9 @@
 -- The snapshot of a round that is not void is well formed.
-use Rattle.std.proofs.Common.{◌≡◌, ℕ, suc, ◌*◌, ◌≤◌, ◌<◌, Bool, true, false, nat_lt, nat_le, ◌||◌, ◌&&◌, not, All, List, [], ◌∷◌, ◌++◌, length, map, sum, Option, Some, None, refl, sym, ◌∙◌, ap, subst, arith, if◌then◌else◌, true≢false}
+use Rattle.std.proofs.Common.{◌≡◌, ℕ, suc, ◌*◌, ◌≤◌, ◌<◌, Bool, true, false, nat_lt, nat_le, ◌||◌, not, All, List, [], ◌∷◌, ◌++◌, length, map, sum, Option, Some, None, refl, sym, ◌∙◌, ap, subst, arith, if◌then◌else◌, true≢false}
 use Rattle.std.specs.List.{IsDistinct}
 use Rattle.std.specs.Option.{option_or}
 use Rattle.std.specs.Ordering.{is_eq}
-use Rattle.std.proofs.lemmas.Bool.{ltb-false}
+use Rattle.std.proofs.lemmas.Bool.{ltb-false, and_parts}
 use Rattle.std.proofs.lemmas.Bool.Decides.{nat_tests}
 use Rattle.std.proofs.lemmas.Cmp.{tied_itself}
 use Rattle.std.proofs.lemmas.Map.Keys.{IsDistinct-from_sorted}
@@ -85,10 +85,6 @@ kept_by draft are = record {
 above : (n : ℕ) → nat_lt 0 n ≡ true → 0 < n
 above n e = grind (arith, nat_tests)
 
-both_true : (a b : Bool) → (a && b) ≡ true → (a ≡ true) × (b ≡ true)
-both_true true b e = (refl, e)
-both_true false b e = absurd (true≢false (sym e))
-
 -- one account of the walk more
 one_polled : (chain : Chain) (draft : Draft) (who : AccountId) (rest : List AccountId) → IsLive chain → IsPolled chain draft (who ∷ rest) → length draft.voters < 16384
     → AreVotersOf draft.targets draft.voters → AreVotersOf (polled chain draft who).targets (polled chain draft who).voters
@@ -97,7 +93,7 @@ one_polled chain draft who rest live before room are = at (is_eligible chain who
       → AreVotersOf (if b then with_voter draft who (active_of chain who) (votes_of chain.roles who) else draft).targets
       (if b then with_voter draft who (active_of chain who) (votes_of chain.roles who) else draft).voters
   at true e =
-      let both = both_true (nat_lt 0 (active_of chain who)) (nat_lt 0 (length (votes_of chain.roles who))) e in
+      let both = and_parts (nat_lt 0 (active_of chain who)) (nat_lt 0 (length (votes_of chain.roles who))) e in
       one_voter draft who (active_of chain who) (votes_of chain.roles who) (kept_by draft are)
       (no_fault chain draft who rest live room before (above (active_of chain who) both.0) (above (length (votes_of chain.roles who)) both.1))
   at false e = are
@@ -152,7 +148,7 @@ seats_within None sound = (omega arith, omega arith)
 seats_within (Some params) sound =
     let inside : not (is_within 1 512 params.seats) ≡ false
     = passed (not (is_within 1 512 params.seats)) _ _ (first_of_two (numbers_fault params) (option_or (threshold_fault 0 0 params.thresholds) (limits_fault params)) sound) in
-    let both = both_true (nat_le 1 params.seats) (nat_le params.seats 512) (not_false (is_within 1 512 params.seats) inside) in
+    let both = and_parts (nat_le 1 params.seats) (nat_le params.seats 512) (not_false (is_within 1 512 params.seats) inside) in
     (let a = both.0 in grind (arith, nat_tests), let a = both.1 in grind (arith, nat_tests)) where
       not_false : (t : Bool) → not t ≡ false → t ≡ true
       not_false true f = refl

@@ -1,27 +1,19 @@
 -- How one more endowment changes what is known of those before it.
-use Rattle.std.proofs.Common.{◌≡◌, inl, inr, ℕ, ◌+◌, Bool, true, false, ◌||◌, List, [], ◌∷◌, ◌++◌, Option, Some, None, is_some, refl, sym, ◌∙◌, ap, ap₂, subst, arith, ◌<◌, ◌≤◌, length, take, drop, get_or, nat_lt, if◌then◌else◌}
+use Rattle.std.proofs.Common.{◌≡◌, ℕ, ◌+◌, Bool, true, false, ◌||◌, List, [], ◌∷◌, ◌++◌, Option, Some, None, is_some, refl, sym, ◌∙◌, ap, ap₂, subst, arith, ◌<◌, ◌≤◌, length, take, drop, get_or, nat_lt, if◌then◌else◌}
 use Rattle.std.specs.Option.{option_or}
 use Rattle.std.proofs.lemmas.List.{take_all, drop_all, take_more, drop_more, length-take-le}
-use Rattle.std.proofs.lemmas.Bool.{false_from_ne_true}
 use Rattle.std.proofs.lemmas.List.Folds.{list_any-append}
 use Rattle.std.proofs.lemmas.List.Sums.{sum_by-append, sum_by-cons}
 use Rattle.npos_base.specs.declared.account.AccountId.{AccountId}
 use Rattle.npos_base.specs.Account.{same_account}
 use Rattle.block_wire.specs.declared.genesis.Endowment.{Endowment}
-use Rattle.stake_ledger.specs.Rows.{gained}
 use Rattle.stake_ledger.specs.Ledger.{Ledger, row_of, empty_ledger, issuance_cap}
 use Rattle.stake_ledger.specs.Calls.{endowed}
-use Rattle.npos_base.proofs.AccountOrder.{same_exact, same_itself}
-use Rattle.stake_ledger.proofs.LedgerLemmas.{row_of-changed, others_stay}
+use Rattle.stake_ledger.proofs.EndowedLemmas.{known_by}
 use Rattle.chain_params.specs.declared.fault.GenesisFault.{GenesisFault}
 use Rattle.chain_params.specs.declared.fault.GenesisFault.TheVariants.{RepeatedAccount, TooMuch}
 use Rattle.npos_runtime.specs.Genesis.{is_endowed, endowment_sum, endowed_all, endowment_fault, opening_fault, IsFault}
 use Rattle.npos_runtime.proofs.FaultLemmas.{is_first}
-use Rattle.npos_runtime.proofs.PartLemmas.{same_or_not}
-
-or-true : (a : Bool) → (a || true) ≡ true
-or-true true = refl
-or-true false = refl
 
 or-false : (a : Bool) → (a || false) ≡ a
 or-false true = refl
@@ -31,21 +23,6 @@ pub endowed_more : (before : List Endowment) (e : Endowment) (ledger : Ledger)
     → endowed_all (before ++ e ∷ []) ledger ≡ endowed e.who e.value (endowed_all before ledger)
 endowed_more [] e ledger = refl
 endowed_more (x ∷ before) e ledger = endowed_more before e (endowed x.who x.value ledger)
-
--- the account that is endowed is known, and every other one as before
-known_by : (who other : AccountId) (value : ℕ) (ledger : Ledger)
-    → is_some (row_of (endowed who value ledger) other) ≡ (is_some (row_of ledger other) || same_account who other)
-known_by who other value ledger = elim (same_or_not other who) [
-  | inl same ↦
-      let self : same_account who other ≡ true = ap (same_account who) same ∙ same_itself who in
-      let found : is_some (row_of (endowed who value ledger) other) ≡ true =
-      ap (λ (w : AccountId). is_some (row_of (endowed who value ledger) w)) same ∙ ap is_some (row_of-changed who (gained value) ledger) in
-      found ∙ sym (ap (λ b. is_some (row_of ledger other) || b) self ∙ or-true (is_some (row_of ledger other)))
-  | inr differ ↦
-      let apart : same_account who other ≡ false = false_from_ne_true (same_account who other) (λ t. differ (sym (same_exact who other t))) in
-      ap is_some (others_stay who (gained value) ledger other differ)
-      ∙ sym (ap (λ b. is_some (row_of ledger other) || b) apart ∙ or-false (is_some (row_of ledger other)))
-]
 
 pub known_more : (before : List Endowment) (e : Endowment) (ledger : Ledger)
     → ((other : AccountId) → is_some (row_of ledger other) ≡ is_endowed before other)

@@ -1,5 +1,5 @@
 -- What eras come to over blocks: payouts within the reward, and slashes within the stake.
-use Rattle.std.proofs.Common.{◌≡◌, ◌≢◌, ◌^◌, ℕ, zero, suc, ◌+◌, ◌-◌, ◌<◌, ◌≤◌, min, Bool, true, false, cond, not, nat_eq, nat_lt, ◌==◌, List, [], ◌∷◌, length, slice_get, unwrap_or, Option, Some, None, refl, ap, sym, subst, ◌∙◌, arith, if◌then◌else◌}
+use Rattle.std.proofs.Common.{◌≡◌, ◌≢◌, ◌^◌, ℕ, zero, suc, ◌+◌, ◌-◌, ◌≤◌, Bool, true, false, cond, not, nat_eq, ◌==◌, List, [], ◌∷◌, length, slice_get, unwrap_or, Option, Some, None, refl, ap, sym, subst, ◌∙◌, arith, if◌then◌else◌}
 use Rattle.std.proofs.lemmas.Bool.Decides.{nat_tests}
 use Rattle.std.proofs.lemmas.List.Sums.{sum_by-cons}
 use Rattle.npos_base.specs.declared.account.AccountId.{AccountId}
@@ -9,13 +9,12 @@ use Rattle.block_wire.specs.declared.genesis.Params.{Params}
 use Rattle.block_wire.specs.declared.genesis.Genesis.{Genesis}
 use Rattle.block_wire.specs.declared.call.Call.{Call}
 use Rattle.block_wire.specs.declared.block.Block.{Block}
-use Rattle.stake_ledger.specs.declared.chunks.Chunk.{Chunk}
 use Rattle.stake_ledger.specs.declared.row.Row.{Row}
-use Rattle.stake_ledger.specs.Chunks.{chunk_sum, without_first}
 use Rattle.stake_ledger.specs.Rows.{is_bonded, slashed_row}
 use Rattle.stake_ledger.specs.Ledger.{Ledger, row_at, changed, IsBalanced}
 use Rattle.stake_ledger.specs.Calls.{slash_amount, slashed, minted_free}
 use Rattle.stake_ledger.proofs.AccountLemmas.{row_at-slashed}
+use Rattle.stake_ledger.proofs.ScheduleLemmas.{sum_first}
 use Rattle.election_check.specs.Laws.{PackedYesIsAccepting, PlainYesIsPassing}
 use Rattle.quota_fill.specs.Laws.{EveryFillPasses}
 use Rattle.era_book.specs.declared.exposure.Backer.{Backer}
@@ -23,7 +22,7 @@ use Rattle.era_book.specs.declared.exposure.Exposure.{Exposure}
 use Rattle.era_book.specs.Exposures.{amount_sum, exposed_for}
 use Rattle.era_book.specs.Calls.{payout_refusal, slash_in}
 use Rattle.era_book.specs.Eras.{first_era}
-use Rattle.era_book.specs.Events.{Event, Paid, AreAccepted, after_all, given_by, pays, makes_due, begun, exposures_of}
+use Rattle.era_book.specs.Events.{Event, Paid, AreAccepted, after_all, given_by, pays, makes_due, begun, exposures_in}
 use Rattle.era_book.proofs.EventLemmas.{accepted_append, after_append}
 use Rattle.era_book.proofs.LawLemmas.{due_law}
 use Rattle.npos_runtime.specs.declared.chain.Chain.{Chain}
@@ -93,24 +92,8 @@ taken_law genesis blocks era who history =
 
 -- ## One slash
 
-first_left : (n : ℕ) (chunks : List Chunk) → chunk_sum (without_first n chunks) + min n (chunk_sum chunks) ≡ chunk_sum chunks
-first_left n [] = omega arith
-first_left n (c ∷ later) = at (nat_lt n c.value) refl (first_left (n - c.value) later) where
-  all : chunk_sum (c ∷ later) ≡ c.value + chunk_sum later
-  all = sum_by-cons (λ (x : Chunk). x.value) c later
-
-  at : (b : Bool) → nat_lt n c.value ≡ b → chunk_sum (without_first (n - c.value) later) + min (n - c.value) (chunk_sum later) ≡ chunk_sum later
-      → chunk_sum (if b then record c { value = c.value - n } ∷ later else without_first (n - c.value) later) + min n (chunk_sum (c ∷ later)) ≡ chunk_sum (c ∷ later)
-  at true is rest =
-      let below : n < c.value = grind (arith, nat_tests) in
-      let part : chunk_sum (record c { value = c.value - n } ∷ later) ≡ (c.value - n) + chunk_sum later = sum_by-cons (λ (x : Chunk). x.value) (record c { value = c.value - n }) later in
-      omega (arith, below, part, all)
-  at false is rest =
-      let past : c.value ≤ n = grind (arith, nat_tests) in
-      omega (arith, past, rest, all)
-
 row_left : (n : ℕ) (row : Row) → bonded (slashed_row n row) + slash_amount row n ≡ bonded row
-row_left n row = omega (arith, first_left (n - row.active) row.chunks)
+row_left n row = omega (arith, sum_first (n - row.active) row.chunks)
 
 slash_burns : (due : Backer) (book : Ledger) → (slashed due.who due.amount book).burned ≡ book.burned + slash_amount (row_at book due.who) due.amount
 slash_burns due book = at (is_bonded (row_at book due.who)) refl where
@@ -291,7 +274,7 @@ module _ (packed : PackedYesIsAccepting) (plain : PlainYesIsPassing) (fill : Eve
       let events : List Event = events_by first blocks in
       let sum : due_in 0 who genesis blocks ≡ given_by (makes_due 0 who) events first_era =
       sum_blocks (params_of genesis) (due_by 0 who) (makes_due 0 who) (λ index call chain is. refl) (λ exposures eras. refl) (λ eras. refl) first blocks refl in
-      let none : exposed_for who (exposures_of 0 events) ≡ 0 = refl in
+      let none : exposed_for who (exposures_in 0 events) ≡ 0 = refl in
       omega (arith, sum, none, due_law 0 who events (accepted_blocks first blocks can.between can.fit))
 
   pub dues_law : DueWithinStakeLaw

@@ -3,7 +3,7 @@ use Rattle.std.proofs.Common.{◌≡◌, ℕ, zero, suc, ◌+◌, ◌*◌, ◌<�
 use Rattle.std.specs.Bool.{IsTrue}
 use Rattle.std.specs.Cmp.{IsEquivalence}
 use Rattle.std.specs.List.{IsDistinct, list_any}
-use Rattle.std.proofs.lemmas.Bool.{or_right}
+use Rattle.std.proofs.lemmas.Bool.{or_right, and_parts}
 use Rattle.std.proofs.lemmas.Bool.Decides.{nat_tests}
 use Rattle.std.proofs.lemmas.List.{length-map, length-append}
 use Rattle.std.proofs.lemmas.List.Elements.{All-head, All-tail}
@@ -11,7 +11,6 @@ use Rattle.std.proofs.lemmas.Map.Made.{length-le_from_is_member}
 use Rattle.npos_base.specs.declared.figures.Edge.{Edge}
 use Rattle.npos_base.specs.Edge.{same_pair}
 use Rattle.npos_base.proofs.NumberTests.{number_tie}
-use Rattle.era_book.proofs.OrderLemmas.{both}
 use Rattle.election_snapshot.specs.Snapshot.{Snapshot, Voter, IsVoterOf, has, nobody, nominates}
 
 -- an edge by its ends alone
@@ -50,7 +49,7 @@ pair_same = record {
   symm = λ x y. ap (λ b. b && nat_eq x.target y.target) (equal_sides x.voter y.voter)
       ∙ ap (λ b. nat_eq y.voter x.voter && b) (equal_sides x.target y.target);
   congr = λ x y z is.
-      let parts = both (nat_eq x.voter y.voter) (nat_eq x.target y.target) is in
+      let parts = and_parts (nat_eq x.voter y.voter) (nat_eq x.target y.target) is in
       ap (λ n. nat_eq n z.voter && nat_eq x.target z.target) (number_tie x.voter y.voter parts.0)
       ∙ ap (λ n. nat_eq y.voter z.voter && nat_eq n z.target) (number_tie x.target y.target parts.1);
 }

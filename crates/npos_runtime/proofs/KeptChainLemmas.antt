@@ -28,7 +28,8 @@ use Rattle.state_rules.specs.declared.state.QueueRow.{QueueRow}
 use Rattle.state_rules.specs.declared.state.WaitingRow.{WaitingRow}
 use Rattle.npos_runtime.specs.Kept.{open_of, kept_committee}
 use Rattle.npos_runtime.specs.KeptState.{book_row, kind_in, role_row, member_row, era_row, era_rows, voter_row, round_row, open_row, queue_row, waiting_row, kept, IsTrueMember, AreTrueMembers, IsTrueSnapshot, IsTrueRound, IsTrueCommittee, IsTold}
-use Rattle.npos_runtime.specs.KeptChain.{book_entry, standing_in, with_role, roles_in, bag_entry, member_entry, members_at, eras_back, voter_in, snapshot_in, commissions_in, round_in, submission_in, committee_in, params_in, defer_in, last_era, chain_of, IsKeptEra, AreInOrder, IsWaitingInOrder, IsInForm}
+use Rattle.state_rules.specs.Terms.{params_of, defer_in, era_before}
+use Rattle.npos_runtime.specs.KeptChain.{book_entry, standing_in, with_role, roles_in, bag_entry, member_entry, members_at, eras_back, voter_in, snapshot_in, commissions_in, round_in, submission_in, committee_in, chain_of, IsKeptEra, AreInOrder, IsWaitingInOrder, IsInForm}
 use Rattle.npos_runtime.specs.KeptLaws.{RestoreLaw}
 use Rattle.weight_book.proofs.GivenEdgeLemmas.{Rise, in_order_risen, given_whole}
 use Rattle.npos_runtime.proofs.KeptStateLemmas.{back, sorted_roles, back_first}
@@ -314,12 +315,12 @@ state_back state form = λ i. record {
   burned = state.burned;
   rows = back book_entry book_row (λ row. refl) state.rows i;
   roles = rows_again (roles_in state.roles) state.roles (standings_read state.roles [] form.roles) i;
-  eras = eras_again (min (last_era state + 1) (MOST_PAST_ERAS + 1)) (last_era state) state.eras (omega arith)
-      (era_rise state.eras form.eras.rising) (recent_rows (last_era state) state.eras form.eras.each) i;
-  round = round_again (params_in state) state.due state.round i;
+  eras = eras_again (min (era_before state + 1) (MOST_PAST_ERAS + 1)) (era_before state) state.eras (omega arith)
+      (era_rise state.eras form.eras.rising) (recent_rows (era_before state) state.eras form.eras.each) i;
+  round = round_again (params_of state) state.due state.round i;
   next_submission = state.next_submission;
-  queue = back (submission_in (params_in state)) queue_row (λ row. refl) state.queue i;
-  waiting = waiting_again (params_in state) state.waiting form.waiting i;
+  queue = back (submission_in (params_of state)) queue_row (λ row. refl) state.queue i;
+  waiting = waiting_again (params_of state) state.waiting form.waiting i;
   next_slash = state.next_slash;
   slashes = state.slashes;
 }
@@ -331,17 +332,17 @@ state_told state = record {
     defer = no_terms state.params;
     thresholds = refl;
     places = refl;
-    deposits = held_back (params_in state) state.queue;
+    deposits = held_back (params_of state) state.queue;
   };
   rising = sorted_roles [] state.roles [] tt;
   listed = listed_back state.roles;
   eras = record {
     era = refl;
-    count = count_back (min (last_era state + 1) (MOST_PAST_ERAS + 1)) (last_era state) state.eras;
-    members = true_back (min (last_era state + 1) (MOST_PAST_ERAS + 1)) (last_era state) state.eras;
+    count = count_back (min (era_before state + 1) (MOST_PAST_ERAS + 1)) (era_before state) state.eras;
+    members = true_back (min (era_before state + 1) (MOST_PAST_ERAS + 1)) (era_before state) state.eras;
   };
-  round = round_told (params_in state) state.due state.round;
-  waiting = waiting_told (params_in state) state.waiting;
+  round = round_told (params_of state) state.due state.round;
+  waiting = waiting_told (params_of state) state.waiting;
 }
 
 pub restore : RestoreLaw

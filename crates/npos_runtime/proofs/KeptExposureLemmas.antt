@@ -2,11 +2,12 @@
 use Rattle.std.proofs.Common.{◌≡◌, ℕ, Bool, true, false, ◌&&◌, nat_eq, nat_lt, List, ◌++◌, length, map, filter, Option, Some, None, option_map, refl, ap, ap₂, sym, ◌∙◌, arith}
 use Rattle.std.specs.List.{range_with_len}
 use Rattle.std.proofs.lemmas.Bool.Decides.{nat_tests}
+use Rattle.std.proofs.lemmas.Bool.{and_parts}
 use Rattle.npos_base.specs.declared.account.AccountId.{AccountId}
 use Rattle.npos_base.specs.declared.figures.Edge.{Edge}
 use Rattle.weight_book.specs.GivenEdges.{gives, is_before, kept_edges}
 use Rattle.era_book.specs.Committee.{gives_to, is_of, backer_of, backers_of, edges_by_voter, exposure_of}
-use Rattle.era_book.proofs.OrderLemmas.{both, filters_join, kept_by_voter, same_chunks}
+use Rattle.era_book.proofs.OrderLemmas.{filters_join, kept_by_voter, same_chunks}
 use Rattle.npos_runtime.specs.Committee.{Committee}
 use Rattle.npos_runtime.specs.Exposed.{voters_in, supports_in, edges_in, exposures_of, exposed}
 use Rattle.npos_runtime.specs.Kept.{kept_committee}
@@ -20,8 +21,8 @@ module _ (targets voters : List AccountId) where
   passes : (own : Bool) (target voter : ℕ) (edge : Edge) → is_from own target voter edge ≡ true
       → (nat_eq edge.target target ≡ true) × (gives edge ≡ true) × (nat_eq edge.voter voter ≡ true)
   passes own target voter edge e =
-      let parts = both (gives_to target edge && is_of own targets voters edge) (nat_eq edge.voter voter) e in
-      let giving = both (nat_eq edge.target target) (gives edge) (both (gives_to target edge) (is_of own targets voters edge) parts.0).0 in
+      let parts = and_parts (gives_to target edge && is_of own targets voters edge) (nat_eq edge.voter voter) e in
+      let giving = and_parts (nat_eq edge.target target) (gives edge) (and_parts (gives_to target edge) (is_of own targets voters edge) parts.0).0 in
       (giving.0, giving.1, parts.1)
 
   level : (own : Bool) (target voter : ℕ) (a b : Edge) → is_from own target voter a ≡ true → is_from own target voter b ≡ true → is_before a b ≡ false

@@ -29,7 +29,8 @@ use Rattle.npos_runtime.specs.Committee.{Committee}
 use Rattle.npos_runtime.specs.Lists.{has_role}
 use Rattle.npos_runtime.specs.Kept.{open_of, kept_committee, as_kept, AreAlike}
 use Rattle.npos_runtime.specs.KeptState.{book_row, kind_in, role_row, member_row, era_row, era_rows, voter_row, round_row, open_row, queue_row, waiting_row, state_of, kept, IsTrueMember, AreTrueMembers, IsTrueSnapshot, IsTrueRound, IsTrueCommittee, IsTold}
-use Rattle.npos_runtime.specs.KeptChain.{book_entry, standing_in, with_role, roles_in, bag_entry, member_entry, members_at, eras_back, voter_in, snapshot_in, commissions_in, round_in, submission_in, committee_in, params_in, defer_in, last_era, chain_of}
+use Rattle.state_rules.specs.Terms.{params_of, defer_in, era_before}
+use Rattle.npos_runtime.specs.KeptChain.{book_entry, standing_in, with_role, roles_in, bag_entry, member_entry, members_at, eras_back, voter_in, snapshot_in, commissions_in, round_in, submission_in, committee_in, chain_of}
 use Rattle.npos_runtime.specs.KeptLaws.{SameKeptLaw}
 use Rattle.npos_runtime.proofs.SameEntryLemmas.{entries_same}
 use Rattle.npos_runtime.proofs.KeptLemmas.{step_alike}
@@ -258,10 +259,10 @@ kept_back chain told = λ i. record {
   };
   due = chain.due;
 } where
-  params : params_in (kept chain) ≡ chain.params
+  params : params_of (kept chain) ≡ chain.params
   params = params_back chain.params chain.defer
 
-  era : last_era (kept chain) ≡ chain.eras.current
+  era : era_before (kept chain) ≡ chain.eras.current
   era = ap (λ (ps : Option Params). era_of ps (chain.due - 1)) params ∙ sym told.eras.era
 
   few : length chain.eras.kept ≤ chain.eras.current + 1

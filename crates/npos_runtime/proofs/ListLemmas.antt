@@ -52,12 +52,6 @@ by_account {P} q who one other = at (same_account q who) refl where
   at true e = one (same_exact q who e)
   at false e = other e
 
-back : (q who : AccountId) → same_account q who ≡ false → same_account who q ≡ false
-back q who e = at (same_account who q) refl where
-  at : (b : Bool) → same_account who q ≡ b → b ≡ false
-  at true f = sym (same_itself q) ∙ ap (λ z. same_account q z) (sym (same_exact who q f)) ∙ e
-  at false f = refl
-
 -- each account for which the test holds stands once, and no other stands there; its bag is one that there is
 pub record IsListed (has : AccountId → Bool) (listing : Listing) : Type 0 where
   pub seen_is : (who : AccountId) → seen who listing.order ≡ one (has who)

@@ -9,12 +9,14 @@ use Rattle.std.specs.declared.cmp.Ordering.TheVariants.{Less, Equal, Greater}
 use Rattle.std.proofs.lemmas.Bool.Decides.{nat_tests}
 use Rattle.std.proofs.lemmas.List.Elements.{All-nil, All-cons, All-head, All-tail, All-map, All-append, All-drop}
 use Rattle.std.proofs.lemmas.List.Sums.{sum_by-cons}
+use Rattle.std.proofs.lemmas.Bool.{and_parts}
 use Rattle.npos_base.specs.declared.account.AccountId.{AccountId}
 use Rattle.npos_base.specs.declared.figures.Edge.{Edge}
-use Rattle.npos_base.specs.Account.{account_cmp, same_account}
+use Rattle.npos_base.specs.Account.{account_cmp, same_account, account_at}
 use Rattle.npos_base.proofs.AccountOrder.{account_total, account_exact, same_exact, same_itself}
 use Rattle.npos_base.proofs.EntryLemmas.{sorted_put}
 use Rattle.npos_base.proofs.NumberTests.{number_tie}
+use Rattle.npos_base.specs.Edge.{support}
 use Rattle.stake_ledger.specs.Ledger.{Ledger, row_of}
 use Rattle.election_snapshot.specs.Snapshot.{IsWellFormed}
 use Rattle.weight_book.specs.Weights.{IsFeasible, amount_sum as all_given}
@@ -23,10 +25,10 @@ use Rattle.era_book.specs.declared.exposure.Backer.{Backer}
 use Rattle.era_book.specs.declared.exposure.Exposure.{Exposure}
 use Rattle.era_book.specs.Exposures.{amount_sum}
 use Rattle.era_book.specs.Members.{Member, Members, newcomer, with_exposure, members_with}
-use Rattle.era_book.specs.Committee.{account_at, gives_to, backer_of, is_of, backers_among, backers_of, exposure_of, given_to, IsElected}
+use Rattle.era_book.specs.Committee.{gives_to, backer_of, is_of, backers_among, backers_of, exposure_of, IsElected}
 use Rattle.era_book.proofs.BackerLemmas.{backers_law}
 use Rattle.era_book.proofs.CommitteeLemmas.{support_law, filter_sum}
-use Rattle.era_book.proofs.OrderLemmas.{both, given_by_voter}
+use Rattle.era_book.proofs.OrderLemmas.{given_by_voter}
 use Rattle.era_book.proofs.SoundLemmas.{voters_within, order_law}
 use Rattle.npos_runtime.specs.Committee.{Committee}
 use Rattle.npos_runtime.specs.Exposed.{voters_in, supports_in, edges_in, exposures_of}
@@ -110,16 +112,16 @@ module _ (targets voters : List AccountId) (target : ℕ) where
         part : (own : Bool) → All Q (backers_among own targets voters edges target)
         part own =
             among Q own edges
-            (λ edge inside is. holds edge inside (both (gives_to target edge) (is_of own targets voters edge) is).0) within
+            (λ edge inside is. holds edge inside (and_parts (gives_to target edge) (is_of own targets voters edge) is).0) within
 
   -- the target of an edge that gives to it
   its_target : (edge : Edge) → gives_to target edge ≡ true → edge.target ≡ target
-  its_target edge is = number_tie edge.target target (both (nat_eq edge.target target) (nat_lt 0 edge.amount) is).0
+  its_target edge is = number_tie edge.target target (and_parts (nat_eq edge.target target) (nat_lt 0 edge.amount) is).0
 
   others_apart : (edge : Edge) → (gives_to target edge && is_of false targets voters edge) ≡ true
       → account_at voters edge.voter ≢ account_at targets target
   others_apart edge is same =
-      let parts = both (gives_to target edge) (is_of false targets voters edge) is in
+      let parts = and_parts (gives_to target edge) (is_of false targets voters edge) is in
       let at : same_account (account_at voters edge.voter) (account_at targets edge.target) ≡ true =
       ap (λ n. same_account (account_at voters edge.voter) (account_at targets n)) (its_target edge parts.0)
       ∙ (ap (λ (who : AccountId). same_account who (account_at targets target)) same
@@ -129,7 +131,7 @@ module _ (targets voters : List AccountId) (target : ℕ) where
   own_is : (edge : Edge) → (gives_to target edge && is_of true targets voters edge) ≡ true
       → same_account (account_at voters edge.voter) (account_at targets target) ≡ true
   own_is edge is =
-      let parts = both (gives_to target edge) (is_of true targets voters edge) is in
+      let parts = and_parts (gives_to target edge) (is_of true targets voters edge) is in
       ap (λ n. same_account (account_at voters edge.voter) (account_at targets n)) (sym (its_target edge parts.0)) ∙ parts.1
 
 -- the validator is at most the first of different backers, where its own parts stand first
@@ -148,7 +150,7 @@ own_first who (first ∷ second ∷ more) others distinct same apart =
 
 -- ## The exposures of a committee
 
-given_most : (target : ℕ) (edges : List Edge) → given_to target edges ≤ all_given edges
+given_most : (target : ℕ) (edges : List Edge) → support edges target ≤ all_given edges
 given_most target edges = omega (arith, filter_sum (λ (edge : Edge). edge.amount) (λ edge. nat_eq edge.target target) edges, part edges) where
   part : (es : List Edge) → sum_by (λ (edge : Edge). cond (nat_eq edge.target target) edge.amount 0) es ≤ all_given es
   part [] = omega arith
@@ -209,7 +211,7 @@ module _ (book : Ledger) (committee : Committee) (sound : IsWellFormed committee
     fits = all_fit target;
   } where
     gives_some : (edge : Edge) → gives_to target edge ≡ true → 0 < edge.amount
-    gives_some edge is = let some : nat_lt 0 edge.amount ≡ true = (both (nat_eq edge.target target) (nat_lt 0 edge.amount) is).1 in grind (arith, nat_tests)
+    gives_some edge is = let some : nat_lt 0 edge.amount ≡ true = (and_parts (nat_eq edge.target target) (nat_lt 0 edge.amount) is).1 in grind (arith, nat_tests)
 
   pub exposures_are_sound : All (λ exposure. IsSoundMember book (entry_of exposure)) (exposures_of committee)
   exposures_are_sound =

@@ -1,6 +1,6 @@
 -- Eras and slashes that are made anew, one behind the other.
-use Rattle.std.proofs.Common.{◌≡◌, ℕ, zero, suc, ◌+◌, ◌-◌, ◌≤◌, ◌<◌, Bool, true, false, cond, ◌||◌, nat_eq, nat_lt, nat_le, All, List, [], ◌∷◌, ◌++◌, length, map, take, get_or, slice_set, replicate, Option, Some, None, refl, ap, ap₂, sym, subst, ◌∙◌, arith}
-use Rattle.std.specs.List.{AllByRecursion, IsDistinct}
+use Rattle.std.proofs.Common.{◌≡◌, ℕ, zero, suc, ◌+◌, ◌-◌, ◌≤◌, ◌<◌, Bool, true, false, cond, ◌||◌, nat_eq, nat_lt, nat_le, All, List, [], ◌∷◌, ◌++◌, length, map, take, get_or, slice_set, replicate, refl, ap, ap₂, sym, subst, ◌∙◌, arith}
+use Rattle.std.specs.List.{AllByRecursion}
 use Rattle.std.specs.List.Sorted.{IsStrictlySortedBy}
 use Rattle.std.specs.Map.{keys_of}
 use Rattle.std.specs.Ordering.{is_lt}
@@ -9,9 +9,10 @@ use Rattle.std.specs.declared.cmp.Ordering.TheVariants.{Less, Equal, Greater}
 use Rattle.std.proofs.lemmas.Bool.Decides.{nat_tests}
 use Rattle.std.proofs.lemmas.List.Elements.{All-from_recursion}
 use Rattle.std.proofs.lemmas.List.Sums.{sum_by-cons}
+use Rattle.std.proofs.lemmas.Bool.{or_parts}
 use Rattle.npos_base.specs.declared.account.AccountId.{AccountId}
 use Rattle.npos_base.specs.declared.limits.TheConstants.{MOST_PAST_ERAS}
-use Rattle.npos_base.specs.Account.{account_cmp, same_account}
+use Rattle.npos_base.specs.Account.{account_cmp}
 use Rattle.npos_base.proofs.AccountOrder.{account_total}
 use Rattle.stake_ledger.specs.declared.book_row.BookRow.{BookRow}
 use Rattle.era_book.specs.declared.exposure.Backer.{Backer}
@@ -28,10 +29,10 @@ use Rattle.state_rules.specs.Accounts.{is_below, stands_in}
 use Rattle.state_rules.specs.Eras.{is_bad_line}
 use Rattle.state_rules.specs.Lists.{has_bad, bad_place}
 use Rattle.state_rules.specs.Sound.{EachIs, IsSoundMember, IsSoundEra, IsSoundSlash}
-use Rattle.state_rules.proofs.SoundLemmas.{each_is, no_place, neither}
+use Rattle.state_rules.proofs.SoundLemmas.{each_is, no_place}
 use Rattle.npos_runtime.specs.KeptChain.{member_entry, members_at, eras_back}
 use Rattle.npos_runtime.proofs.KeptStateLemmas.{back_first}
-use Rattle.npos_runtime.proofs.RemadeLemmas.{each_next, each_before, built, all_put, all_by, all_mapped, map_put, all_behind, each_distinct}
+use Rattle.npos_runtime.proofs.RemadeLemmas.{each_next, each_before, built, all_put, map_put, all_behind, each_distinct}
 
 -- ## Members
 
@@ -40,7 +41,7 @@ pub lines_apart : (lines : List Backer) → has_bad is_bad_line lines ≡ false 
 lines_apart lines none =
     each_distinct (λ (line : Backer). line.who) lines
     (each_is is_bad_line (λ before line. stands_in (map (λ (l : Backer). l.who) before) line.who ≡ false) lines
-    (λ before line e. (neither (nat_eq line.amount 0) (stands_in (map (λ (l : Backer). l.who) before) line.who) e).1)
+    (λ before line e. (or_parts (nat_eq line.amount 0) (stands_in (map (λ (l : Backer). l.who) before) line.who) e).1)
     (no_place (bad_place is_bad_line lines) none))
 
 less : (r : Ordering) → is_lt r ≡ true → r ≡ Less

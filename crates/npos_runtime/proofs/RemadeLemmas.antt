@@ -1,14 +1,15 @@
 -- Items one behind the other, each of which stands so to those before it.
-use Rattle.std.proofs.Common.{◌≡◌, ℕ, zero, suc, ◌+◌, ◌≤◌, ◌<◌, Bool, true, false, ◌||◌, List, [], ◌∷◌, ◌++◌, length, map, take, get_or, Option, None, refl, ap, sym, subst, ◌∙◌, arith}
+use Rattle.std.proofs.Common.{◌≡◌, ℕ, zero, suc, ◌+◌, ◌<◌, Bool, true, false, List, [], ◌∷◌, ◌++◌, length, map, take, get_or, refl, ap, sym, subst, ◌∙◌, arith}
 use Rattle.std.specs.List.{AllByRecursion, IsDistinct}
-use Rattle.std.proofs.lemmas.List.{append-nil, append_assoc, map-append}
+use Rattle.std.proofs.lemmas.List.{append-nil, append_assoc}
+use Rattle.std.proofs.lemmas.Bool.{or_parts}
 use Rattle.npos_base.specs.declared.account.AccountId.{AccountId}
 use Rattle.npos_base.specs.Account.{same_account}
 use Rattle.state_rules.specs.Lists.{has_bad, bad_place, follows, stands_behind}
 use Rattle.state_rules.specs.Accounts.{stands_in}
 use Rattle.state_rules.specs.Sound.{EachIs}
 use Rattle.state_rules.proofs.RowLemmas.{last_put}
-use Rattle.state_rules.proofs.SoundLemmas.{each_is, no_place, neither}
+use Rattle.state_rules.proofs.SoundLemmas.{each_is, no_place}
 
 -- ## Places
 
@@ -115,7 +116,7 @@ distinct_more : (xs : List AccountId) (y : AccountId) → IsDistinct same_accoun
 unfolding IsDistinct
 distinct_more [] y apart new = (tt, tt)
 distinct_more (x ∷ xs) y apart new =
-    let (other, later) = neither (same_account x y) (stands_in xs y) new in
+    let (other, later) = or_parts (same_account x y) (stands_in xs y) new in
     (all_put (λ o. same_account x o ≡ false) xs y apart.0 other, distinct_more xs y apart.1 later)
 
 none_distinct : IsDistinct same_account []

@@ -1,5 +1,5 @@
 -- Roles, bags and submissions that are made anew, one behind the other.
-use Rattle.std.proofs.Common.{◌≡◌, ℕ, zero, suc, ◌+◌, ◌-◌, ◌^◌, ◌≤◌, ◌<◌, Bool, true, false, cond, not, ◌||◌, ◌&&◌, nat_eq, nat_lt, nat_le, is_some, if◌then◌else◌, All, List, [], ◌∷◌, ◌++◌, length, map, filter, fold, count_by, slice_get, take, drop, get_or, Option, Some, None, refl, ap, sym, subst, ◌∙◌, true≢false, arith}
+use Rattle.std.proofs.Common.{◌≡◌, ℕ, zero, suc, ◌+◌, ◌-◌, ◌^◌, ◌≤◌, ◌<◌, Bool, true, false, cond, not, ◌||◌, ◌&&◌, nat_eq, nat_lt, nat_le, is_some, if◌then◌else◌, All, List, [], ◌∷◌, ◌++◌, length, map, filter, fold, slice_get, take, drop, get_or, Option, Some, None, refl, ap, sym, subst, ◌∙◌, true≢false, arith}
 use Rattle.std.specs.BTreeMap.{insert_entry}
 use Rattle.std.specs.List.{AllByRecursion}
 use Rattle.std.specs.Ordering.{match_ordering}
@@ -37,7 +37,7 @@ use Rattle.state_rules.specs.Roles as roles
 use Rattle.state_rules.specs.Sound.{EachIs, IsKind, IsSoundRole, IsSoundItem}
 use Rattle.npos_runtime.specs.KeptChain.{standing_in, with_role, roles_in, bag_entry, submission_in}
 use Rattle.npos_runtime.specs.Remade.{CanStand}
-use Rattle.npos_runtime.proofs.RemadeLemmas.{each_next, each_before, built, all_put, all_by, all_mapped, map_put, all_behind, targets_distinct}
+use Rattle.npos_runtime.proofs.RemadeLemmas.{each_next, each_before, built, all_mapped, map_put, all_behind, targets_distinct}
 
 -- ## Roles
 

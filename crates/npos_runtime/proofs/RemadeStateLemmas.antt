@@ -1,5 +1,5 @@
 -- The faults of a state in their order, and what its params and its layout say.
-use Rattle.std.proofs.Common.{◌≡◌, ◌≢◌, ℕ, ◌+◌, ◌-◌, ◌^◌, ◌≤◌, List, length, Option, Some, None, IfSome, option_map, refl, ap, sym, subst, ◌∙◌, arith}
+use Rattle.std.proofs.Common.{◌≡◌, ℕ, ◌≤◌, length, Option, Some, None, IfSome, option_map, refl, ap, arith}
 use Rattle.std.specs.Option.{option_or}
 use Rattle.std.proofs.lemmas.Bool.Decides.{nat_tests}
 use Rattle.npos_base.specs.declared.limits.TheConstants.{MOST_THRESHOLDS}
@@ -12,16 +12,13 @@ use Rattle.chain_params.specs.declared.fault.GenesisFault.{GenesisFault}
 use Rattle.chain_params.specs.Rules.{seats_of, thresholds_in}
 use Rattle.chain_params.specs.Faults.{AreSound, params_fault, defer_fault, terms_fault}
 use Rattle.state_rules.specs.declared.fault.CauseFault.{CauseFault}
-use Rattle.state_rules.specs.declared.fault.CauseFault.TheVariants as causes
 use Rattle.state_rules.specs.declared.state.State.{State}
 use Rattle.state_rules.specs.declared.state.RoundRow.{RoundRow}
 use Rattle.state_rules.specs.Causes as rules
-use Rattle.state_rules.specs.Terms.{HasSoundTerms}
+use Rattle.state_rules.specs.Terms.{HasSoundTerms, params_of, defer_of}
 use Rattle.state_rules.specs.Sound.{IsSoundOpen}
 use Rattle.state_checkpoint.specs.Layout.{state_form}
 use Rattle.npos_runtime.specs.declared.state_fault.StateFault.{StateFault}
-use Rattle.npos_runtime.specs.declared.state_fault.StateFault.TheVariants as faults
-use Rattle.npos_runtime.specs.KeptChain.{params_in, defer_in}
 use Rattle.npos_runtime.specs.Remade.{IsBuiltRound}
 use Rattle.npos_runtime.specs.Restoring.{stated, due_fault, election_fault, state_fault, IsDueFault}
 use Rattle.npos_runtime.specs.Restoring as restoring
@@ -45,13 +42,13 @@ none_mapped f o none = ap (option_map f) none
 
 module _ (state : State) where
   abbrev terms : Option StateFault
-  terms = option_map restoring.params_fault (terms_fault (params_in state) (defer_in state.params))
+  terms = option_map restoring.params_fault (terms_fault (params_of state) (defer_of state))
 
   abbrev cause : Option StateFault
   cause = option_map stated (rules.first_cause state)
 
   abbrev election : Option StateFault
-  election = election_fault (params_in state) state.waiting
+  election = election_fault (params_of state) state.waiting
 
   abbrev slashes : Option StateFault
   slashes = option_map stated (rules.slash_cause state)
@@ -65,9 +62,9 @@ module _ (state : State) where
         then_due (due_fault state.due) (option_or terms (option_or cause (option_or election slashes))) fault due
         (first_due terms (option_or cause (option_or election slashes)) fault is)
 
-    module _ (sound : terms_fault (params_in state) (defer_in state.params) ≡ None) where
+    module _ (sound : terms_fault (params_of state) (defer_of state) ≡ None) where
       abbrev no_terms : terms ≡ None
-      no_terms = none_mapped restoring.params_fault (terms_fault (params_in state) (defer_in state.params)) sound
+      no_terms = none_mapped restoring.params_fault (terms_fault (params_of state) (defer_of state)) sound
 
       pub cause_first : (fault : StateFault) → IsDueFault cause fault → IsDueFault (state_fault state) fault
       cause_first fault is =
@@ -98,7 +95,7 @@ module _ (state : State) where
               (both_none cause (option_or election slashes) no_cause
               (both_none election slashes elected (none_mapped stated (rules.slash_cause state) calm))))
 
-  pub sound_terms : due_fault state.due ≡ None → terms_fault (params_in state) (defer_in state.params) ≡ None → HasSoundTerms state
+  pub sound_terms : due_fault state.due ≡ None → terms_fault (params_of state) (defer_of state) ≡ None → HasSoundTerms state
   sound_terms due sound = record {
     counted = grind (arith, nat_tests, due);
     numbered = grind (arith, nat_tests, due);
@@ -118,7 +115,7 @@ sound_params (Some params) defer none = at (params_fault params) none where
   at None e = refl
   at (Some fault) e = cc
 
-pub few_thresholds : (state : State) → state_form.in_range state → length (thresholds_in (params_in state)) ≤ MOST_THRESHOLDS
+pub few_thresholds : (state : State) → state_form.in_range state → length (thresholds_in (params_of state)) ≤ MOST_THRESHOLDS
 few_thresholds state fits = at state.params fits.0.0 where
   at : (terms : Option (Params × ℕ)) → IfSome terms (pair params_form compact_u32).in_range → length (thresholds_in (option_map (λ (t : Params × ℕ). t.0) terms)) ≤ MOST_THRESHOLDS
   at None fits = omega arith
@@ -127,6 +124,6 @@ few_thresholds state fits = at state.params fits.0.0 where
 pub few_slashes : (state : State) → state_form.in_range state → length state.slashes ≤ MOST_SLASHES
 few_slashes state fits = fits.2.2.1.1.0
 
-pub round_built : (state : State) (round : Option RoundRow) → IsSoundOpen state round → IsBuiltRound (seats_of (params_in state)) round
+pub round_built : (state : State) (round : Option RoundRow) → IsSoundOpen state round → IsBuiltRound (seats_of (params_of state)) round
 round_built state None sound = tt
 round_built state (Some round) sound = (state.rows, sound.1)

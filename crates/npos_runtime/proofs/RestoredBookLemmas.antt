@@ -27,7 +27,8 @@ use Rattle.state_rules.specs.Sound as rule
 use Rattle.state_rules.proofs.SoundLemmas.{holds}
 use Rattle.npos_runtime.specs.BookCalls.{release_now}
 use Rattle.npos_runtime.specs.KeptState.{book_row, queue_row, IsTold}
-use Rattle.npos_runtime.specs.KeptChain.{book_entry, submission_in, params_in, last_era, chain_of}
+use Rattle.state_rules.specs.Terms.{params_of, era_before}
+use Rattle.npos_runtime.specs.KeptChain.{book_entry, submission_in, chain_of}
 use Rattle.npos_runtime.specs.Live.{AreBooks}
 use Rattle.npos_runtime.specs.Sound.{AreKnown, AreTimely}
 use Rattle.npos_runtime.proofs.KeptRowLemmas.{row_known, row_bonded}
@@ -107,19 +108,19 @@ module _ (state : State) where
         at false apart rest = omega (arith, rest)
 
   pub restored_deposits : IsTold (chain_of state)
-      → EachIs (λ (before : List BookRow) (row : BookRow). row.held ≡ deposit_of (params_in state) * waiting_of state.queue row.who) state.rows
+      → EachIs (λ (before : List BookRow) (row : BookRow). row.held ≡ deposit_of (params_of state) * waiting_of state.queue row.who) state.rows
       → All (λ (item : QueueRow). known.has_row state.rows item.who ≡ true) state.queue → AreHeld book items
   restored_deposits told held all = record { held = each_held; known = items_known } where
     items_known : All (λ (item : Submission). is_some (row_of book item.who) ≡ true) items
     items_known =
-        All-map (λ (item : Submission). is_some (row_of book item.who) ≡ true) (submission_in (params_in state)) state.queue
+        All-map (λ (item : Submission). is_some (row_of book item.who) ≡ true) (submission_in (params_of state)) state.queue
         (λ k d few. is_known (get_or state.queue k d).who (all k d few))
 
-    counted : (who : AccountId) → deposits_of who items ≡ deposit_of (params_in state) * waiting_of state.queue who
+    counted : (who : AccountId) → deposits_of who items ≡ deposit_of (params_of state) * waiting_of state.queue who
     counted who =
-        deposits_counted (deposit_of (params_in state)) who items told.params.deposits
-        ∙ ap (λ (queue : List QueueRow). deposit_of (params_in state) * waiting_of queue who)
-        (back (submission_in (params_in state)) queue_row (λ row. refl) state.queue)
+        deposits_counted (deposit_of (params_of state)) who items told.params.deposits
+        ∙ ap (λ (queue : List QueueRow). deposit_of (params_of state) * waiting_of queue who)
+        (back (submission_in (params_of state)) queue_row (λ row. refl) state.queue)
 
     rows_held : All (λ (entry : AccountId × Row). entry.1.held ≡ deposits_of entry.0 items) book.rows
     rows_held =
@@ -134,8 +135,8 @@ module _ (state : State) where
 
   -- ## The books
 
-  pub restored_timely : rule.IsSoundState state → AreTimely (last_era state + bonding_eras_of (params_in state)) book
-  restored_timely sound = timely (last_era state + bonding_eras_of (params_in state)) sound.releases
+  pub restored_timely : rule.IsSoundState state → AreTimely (era_before state + bonding_eras_of (params_of state)) book
+  restored_timely sound = timely (era_before state + bonding_eras_of (params_of state)) sound.releases
 
   pub restored_books : 1 ≤ state.due → IsTold (chain_of state) → rule.IsSoundState state → AreBooks (release_now (chain_of state)) items book
   restored_books counted told sound = record {
@@ -143,9 +144,9 @@ module _ (state : State) where
     releases = λ who k d few.
         omega (
           arith,
-          releases (last_era state + bonding_eras_of (params_in state)) (restored_timely sound) who k d few,
-          later_release (params_in state) (state.due - 1),
-          ap (era_of (params_in state)) again,
+          releases (era_before state + bonding_eras_of (params_of state)) (restored_timely sound) who k d few,
+          later_release (params_of state) (state.due - 1),
+          ap (era_of (params_of state)) again,
         );
     deposits = restored_deposits told sound.held (λ k d few. (sound.queue k d few).known);
   } where

@@ -3,7 +3,7 @@ use Rattle.std.proofs.Common.{◌≡◌, ◌≢◌, ℕ, zero, suc, ◌+◌, ◌
 use Rattle.std.specs.List.{IsDistinct}
 use Rattle.std.specs.List.Sorted.{IsStrictlySortedBy}
 use Rattle.std.specs.Map.{keys_of, values_of}
-use Rattle.std.proofs.lemmas.Bool.{lt-ltb}
+use Rattle.std.proofs.lemmas.Bool.{lt-ltb, or_parts}
 use Rattle.std.proofs.lemmas.Bool.Decides.{nat_tests}
 use Rattle.std.proofs.lemmas.List.Elements.{All-nil, All-cons, All-head, All-tail, All-map}
 use Rattle.npos_base.specs.declared.account.AccountId.{AccountId}
@@ -23,9 +23,9 @@ use Rattle.state_rules.specs.Accounts.{stands_in}
 use Rattle.state_rules.specs.Eras.{is_bad_line, has_late_own}
 use Rattle.state_rules.specs.Sound.{EachIs}
 use Rattle.state_rules.specs.Sound as rule
-use Rattle.state_rules.proofs.SoundLemmas.{neither}
 use Rattle.npos_runtime.specs.KeptState.{IsTold}
-use Rattle.npos_runtime.specs.KeptChain.{member_entry, members_at, eras_back, last_era, chain_of, AreKeptEras}
+use Rattle.state_rules.specs.Terms.{era_before}
+use Rattle.npos_runtime.specs.KeptChain.{member_entry, members_at, eras_back, chain_of, AreKeptEras}
 use Rattle.npos_runtime.specs.Live.{HaveFractions}
 use Rattle.npos_runtime.specs.Sound.{IsSoundMember, AreSoundMembers, AreSoundEras}
 use Rattle.npos_runtime.proofs.KeptChainLemmas.{other_account}
@@ -37,7 +37,7 @@ use Rattle.npos_runtime.proofs.RestoredBookLemmas.{is_known, none_unknown as all
 
 line_good : (lines : List Backer) → has_bad is_bad_line lines ≡ false
     → EachIs (λ before line. (nat_eq line.amount 0 ≡ false) × (stands_in (map (λ earlier. earlier.who) before) line.who ≡ false)) lines
-line_good lines none place d few = neither _ _ (none_bad is_bad_line lines none place d few)
+line_good lines none place d few = or_parts _ _ (none_bad is_bad_line lines none place d few)
 
 -- each line gives something
 pub lines_given : (lines : List Backer) → has_bad is_bad_line lines ≡ false → All (λ line. 0 < line.amount) lines
@@ -150,7 +150,7 @@ module _ (state : State) (sound : rule.IsSoundState state) (told : IsTold (chain
         let zeroth : eras.current - eras.current ≡ 0 = omega arith in
         ap (members_in eras) (sym zeroth)
         ∙ (kept_at eras count eras.current [] few
-        ∙ (back_at (min (last_era state + 1) (MOST_PAST_ERAS + 1)) (last_era state) state.eras eras.current [] (omega (arith, few, count))
+        ∙ (back_at (min (era_before state + 1) (MOST_PAST_ERAS + 1)) (era_before state) state.eras eras.current [] (omega (arith, few, count))
         ∙ (ap (λ (n : ℕ). members_at n state.eras) zeroth ∙ none_first state.eras (λ k d within. (sound.eras k d within).begun))))
     at false is =
         let late : 0 + MOST_PAST_ERAS < eras.current = past (grind (arith, nat_tests, is)) in
@@ -165,7 +165,7 @@ module _ (state : State) (sound : rule.IsSoundState state) (told : IsTold (chain
   each_kept : (P : Members → Type 0) → P [] → ((members : List MemberRow) → EachIs (rule.IsSoundMember state.rows) members → P (map member_entry members))
       → All P eras.kept
   each_kept P none good =
-      all_back P none (min (last_era state + 1) (MOST_PAST_ERAS + 1)) (last_era state) state.eras
+      all_back P none (min (era_before state + 1) (MOST_PAST_ERAS + 1)) (era_before state) state.eras
       (λ place d few. good (get_or state.eras place d).members (sound.eras place d few).members)
 
   pub restored_kept : AreKept eras
@@ -185,7 +185,7 @@ module _ (state : State) (sound : rule.IsSoundState state) (told : IsTold (chain
   }
 
 -- the rows of eras are in form
-pub eras_in_form : (state : State) → rule.IsSoundState state → AreKeptEras (last_era state) state.eras
+pub eras_in_form : (state : State) → rule.IsSoundState state → AreKeptEras (era_before state) state.eras
 eras_in_form state sound = record {
   rising = follow_pairs (λ (first later : EraRow). first.era < later.era) (λ first next later one two. omega (arith, one, two))
       (λ earlier later. nat_lt earlier.era later.era) (λ first later is. lower first.era later.era is) state.eras (λ place d few. (sound.eras place d few).above);

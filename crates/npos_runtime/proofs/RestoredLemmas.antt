@@ -17,10 +17,11 @@ use Rattle.state_checkpoint.specs.Layout.{state_form}
 use Rattle.npos_runtime.specs.declared.state_fault.StateFault.{StateFault}
 use Rattle.npos_runtime.specs.declared.state_fault.StateFault.TheVariants.{Cause}
 use Rattle.npos_runtime.specs.KeptState.{kept, IsTold}
-use Rattle.npos_runtime.specs.KeptChain.{params_in, defer_in, chain_of, IsInForm}
+use Rattle.state_rules.specs.Terms.{params_of, defer_of, defer_in}
+use Rattle.npos_runtime.specs.KeptChain.{chain_of, IsInForm}
 use Rattle.npos_runtime.specs.Live.{CanBeDue, IsReady}
 use Rattle.npos_runtime.specs.Restoring.{due_fault, params_fault, stated, election_fault, state_fault}
-use Rattle.npos_runtime.specs.Savable.{RestoredLaw}
+use Rattle.npos_runtime.specs.Savable.{RestoredStateLaw}
 use Rattle.npos_runtime.specs.Sound.{IsSoundChain}
 use Rattle.npos_runtime.proofs.KeptChainLemmas.{restore}
 use Rattle.npos_runtime.proofs.RestoredBookLemmas.{restored_books, restored_timely}
@@ -54,27 +55,27 @@ no_defer (Some terms) none = cc
 -- what a state without a fault is
 record IsFaultless (state : State) : Type 0 where
   due : CanBeDue state.due
-  params : AreSound (params_in state)
-  defer : CanWait (params_in state) (defer_in state.params)
+  params : AreSound (params_of state)
+  defer : CanWait (params_of state) (defer_of state)
   sound : rule.IsSoundState state
-  elected : election_fault (params_in state) state.waiting ≡ None
+  elected : election_fault (params_of state) state.waiting ≡ None
   slashes : rule.HasSoundSlashes state
 
 faultless : (state : State) → state_fault state ≡ None → IsFaultless state
 faultless state fine =
-    let terms : Option StateFault = option_map params_fault (terms_fault (params_in state) (defer_in state.params)) in
+    let terms : Option StateFault = option_map params_fault (terms_fault (params_of state) (defer_of state)) in
     let last : Option StateFault = option_map stated (slash_cause state) in
-    let elect : Option StateFault = option_or (election_fault (params_in state) state.waiting) last in
+    let elect : Option StateFault = option_or (election_fault (params_of state) state.waiting) last in
     let causes : Option StateFault = option_or (option_map stated (first_cause state)) elect in
     let first = both_none (due_fault state.due) (option_or terms causes) fine in
     let second = both_none terms causes first.1 in
     let third = both_none (option_map stated (first_cause state)) elect second.1 in
-    let fourth = both_none (election_fault (params_in state) state.waiting) last third.1 in
-    let terms_none = unmapped params_fault (terms_fault (params_in state) (defer_in state.params)) second.0 in
+    let fourth = both_none (election_fault (params_of state) state.waiting) last third.1 in
+    let terms_none = unmapped params_fault (terms_fault (params_of state) (defer_of state)) second.0 in
     record {
       due = due_within state.due first.0;
-      params = terms_sound (params_in state) (defer_in state.params) terms_none;
-      defer = can_wait (params_in state) (defer_in state.params) (no_defer state.params) terms_none;
+      params = terms_sound (params_of state) (defer_of state) terms_none;
+      defer = can_wait (params_of state) (defer_of state) (no_defer state.params) terms_none;
       sound = state_rules.state_sound state (unmapped stated (first_cause state) third.0);
       elected = fourth.0;
       slashes = state_rules.slashes_sound state (unmapped stated (slash_cause state) fourth.1);
@@ -137,7 +138,7 @@ module _ (state : State) (fits : state_form.in_range state) (right : IsFaultless
 pub restored_ready : (state : State) → state_form.in_range state → state_fault state ≡ None → IsReady (chain_of state)
 restored_ready state fits fine = ready state fits (faultless state fine)
 
-pub restored : RestoredLaw
+pub restored : RestoredStateLaw
 restored state fits fine =
     let right : IsFaultless state = faultless state fine in
     let again : kept (chain_of state) ≡ state = (restore state (form state fits right)).0 in (

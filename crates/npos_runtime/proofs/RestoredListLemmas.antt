@@ -10,13 +10,14 @@ use Rattle.std.proofs.lemmas.List.{take_more}
 use Rattle.std.proofs.lemmas.List.Elements.{All-nil, All-cons, All-map, recursion_from_All}
 use Rattle.std.proofs.lemmas.List.Kept.{AllPairs-cons}
 use Rattle.std.proofs.lemmas.List.Sums.{sum_by-cons}
+use Rattle.std.proofs.lemmas.Bool.{or_parts}
 use Rattle.npos_base.specs.declared.account.AccountId.{AccountId}
 use Rattle.npos_base.specs.Account.{account_cmp, same_account}
 use Rattle.npos_base.proofs.AccountOrder.{account_total}
 use Rattle.state_rules.specs.Lists.{has_bad, bad_place, follows, stands_behind, is_rising}
 use Rattle.state_rules.specs.Accounts.{stands_in, is_below}
 use Rattle.state_rules.specs.Sound.{EachIs}
-use Rattle.state_rules.proofs.SoundLemmas.{each_is, no_place, neither, holds}
+use Rattle.state_rules.proofs.SoundLemmas.{each_is, no_place, holds}
 use Rattle.state_rules.proofs.RowLemmas.{last_put}
 
 -- ## Tests that no item passes
@@ -24,7 +25,7 @@ use Rattle.state_rules.proofs.RowLemmas.{last_put}
 pub none_passes : {A : Type 0} (test : A → Bool) (items : List A) → list_any test items ≡ false → All (λ item. test item ≡ false) items
 none_passes test [] none = All-nil (λ item. test item ≡ false)
 none_passes test (item ∷ items) none =
-    let both = neither (test item) (list_any test items) none in
+    let both = or_parts (test item) (list_any test items) none in
     All-cons (λ item. test item ≡ false) item items both.0 (none_passes test items both.1)
 
 -- a list without a bad item is one of which each item is good
@@ -62,8 +63,8 @@ pub apart_pairs : {A : Type 0} (alike : A → A → Bool) (items : List A) → E
 apart_pairs alike [] each = λ i j d lt within. absurd (omega (arith, within))
 apart_pairs alike (item ∷ items) each =
     AllPairs-cons (λ first later. alike first later ≡ false) item items
-    (λ k d few. (neither (alike item (get_or items k d)) (list_any (λ earlier. alike earlier (get_or items k d)) (take k items)) (each (suc k) d (omega (arith, few)))).0)
-    (apart_pairs alike items (λ k d few. (neither (alike item (get_or items k d)) (list_any (λ earlier. alike earlier (get_or items k d)) (take k items)) (each (suc k) d (omega (arith, few)))).1))
+    (λ k d few. (or_parts (alike item (get_or items k d)) (list_any (λ earlier. alike earlier (get_or items k d)) (take k items)) (each (suc k) d (omega (arith, few)))).0)
+    (apart_pairs alike items (λ k d few. (or_parts (alike item (get_or items k d)) (list_any (λ earlier. alike earlier (get_or items k d)) (take k items)) (each (suc k) d (omega (arith, few)))).1))
 
 module _ {A : Type 0} (account : A → AccountId) where
   -- items none of whose accounts stands before it have different accounts
@@ -79,7 +80,7 @@ module _ {A : Type 0} (account : A → AccountId) where
     behind : (k : ℕ) (d : A) → k < length items
         → (same_account (account item) (account (get_or items k d)) ≡ false) × (stands_in (map account (take k items)) (account (get_or items k d)) ≡ false)
     behind k d few =
-        neither (same_account (account item) (account (get_or items k d))) (stands_in (map account (take k items)) (account (get_or items k d)))
+        or_parts (same_account (account item) (account (get_or items k d))) (stands_in (map account (take k items)) (account (get_or items k d)))
         (each (suc k) d (omega (arith, few)))
 
   -- items of which each earlier account is below each later one stand by rising account

@@ -4,6 +4,7 @@ use Rattle.std.specs.List.{AllByRecursion, IsDistinct}
 use Rattle.std.proofs.lemmas.Bool.Decides.{nat_tests}
 use Rattle.std.proofs.lemmas.List.{length-map, length-take-le}
 use Rattle.std.proofs.lemmas.List.Elements.{All-map}
+use Rattle.std.proofs.lemmas.Bool.{and_parts, or_parts}
 use Rattle.npos_base.specs.declared.account.AccountId.{AccountId}
 use Rattle.npos_base.specs.declared.figures.Edge.{Edge}
 use Rattle.npos_base.specs.declared.limits.TheConstants.{MOST_TARGETS, MOST_VOTERS, MOST_SEATS, WHOLE_FRACTION}
@@ -28,12 +29,12 @@ use Rattle.state_rules.specs.declared.state.State.{State}
 use Rattle.state_rules.specs.declared.state.RoundRow.{RoundRow}
 use Rattle.state_rules.specs.declared.state.WaitingRow.{WaitingRow}
 use Rattle.state_rules.specs.Accounts.{stands_in}
-use Rattle.state_rules.specs.Terms.{is_past}
+use Rattle.state_rules.specs.Terms.{is_past, params_of}
 use Rattle.state_rules.specs.Rounds.{Target, voter_of, draft_of}
 use Rattle.state_rules.specs.Waiting.{edge_below}
 use Rattle.state_rules.specs.Sound as rule
 use Rattle.npos_runtime.specs.Committee.{Committee}
-use Rattle.npos_runtime.specs.KeptChain.{voter_in, snapshot_in, commissions_in, round_in, committee_in, params_in, chain_of, IsWaitingInOrder}
+use Rattle.npos_runtime.specs.KeptChain.{voter_in, snapshot_in, commissions_in, round_in, committee_in, chain_of, IsWaitingInOrder}
 use Rattle.npos_runtime.specs.Live.{AreNoted, IsSoundRound, IsUnderway, CanBeOpen, IsInTime, WasElected, IsNotedCommittee}
 use Rattle.npos_runtime.specs.Restoring.{unless_yes, verdict_on, election_fault}
 use Rattle.npos_runtime.specs.Sound.{AreKnown, IsSoundPoll, IsSoundOpen, IsDecided, IsSoundWaiting}
@@ -42,21 +43,20 @@ use Rattle.npos_runtime.proofs.CauseRowLemmas.{turned}
 use Rattle.npos_runtime.proofs.CausePollLemmas.{sum_mapped}
 use Rattle.npos_runtime.proofs.RestoredListLemmas.{none_passes, new_distinct, rows_sorted, rising_pairs, rising_numbers, sum_last, within_most}
 use Rattle.npos_runtime.proofs.RestoredBookLemmas.{are_known, none_unknown}
-use Rattle.state_rules.proofs.SoundLemmas.{neither}
 
 -- ## Votes
 
 apart : (number : ℕ) (votes : List ℕ) → has votes number ≡ false → AllByRecursion (λ other. nat_eq number other ≡ false) votes
 apart number [] none = tt
 apart number (vote ∷ votes) none =
-    let both = neither (nat_eq vote number) (has votes number) none in
+    let both = or_parts (nat_eq vote number) (has votes number) none in
     (number_test number vote (λ same. other_number vote number both.0 (sym same)), apart number votes both.1)
 
 votes_apart : (votes : List ℕ) → has_repeat votes ≡ false → IsDistinct nat_eq votes
 unfolding IsDistinct
 votes_apart [] none = tt
 votes_apart (vote ∷ votes) none =
-    let both = neither (has votes vote) (has_repeat votes) none in (apart vote votes both.0, votes_apart votes both.1)
+    let both = or_parts (has votes vote) (has_repeat votes) none in (apart vote votes both.0, votes_apart votes both.1)
 
 -- a voter that the builder takes
 is_voter : (so_far : Draft) (voter : Voter) → voter_fault so_far voter.account voter.stake voter.votes ≡ None → IsVoterOf (length so_far.targets) voter
@@ -108,7 +108,7 @@ seats_free targets total seats none =
       at false true c bad few poor = absurd (let e = rw (bad, few) at none in cc)
       at false false true bad few poor = absurd (let e = rw (bad, few, poor) at none in cc)
       at false false false bad few poor =
-          let both = neither (nat_eq seats 0) (nat_lt MOST_SEATS seats) bad in
+          let both = or_parts (nat_eq seats 0) (nat_lt MOST_SEATS seats) bad in
           (some seats both.0, within MOST_SEATS seats both.1, within targets seats few, within total (seats * seats) poor)
 
 -- ## Snapshots
@@ -138,9 +138,9 @@ first target = target.0
 abbrev account : BundleVoter → AccountId
 account voter = voter.account
 
-module _ (state : State) (row : RoundRow) (sound : rule.IsSoundRound state.rows (seats_of (params_in state)) row) where
+module _ (state : State) (row : RoundRow) (sound : rule.IsSoundRound state.rows (seats_of (params_of state)) row) where
   abbrev snapshot : Snapshot
-  snapshot = snapshot_in (params_in state) row
+  snapshot = snapshot_in (params_of state) row
 
   are_voters : AreVotersOf snapshot.targets snapshot.voters
   are_voters = record {
@@ -184,7 +184,7 @@ module _ (state : State) (row : RoundRow) (sound : rule.IsSoundRound state.rows 
 
   well_formed : IsWellFormed snapshot
   well_formed =
-      let seats = seats_free (length (map first row.targets)) (total_of (map voter_of row.voters)) (seats_of (params_in state)) sound.seated in
+      let seats = seats_free (length (map first row.targets)) (total_of (map voter_of row.voters)) (seats_of (params_of state)) sound.seated in
       record {
         voters = are_voters;
         seats_some = seats.0;
@@ -209,20 +209,16 @@ module _ (state : State) (row : RoundRow) (sound : rule.IsSoundRound state.rows 
 
 -- ## The round that is open
 
-both_true : (a b : Bool) → (a && b) ≡ true → (a ≡ true) × (b ≡ true)
-both_true true b e = (refl, e)
-both_true false b e = cc
-
 -- where submissions are taken in the block before, a round is open before this one
 underway : (params : Option Params) (due : ℕ) → AreSound params → (nat_lt 1 due && is_signed params (due - 1)) ≡ true
     → CanBeOpen params due (era_of params due + 1)
-underway None due sound open_now = absurd (let e = (both_true (nat_lt 1 due) false open_now).1 in cc)
+underway None due sound open_now = absurd (let e = (and_parts (nat_lt 1 due) false open_now).1 in cc)
 underway (Some params) due sound open_now = at (next_place params (due - 1) some (omega (arith, later))) where
   parts : (nat_lt 1 due ≡ true) × (is_signed (Some params) (due - 1) ≡ true)
-  parts = both_true (nat_lt 1 due) (is_signed (Some params) (due - 1)) open_now
+  parts = and_parts (nat_lt 1 due) (is_signed (Some params) (due - 1)) open_now
 
   signed : (nat_le params.offset (place_of params (due - 1)) ≡ true) × (nat_lt (place_of params (due - 1)) (params.offset + params.signed) ≡ true)
-  signed = both_true (nat_le params.offset (place_of params (due - 1))) (nat_lt (place_of params (due - 1)) (params.offset + params.signed)) parts.1
+  signed = and_parts (nat_le params.offset (place_of params (due - 1))) (nat_lt (place_of params (due - 1)) (params.offset + params.signed)) parts.1
 
   under : (a b : ℕ) → nat_le a b ≡ true → a ≤ b
   under a b e = grind (arith, nat_tests, e)
@@ -254,19 +250,19 @@ underway (Some params) due sound open_now = at (next_place params (due - 1) some
   at (inr last) = absurd (omega (arith, last.0, undecided, (phases_sound params sound).1))
 
 module _ (state : State) where
-  pub restored_round : (round : Option RoundRow) → rule.IsSoundOpen state round → IsSoundRound (option_map (round_in (params_in state) state.due) round)
+  pub restored_round : (round : Option RoundRow) → rule.IsSoundOpen state round → IsSoundRound (option_map (round_in (params_of state) state.due) round)
   restored_round None sound = tt
   restored_round (Some row) sound = (well_formed state row sound.1, noted state row sound.1)
 
   pub restored_open : (round : Option RoundRow) → rule.IsSoundOpen state round
-      → IsSoundOpen (chain_of state).book (option_map (round_in (params_in state) state.due) round)
+      → IsSoundOpen (chain_of state).book (option_map (round_in (params_of state) state.due) round)
   restored_open None sound = tt
   restored_open (Some row) sound = poll state row sound.1
 
-  pub restored_time : (round : Option RoundRow) (items : List Submission) → AreSound (params_in state) → rule.IsSoundOpen state round → (round ≡ None → items ≡ [])
-      → IsInTime (option_map (round_in (params_in state) state.due) round) (params_in state) state.due items
+  pub restored_time : (round : Option RoundRow) (items : List Submission) → AreSound (params_of state) → rule.IsSoundOpen state round → (round ≡ None → items ≡ [])
+      → IsInTime (option_map (round_in (params_of state) state.due) round) (params_of state) state.due items
   restored_time None items params sound none = none refl
-  restored_time (Some row) items params sound none = underway (params_in state) state.due params sound.0
+  restored_time (Some row) items params sound none = underway (params_of state) state.due params sound.0
 
 -- ## Who waits
 
@@ -289,9 +285,9 @@ committee_passes committee none =
     passes committee.snapshot committee.weights (plain_yes committee.snapshot committee.weights (yes_is (verdict_on committee) none))
 
 decided : (params : Option Params) (due : ℕ) → (nat_lt 1 due && is_past params (due - 1)) ≡ true → IsDecided params due
-decided None due past = absurd (let e = (both_true (nat_lt 1 due) false past).1 in cc)
+decided None due past = absurd (let e = (and_parts (nat_lt 1 due) false past).1 in cc)
 decided (Some params) due past =
-    let parts = both_true (nat_lt 1 due) (is_past (Some params) (due - 1)) past in (lower 1 due parts.0, under _ _ parts.1) where
+    let parts = and_parts (nat_lt 1 due) (is_past (Some params) (due - 1)) past in (lower 1 due parts.0, under _ _ parts.1) where
       lower : (a b : ℕ) → nat_lt a b ≡ true → a < b
       lower a b e = grind (arith, nat_tests, e)
 
@@ -299,29 +295,29 @@ decided (Some params) due past =
       under a b e = grind (arith, nat_tests, e)
 
 module _ (state : State) where
-  pub restored_noted : (waiting : Option WaitingRow) → rule.IsSoundWaiting state waiting → IsNotedCommittee (option_map (committee_in (params_in state)) waiting)
+  pub restored_noted : (waiting : Option WaitingRow) → rule.IsSoundWaiting state waiting → IsNotedCommittee (option_map (committee_in (params_of state)) waiting)
   restored_noted None sound = tt
   restored_noted (Some row) sound = noted state row.round sound.1.round
 
-  pub restored_elected : (waiting : Option WaitingRow) → rule.IsSoundWaiting state waiting → election_fault (params_in state) waiting ≡ None
-      → WasElected (option_map (committee_in (params_in state)) waiting)
+  pub restored_elected : (waiting : Option WaitingRow) → rule.IsSoundWaiting state waiting → election_fault (params_of state) waiting ≡ None
+      → WasElected (option_map (committee_in (params_of state)) waiting)
   restored_elected None sound none = tt
   restored_elected (Some row) sound none =
-      let passing = committee_passes (committee_in (params_in state) row) none in
+      let passing = committee_passes (committee_in (params_of state) row) none in
       record {
         sound = well_formed state row.round sound.1.round;
         follows = passing.feasible.follows;
         stakes = passing.feasible.within_stakes;
       }
 
-  pub restored_waiting : (waiting : Option WaitingRow) → rule.IsSoundWaiting state waiting → election_fault (params_in state) waiting ≡ None
-      → IsSoundWaiting (chain_of state) (option_map (committee_in (params_in state)) waiting)
+  pub restored_waiting : (waiting : Option WaitingRow) → rule.IsSoundWaiting state waiting → election_fault (params_of state) waiting ≡ None
+      → IsSoundWaiting (chain_of state) (option_map (committee_in (params_of state)) waiting)
   restored_waiting None sound none = tt
   restored_waiting (Some row) sound none = record {
-    decided = decided (params_in state) state.due sound.0;
+    decided = decided (params_of state) state.due sound.0;
     poll = poll state row.round sound.1.round;
     rising = rising_numbers row.committee sound.1.committee;
-    passes = committee_passes (committee_in (params_in state) row) none;
+    passes = committee_passes (committee_in (params_of state) row) none;
   }
 
 -- the edges of who waits are in order

@@ -19,7 +19,8 @@ use Rattle.state_rules.specs.declared.state.State.{State}
 use Rattle.state_rules.specs.declared.state.QueueRow.{QueueRow}
 use Rattle.state_rules.specs.Queue.{outranks}
 use Rattle.state_rules.specs.Sound as rule
-use Rattle.npos_runtime.specs.KeptChain.{submission_in, params_in, chain_of}
+use Rattle.state_rules.specs.Terms.{params_of}
+use Rattle.npos_runtime.specs.KeptChain.{submission_in, chain_of}
 use Rattle.npos_runtime.specs.Sound.{AreKnown, StandsBefore, WasAccepted, AreSoundSubmissions}
 use Rattle.npos_runtime.proofs.KeptRowLemmas.{pairs_map}
 use Rattle.npos_runtime.proofs.RestoredListLemmas.{follow_pairs, apart_pairs, within_most}
@@ -72,25 +73,25 @@ some_places (Some params) sound = places_within params sound
 
 module _ (state : State) (sound : rule.IsSoundState state) where
   abbrev items : List Submission
-  items = map (submission_in (params_in state)) state.queue
+  items = map (submission_in (params_of state)) state.queue
 
   ranked : AllPairs StandsBefore items
   ranked =
-      pairs_map (submission_in (params_in state)) StandsBefore state.queue
+      pairs_map (submission_in (params_of state)) StandsBefore state.queue
       (λ i j d lt few. stands (follow_pairs RowBefore before_on outranks before_told state.queue (λ k e within. (sound.queue k e within).rank) i j d lt few)) where
-        stands : {first later : QueueRow} → RowBefore first later → StandsBefore (submission_in (params_in state) first) (submission_in (params_in state) later)
+        stands : {first later : QueueRow} → RowBefore first later → StandsBefore (submission_in (params_of state) first) (submission_in (params_of state) later)
         stands before = record { not_better = before.not_better; earlier = before.earlier }
 
-  fits : length state.queue ≤ places_of (params_in state)
+  fits : length state.queue ≤ places_of (params_of state)
   fits =
-      within_most state.queue (places_of (params_in state))
+      within_most state.queue (places_of (params_of state))
       (λ place d few. omega (arith, (sound.queue place d few).place, length-take-le place state.queue (omega (arith, few))))
 
-  pub restored_order : AreSound (params_in state) → IsOrdered (chain_of state).queue
+  pub restored_order : AreSound (params_of state) → IsOrdered (chain_of state).queue
   restored_order params = record {
-    some = (some_places (params_in state) params).0;
-    most = (some_places (params_in state) params).1;
-    fits = omega (arith, fits, length-map state.queue (submission_in (params_in state)));
+    some = (some_places (params_of state) params).0;
+    most = (some_places (params_of state) params).1;
+    fits = omega (arith, fits, length-map state.queue (submission_in (params_of state)));
     by_rank = ranked_from items ranked;
   }
 
@@ -100,16 +101,16 @@ module _ (state : State) (sound : rule.IsSoundState state) where
     opened : (d : QueueRow) → 0 < length state.queue → is_some state.round ≡ true
     opened d some = (sound.queue 0 d some).round
 
-    at : (queue : List QueueRow) → ((d : QueueRow) → 0 < length queue → is_some state.round ≡ true) → map (submission_in (params_in state)) queue ≡ []
+    at : (queue : List QueueRow) → ((d : QueueRow) → 0 < length queue → is_some state.round ≡ true) → map (submission_in (params_of state)) queue ≡ []
     at [] open_round = refl
     at (row ∷ queue) open_round = absurd (true≢false (sym (open_round row (omega arith)) ∙ ap is_some none))
 
   pub restored_submissions : AreSoundSubmissions (chain_of state)
   restored_submissions = record {
     known = known_items state.queue (are_known state (λ (row : QueueRow). row.who) state.queue (λ k d few. (sound.queue k d few).known));
-    accepted = All-map (WasAccepted (chain_of state)) (submission_in (params_in state)) state.queue
+    accepted = All-map (WasAccepted (chain_of state)) (submission_in (params_of state)) state.queue
         (λ k d few. record { numbered = (sound.queue k d few).numbered; given = (sound.queue k d few).given; fits = (sound.queue k d few).bytes });
-    apart = pairs_map (submission_in (params_in state)) (λ (first later : Submission). first.number ≢ later.number) state.queue
+    apart = pairs_map (submission_in (params_of state)) (λ (first later : Submission). first.number ≢ later.number) state.queue
         (λ i j d lt few.
         other_number _ _ (apart_pairs (λ (first later : QueueRow). nat_eq first.number later.number) state.queue (λ k e within. (sound.queue k e within).fresh) i j d lt few));
     ranked = ranked;
@@ -117,8 +118,8 @@ module _ (state : State) (sound : rule.IsSoundState state) where
     few = sound.next_submission.within;
   } where
     known_items : (queue : List QueueRow) → AreKnown (chain_of state).book (map (λ (row : QueueRow). row.who) queue)
-        → AreKnown (chain_of state).book (map (λ (item : Submission). item.who) (map (submission_in (params_in state)) queue))
+        → AreKnown (chain_of state).book (map (λ (item : Submission). item.who) (map (submission_in (params_of state)) queue))
     known_items queue known = subst (AreKnown (chain_of state).book) (same queue) known where
-      same : (rows : List QueueRow) → map (λ (row : QueueRow). row.who) rows ≡ map (λ (item : Submission). item.who) (map (submission_in (params_in state)) rows)
+      same : (rows : List QueueRow) → map (λ (row : QueueRow). row.who) rows ≡ map (λ (item : Submission). item.who) (map (submission_in (params_of state)) rows)
       same [] = refl
       same (row ∷ rows) = ap (λ (more : List AccountId). row.who ∷ more) (same rows)

@@ -46,7 +46,8 @@ use Rattle.state_rules.specs.Roles as rule_roles
 use Rattle.state_rules.specs.Sound as rule
 use Rattle.npos_runtime.specs.Ballots.{commission_in}
 use Rattle.npos_runtime.specs.KeptState.{IsTold}
-use Rattle.npos_runtime.specs.KeptChain.{standing_in, with_role, roles_in, bag_entry, params_in, chain_of}
+use Rattle.state_rules.specs.Terms.{params_of}
+use Rattle.npos_runtime.specs.KeptChain.{standing_in, with_role, roles_in, bag_entry, chain_of}
 use Rattle.npos_runtime.specs.Live.{times, IsOnce, IsListing, IsNomination, AreRoles}
 use Rattle.npos_runtime.specs.Sound.{IsSoundStanding, HasScore, AreSoundRoles}
 use Rattle.npos_runtime.proofs.BeginLemmas.{rising_params}
@@ -298,11 +299,11 @@ module _ (state : State) (sound : rule.IsSoundState state) where
   restored_bags told = record {
     listed = told.listed;
     once = once (walk (map bag_entry state.roles)) (subst (IsDistinct same_account) (walk_rows state.roles) roles_apart);
-    numbered = All-map (λ (entry : AccountId × ℕ). entry.1 ≤ length (thresholds_in (params_in state))) bag_entry state.roles
+    numbered = All-map (λ (entry : AccountId × ℕ). entry.1 ≤ length (thresholds_in (params_of state))) bag_entry state.roles
         (λ k d few. (sound.roles k d few).bag);
   }
 
-  pub restored_sound_roles : AreSound (params_in state) → IfSome state.params (pair params_form compact_u32).in_range → AreSoundRoles (chain_of state)
+  pub restored_sound_roles : AreSound (params_of state) → IfSome state.params (pair params_form compact_u32).in_range → AreSoundRoles (chain_of state)
   restored_sound_roles params fits = record {
     bonded = bonded;
     standings = standings;
@@ -310,11 +311,11 @@ module _ (state : State) (sound : rule.IsSoundState state) where
         (follow_pairs (λ (first later : RoleRow). later.bag ≤ first.bag) (λ first next later one two. omega (arith, one, two))
         (λ first later. nat_le later.bag first.bag) (λ first later is. under later.bag first.bag is) state.roles (λ k d few. (sound.roles k d few).walk));
     scores = All-map (λ (entry : AccountId × ℕ). HasScore thresholds entry.1) bag_entry state.roles
-        (λ k d few. some_score thresholds (rising_params (params_in state) thresholds params refl) (thresholds_small state.params fits)
+        (λ k d few. some_score thresholds (rising_params (params_of state) thresholds params refl) (thresholds_small state.params fits)
         (get_or state.roles k d).bag (sound.roles k d few).bag (sound.roles k d few).scores);
   } where
     thresholds : List ℕ
-    thresholds = thresholds_in (params_in state)
+    thresholds = thresholds_in (params_of state)
 
     under : (a b : ℕ) → nat_le a b ≡ true → a ≤ b
     under a b e = grind (arith, nat_tests, e)

@@ -10,7 +10,8 @@ use Rattle.state_rules.specs.declared.state.State.{State}
 use Rattle.state_rules.specs.Sound as rule
 use Rattle.era_book.specs.declared.deferred.TheConstants.{MOST_SLASHES}
 use Rattle.npos_runtime.specs.KeptState.{IsTold}
-use Rattle.npos_runtime.specs.KeptChain.{params_in, defer_in, chain_of}
+use Rattle.state_rules.specs.Terms.{params_of, defer_of}
+use Rattle.npos_runtime.specs.KeptChain.{chain_of}
 use Rattle.npos_runtime.specs.Live.{CanDefer}
 use Rattle.npos_runtime.specs.Sound.{AreSoundSlashes}
 use Rattle.npos_runtime.proofs.LiveLemmas.{era_small}
@@ -37,12 +38,12 @@ module _ (state : State) (sound : rule.HasSoundSlashes state) where
     under : (a b : ℕ) → nat_le a b ≡ true → a ≤ b
     under a b e = grind (arith, nat_tests, e)
 
-  pub restored_line : rule.IsSoundState state → IsTold (chain_of state) → AreSound (params_in state) → CanWait (params_in state) (defer_in state.params)
+  pub restored_line : rule.IsSoundState state → IsTold (chain_of state) → AreSound (params_of state) → CanWait (params_of state) (defer_of state)
       → state.due ≤ 2 ^ 32 → length state.slashes ≤ MOST_SLASHES → CanDefer (chain_of state)
   restored_line whole told params wait late most = record {
     order = record { kept = restored_kept state whole told; fractions = restored_fractions state whole told; queued = in_line most };
     later = λ place d few. (sound.slashes place d few).within;
-    fits = omega (arith, era_small (params_in state) (state.due - 1) params (omega (arith, late)), wait_within (params_in state) (defer_in state.params) params wait);
+    fits = omega (arith, era_small (params_of state) (state.due - 1) params (omega (arith, late)), wait_within (params_of state) (defer_of state) params wait);
   }
 
   pub restored_slashes : AreSoundSlashes (chain_of state)

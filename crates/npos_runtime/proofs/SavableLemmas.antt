@@ -16,10 +16,11 @@ use Rattle.npos_runtime.specs.Committee.{Committee}
 use Rattle.npos_runtime.specs.Genesis.{genesis_chain}
 use Rattle.npos_runtime.specs.Kept.{as_kept, kept_committee}
 use Rattle.npos_runtime.specs.KeptState.{kept, IsTold}
-use Rattle.npos_runtime.specs.KeptChain.{params_in, defer_in, committee_in, chain_of}
+use Rattle.state_rules.specs.Terms.{params_of, defer_of}
+use Rattle.npos_runtime.specs.KeptChain.{committee_in, chain_of}
 use Rattle.npos_runtime.specs.Live.{IsReady, IsBetweenBlocks, CanBeDue}
 use Rattle.npos_runtime.specs.Restoring.{due_fault, params_fault as stated_params, stated, unless_yes, verdict_on, election_fault}
-use Rattle.npos_runtime.specs.Savable.{SavableStartLaw, SavableStepLaw, SavedLaw}
+use Rattle.npos_runtime.specs.Savable.{SavableStartLaw, SavableStepLaw, SavedStateLaw}
 use Rattle.npos_runtime.specs.Sound.{IsSoundChain, IsSoundWaiting}
 use Rattle.npos_runtime.specs.SoundLaws.{CanStep, after_block, StartsSound, KeepsSoundLaw}
 use Rattle.npos_runtime.proofs.BeginLemmas.{ready_begun}
@@ -93,22 +94,22 @@ kept_passes chain (Some committee) sound =
     (plain_yes_passes committee.snapshot (kept_weights committee.weights)).1
     (passes_kept committee.snapshot committee.weights sound.passes)
 
-pub no_state_fault : SavedLaw
+pub no_state_fault : SavedStateLaw
 no_state_fault chain savable =
     let live = savable.ready.between.live in
     let state = kept chain in
     let back : chain_of state ≡ as_kept chain = kept_back chain savable.told in
     let causes = no_cause chain savable.ready savable.told savable.sound in
-    let terms : terms_fault (params_in state) (defer_in state.params) ≡ None =
+    let terms : terms_fault (params_of state) (defer_of state) ≡ None =
     ap (λ (c : Chain). terms_fault c.params c.defer) back
     ∙ no_terms_fault chain.params chain.defer live.params live.defer in
-    let elected : election_fault (params_in state) state.waiting ≡ None =
-    elected_right (params_in state) state.waiting (option_map kept_committee chain.waiting)
+    let elected : election_fault (params_of state) state.waiting ≡ None =
+    elected_right (params_of state) state.waiting (option_map kept_committee chain.waiting)
     (ap (λ (c : Chain). c.waiting) back)
     (kept_passes chain chain.waiting savable.sound.waiting) in
     neither (due_fault state.due) _ (due_right chain.due live.due)
-    (neither (option_map stated_params (terms_fault (params_in state) (defer_in state.params))) _
+    (neither (option_map stated_params (terms_fault (params_of state) (defer_of state))) _
     (ap (option_map stated_params) terms)
     (neither (option_map stated (first_cause state)) _ (ap (option_map stated) causes.0)
-    (neither (election_fault (params_in state) state.waiting) (option_map stated (slash_cause state)) elected
+    (neither (election_fault (params_of state) state.waiting) (option_map stated (slash_cause state)) elected
     (ap (option_map stated) causes.1))))

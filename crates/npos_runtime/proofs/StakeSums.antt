@@ -1,11 +1,11 @@
 -- The stakes of accounts of which none stands twice are no more than what is active in all rows.
-use Rattle.std.proofs.Common.{◌≡◌, ℕ, zero, suc, ◌+◌, ◌*◌, ◌≤◌, Bool, true, false, List, [], ◌∷◌, sum_by, refl, sym, ◌∙◌, ap, subst, arith}
+use Rattle.std.proofs.Common.{◌≡◌, ℕ, zero, suc, ◌+◌, ◌*◌, ◌≤◌, false, List, [], ◌∷◌, sum_by, refl, sym, ◌∙◌, ap, subst, arith}
 use Rattle.std.specs.Map.{values_of}
 use Rattle.std.proofs.lemmas.List.Sums.{sum_by-cons}
 use Rattle.std.proofs.lemmas.Cmp.{tied_itself}
 use Rattle.npos_base.specs.declared.account.AccountId.{AccountId}
 use Rattle.npos_base.specs.Account.{same_account}
-use Rattle.npos_base.proofs.AccountOrder.{account_total, same_exact, same_itself, same_ordered}
+use Rattle.npos_base.proofs.AccountOrder.{account_total, same_itself, same_ordered, same_turned}
 use Rattle.stake_ledger.specs.declared.row.Row.{Row}
 use Rattle.stake_ledger.specs.Ledger.{row_in}
 use Rattle.npos_runtime.specs.Live.{IsOnce, times}
@@ -27,12 +27,7 @@ module _ (key : AccountId) (row : Row) (rows : List (AccountId × Row)) where
   at_key x same = subst (λ (y : AccountId). (row_in ((key, row) ∷ rows) y).active ≡ row.active) (sym same) (rw (tied_itself account_total key) refl)
 
   at_other : (x : AccountId) → same_account x key ≡ false → (row_in ((key, row) ∷ rows) x).active ≡ (row_in rows x).active
-  at_other x apart = rw (same_ordered key x (back x key apart)) refl where
-    back : (q who : AccountId) → same_account q who ≡ false → same_account who q ≡ false
-    back q who e = at (same_account who q) refl where
-      at : (b : Bool) → same_account who q ≡ b → b ≡ false
-      at true f = sym (same_itself q) ∙ ap (λ z. same_account q z) (sym (same_exact who q f)) ∙ e
-      at false f = refl
+  at_other x apart = rw (same_ordered key x (same_turned x key apart)) refl
 
   share : (accounts : List AccountId)
       → sum_by (λ who. (row_in ((key, row) ∷ rows) who).active) accounts ≤ times key accounts * row.active + sum_by (λ who. (row_in rows who).active) accounts

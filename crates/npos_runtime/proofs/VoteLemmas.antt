@@ -1,17 +1,18 @@
 -- Votes are places of targets: no more than the choices, each of a target, and none twice where no choice is.
-use Rattle.std.proofs.Common.{◌≡◌, ℕ, suc, ◌≤◌, ◌<◌, Bool, true, false, ◌||◌, nat_eq, nat_le, List, [], ◌∷◌, length, filter_map, Option, Some, None, refl, sym, ◌∙◌, ap, arith, true≢false, get_or}
+use Rattle.std.proofs.Common.{◌≡◌, ℕ, suc, ◌≤◌, ◌<◌, Bool, true, false, nat_eq, nat_le, List, [], ◌∷◌, length, filter_map, Option, Some, None, refl, sym, ◌∙◌, ap, arith, get_or}
 use Rattle.std.proofs.lemmas.Bool.Decides.{nat_tests}
 use Rattle.std.proofs.lemmas.List.Quantifiers.{position-Some}
 use Rattle.std.specs.List.{list_any, cons_option}
+use Rattle.std.proofs.lemmas.Bool.{or_parts}
 use Rattle.npos_base.specs.declared.account.AccountId.{AccountId}
 use Rattle.npos_base.specs.declared.limits.TheConstants.{MOST_NOMINATIONS}
 use Rattle.npos_base.specs.Account.{same_account}
 use Rattle.npos_base.proofs.AccountOrder.{same_exact, same_itself}
 use Rattle.voter_lists.specs.declared.standing.Role.{Role}
 use Rattle.voter_lists.specs.declared.standing.Role.TheVariants as role
-use Rattle.voter_lists.specs.Roles.{RoleList, role_of, nominated_by, validators_of, has_repeat}
+use Rattle.voter_lists.specs.Roles.{RoleList, role_of, nominated_by, validators_of, has_repeated_account}
 use Rattle.election_snapshot.specs.Snapshot.{has, no_account}
-use Rattle.election_snapshot.specs.Draft.{place_of, has_repeat as repeats_number}
+use Rattle.election_snapshot.specs.Draft.{place_of, has_repeat}
 use Rattle.npos_runtime.specs.Ballots.{choices_in, choices_of, votes_of}
 use Rattle.npos_runtime.specs.Live.{IsNomination}
 
@@ -52,41 +53,33 @@ apart_place targets q who i place e f apart = at (nat_eq i place) refl where
       sym (same_itself who) ∙ (ap (λ (a : AccountId). same_account a who) (sym same) ∙ apart)
   at false t = refl
 
-left_false : (a b : Bool) → (a || b) ≡ false → a ≡ false
-left_false true b e = e
-left_false false b e = refl
-
-right_false : (a b : Bool) → (a || b) ≡ false → b ≡ false
-right_false true b e = absurd (true≢false e)
-right_false false b e = e
-
 -- the place of an account that is not chosen gets no vote
 no_vote : (targets choices : List AccountId) (who : AccountId) (place : ℕ) → place_of targets who ≡ Some place
     → list_any (λ other. same_account other who) choices ≡ false → has (filter_map (place_of targets) choices) place ≡ false
 no_vote targets [] who place f none = refl
 no_vote targets (choice ∷ choices) who place f none =
     at (place_of targets choice) refl
-    (no_vote targets choices who place f (right_false (same_account choice who) (list_any (λ other. same_account other who) choices) none)) where
+    (no_vote targets choices who place f (or_parts (same_account choice who) (list_any (λ other. same_account other who) choices) none).1) where
       at : (o : Option ℕ) → place_of targets choice ≡ o → has (filter_map (place_of targets) choices) place ≡ false
           → has (cons_option o (filter_map (place_of targets) choices)) place ≡ false
       at None e rest = rest
       at (Some i) e rest =
           let apart : nat_eq i place ≡ false
-          = apart_place targets choice who i place e f (left_false (same_account choice who) (list_any (λ other. same_account other who) choices) none) in
+          = apart_place targets choice who i place e f (or_parts (same_account choice who) (list_any (λ other. same_account other who) choices) none).0 in
           rw apart rest
 
 -- no vote stands twice where no choice does
-pub votes_once : (targets choices : List AccountId) → has_repeat choices ≡ false → repeats_number (filter_map (place_of targets) choices) ≡ false
+pub votes_once : (targets choices : List AccountId) → has_repeated_account choices ≡ false → has_repeat (filter_map (place_of targets) choices) ≡ false
 votes_once targets [] once = refl
 votes_once targets (choice ∷ choices) once =
     at (place_of targets choice) refl
-    (votes_once targets choices (right_false (list_any (λ other. same_account other choice) choices) (has_repeat choices) once)) where
-      at : (o : Option ℕ) → place_of targets choice ≡ o → repeats_number (filter_map (place_of targets) choices) ≡ false
-          → repeats_number (cons_option o (filter_map (place_of targets) choices)) ≡ false
+    (votes_once targets choices (or_parts (list_any (λ other. same_account other choice) choices) (has_repeated_account choices) once).1) where
+      at : (o : Option ℕ) → place_of targets choice ≡ o → has_repeat (filter_map (place_of targets) choices) ≡ false
+          → has_repeat (cons_option o (filter_map (place_of targets) choices)) ≡ false
       at None e rest = rest
       at (Some place) e rest =
           let new : has (filter_map (place_of targets) choices) place ≡ false
-          = no_vote targets choices choice place e (left_false (list_any (λ other. same_account other choice) choices) (has_repeat choices) once) in
+          = no_vote targets choices choice place e (or_parts (list_any (λ other. same_account other choice) choices) (has_repeated_account choices) once).0 in
           rw new rest
 
 few_choices : (r : Role) (who : AccountId) (named : List AccountId) → IsNomination named → length (choices_in r who named) ≤ MOST_NOMINATIONS
@@ -94,7 +87,7 @@ few_choices (role.Validator commission) who named is = omega arith
 few_choices role.Nominator who named is = is.few
 few_choices role.Nobody who named is = omega arith
 
-distinct_choices : (r : Role) (who : AccountId) (named : List AccountId) → IsNomination named → has_repeat (choices_in r who named) ≡ false
+distinct_choices : (r : Role) (who : AccountId) (named : List AccountId) → IsNomination named → has_repeated_account (choices_in r who named) ≡ false
 distinct_choices (role.Validator commission) who named is = refl
 distinct_choices role.Nominator who named is = is.distinct
 distinct_choices role.Nobody who named is = refl
@@ -108,6 +101,6 @@ few_votes roles who is =
     within _ _ (votes_few (validators_of roles) (choices_of roles who)) (few_choices (role_of roles who) who (nominated_by roles who) is)
 
 -- and none twice
-pub distinct_votes : (roles : RoleList) (who : AccountId) → IsNomination (nominated_by roles who) → repeats_number (votes_of roles who) ≡ false
+pub distinct_votes : (roles : RoleList) (who : AccountId) → IsNomination (nominated_by roles who) → has_repeat (votes_of roles who) ≡ false
 distinct_votes roles who is =
     votes_once (validators_of roles) (choices_of roles who) (distinct_choices (role_of roles who) who (nominated_by roles who) is)

@@ -5,17 +5,18 @@ use Rattle.std.proofs.lemmas.List.Folds.{list_any_none}
 use Rattle.std.proofs.lemmas.List.Elements.{All-head, All-tail}
 use Rattle.npos_base.specs.declared.account.AccountId.{AccountId}
 use Rattle.npos_base.proofs.NumberTests.{number_same, number_test}
+use Rattle.election_snapshot.specs.Snapshot.{has}
 use Rattle.era_book.specs.declared.deferred.DeferredSlash.{DeferredSlash}
 use Rattle.era_book.specs.Exposures.{amount_for}
 use Rattle.era_book.specs.Deferred.{has_number, without}
-use Rattle.npos_runtime.specs.DeferredLaws.{is_among, waiting_due}
+use Rattle.npos_runtime.specs.DeferredLaws.{waiting_due}
 
 module _ (numbers : List ℕ) (who : AccountId) where
   abbrev pub due_of : DeferredSlash → ℕ
-  due_of slash = if is_among numbers slash.number then amount_for who slash.lines else 0
+  due_of slash = if has numbers slash.number then amount_for who slash.lines else 0
 
   due_most : (slash : DeferredSlash) → due_of slash ≤ amount_for who slash.lines
-  due_most slash = at (is_among numbers slash.number) where
+  due_most slash = at (has numbers slash.number) where
     at : (b : Bool) → (if b then amount_for who slash.lines else 0) ≤ amount_for who slash.lines
     at true = omega arith
     at false = omega arith
@@ -36,7 +37,7 @@ module _ (numbers : List ℕ) (who : AccountId) where
       → waiting_due numbers who (slashes ++ slash ∷ []) ≡ waiting_due numbers who slashes
   due_unlisted slashes slash below =
       omega (arith, due_last slashes slash, ap (λ b. if b then amount_for who slash.lines else 0) apart) where
-        apart : is_among numbers slash.number ≡ false
+        apart : has numbers slash.number ≡ false
         apart =
             list_any_none (λ other. nat_eq other slash.number) numbers
             (λ k d within. number_test _ slash.number (λ same. absurd (omega (arith, below k d within, same))))
@@ -80,7 +81,7 @@ due_same next numbers who (slash ∷ slashes) below =
     let less : slash.number < next = All-head (λ (s : DeferredSlash). s.number < next) slash slashes below in
     let other : nat_eq next slash.number ≡ false = number_test next slash.number (λ same. absurd (omega (arith, less, same))) in
     let one : due_of (next ∷ numbers) who slash ≡ due_of numbers who slash =
-    ap (λ b. if b || is_among numbers slash.number then amount_for who slash.lines else 0) other in
+    ap (λ b. if b || has numbers slash.number then amount_for who slash.lines else 0) other in
     omega (
       arith,
       one,

@@ -1,13 +1,13 @@
 -- What slashes come to that wait: what is due is fixed at the report, it is taken when the slash is
 -- applied, and a slash that is cancelled takes nothing.
-use Rattle.std.specs.Prelude.{◌≡◌, ℕ, ◌+◌, ◌<◌, ◌≤◌, Bool, false, nat_eq, nat_le, ◌==◌, if◌then◌else◌, All, List, [], ◌∷◌, ◌++◌, sum_by, flat_map, filter, Some, None}
-use Rattle.std.specs.List.{list_any}
+use Rattle.std.specs.Prelude.{◌≡◌, ℕ, ◌+◌, ◌<◌, ◌≤◌, Bool, false, nat_le, ◌==◌, if◌then◌else◌, All, List, [], ◌∷◌, ◌++◌, sum_by, flat_map, filter, Some, None}
 use Rattle.npos_base.specs.declared.account.AccountId.{AccountId}
 use Rattle.block_wire.specs.declared.call.Call.{Call}
 use Rattle.block_wire.specs.declared.call.CallKind.TheVariants as kinds
 use Rattle.block_wire.specs.declared.block.Block.{Block}
 use Rattle.block_wire.specs.declared.genesis.Genesis.{Genesis}
 use Rattle.stake_ledger.specs.Ledger.{Ledger}
+use Rattle.election_snapshot.specs.Snapshot.{has}
 use Rattle.era_book.specs.declared.deferred.DeferredSlash.{DeferredSlash}
 use Rattle.era_book.specs.Exposures.{amount_for}
 use Rattle.era_book.specs.Calls.{slash_in}
@@ -94,15 +94,12 @@ numbers_of era index (call ∷ calls) chain numbers =
     numbers_of era (index + 1) calls (call_outcome index call chain).state
     (numbers_at era index call chain ++ numbers)
 
-abbrev pub is_among : List ℕ → ℕ → Bool
-is_among numbers number = list_any (λ other. nat_eq other number) numbers
-
 -- what lines tell to be taken from an account by the slashes of these numbers: what stands behind
 -- `Applied` is taken by the slash of that number
 abbrev pub taken_behind : List ℕ → Bool → AccountId → List Line → ℕ
 taken_behind numbers counts who [] = 0
 taken_behind numbers counts who (lines.Applied number ∷ more) =
-    taken_behind numbers (is_among numbers number) who more
+    taken_behind numbers (has numbers number) who more
 taken_behind numbers counts who (line ∷ more) =
     (if counts then amount_taken who line else 0) + taken_behind numbers counts who more
 
@@ -118,7 +115,7 @@ applied_for era who numbers chain (block ∷ more) =
 -- what is due from an account by the slashes of these numbers, as they wait
 abbrev pub waiting_due : List ℕ → AccountId → List DeferredSlash → ℕ
 waiting_due numbers who slashes =
-    sum_by (λ slash. if is_among numbers slash.number then amount_for who slash.lines else 0) slashes
+    sum_by (λ slash. if has numbers slash.number then amount_for who slash.lines else 0) slashes
 
 -- Of what waits for an era and what blocks make due for it, no more is taken than that, at once and
 -- by slashes that waited.

@@ -26,6 +26,7 @@ use Rattle.state_rules.specs.declared.state.MemberRow.{MemberRow}
 use Rattle.state_rules.specs.declared.state.RoundRow.{RoundRow}
 use Rattle.state_rules.specs.declared.state.QueueRow.{QueueRow}
 use Rattle.state_rules.specs.declared.state.WaitingRow.{WaitingRow}
+use Rattle.state_rules.specs.Terms.{params_of, defer_of, era_before}
 use Rattle.npos_runtime.specs.declared.chain.Chain.{Chain}
 use Rattle.npos_runtime.specs.declared.round.Round.{Round}
 use Rattle.npos_runtime.specs.declared.round.Round.TheVariants as rounds
@@ -110,21 +111,10 @@ committee_in params row = record {
 
 -- ## The chain
 
-abbrev pub params_in : State → Option Params
-params_in state = option_map (λ (terms : Params × ℕ). terms.0) state.params
-
-abbrev pub defer_in : Option (Params × ℕ) → ℕ
-defer_in None = 0
-defer_in (Some terms) = terms.1
-
--- the era of the last block that was taken
-abbrev pub last_era : State → ℕ
-last_era state = era_of (params_in state) (state.due - 1)
-
 abbrev pub chain_of : State → Chain
 chain_of state = record {
-  params = params_in state;
-  defer = defer_in state.params;
+  params = params_of state;
+  defer = defer_of state;
   book = record {
     rows = map book_entry state.rows;
     genesis = state.genesis;
@@ -133,19 +123,19 @@ chain_of state = record {
   };
   roles = roles_in state.roles;
   bags = record {
-    thresholds = thresholds_in (params_in state);
+    thresholds = thresholds_in (params_of state);
     order = map bag_entry state.roles;
   };
-  round = option_map (round_in (params_in state) state.due) state.round;
+  round = option_map (round_in (params_of state) state.due) state.round;
   queue = record {
-    items = map (submission_in (params_in state)) state.queue;
-    places = places_of (params_in state);
+    items = map (submission_in (params_of state)) state.queue;
+    places = places_of (params_of state);
   };
   next = state.next_submission;
-  waiting = option_map (committee_in (params_in state)) state.waiting;
+  waiting = option_map (committee_in (params_of state)) state.waiting;
   eras = record {
-    current = last_era state;
-    kept = eras_back (min (last_era state + 1) (MOST_PAST_ERAS + 1)) (last_era state) state.eras;
+    current = era_before state;
+    kept = eras_back (min (era_before state + 1) (MOST_PAST_ERAS + 1)) (era_before state) state.eras;
     queue = state.slashes;
     next_slash = state.next_slash;
   };
@@ -176,5 +166,5 @@ IsWaitingInOrder (Some row) = AreInOrder row.edges
 pub record IsInForm (state : State) : Type 0 where
   -- no account has two roles
   pub roles : IsDistinct same_account (map (λ (row : RoleRow). row.who) state.roles)
-  pub eras : AreKeptEras (last_era state) state.eras
+  pub eras : AreKeptEras (era_before state) state.eras
   pub waiting : IsWaitingInOrder state.waiting

@@ -13,7 +13,7 @@ use Rattle.npos_runtime.specs.Committee.{Committee}
 use Rattle.npos_runtime.specs.BookCalls.{release_now}
 use Rattle.npos_base.specs.Account.{same_account}
 use Rattle.voter_lists.specs.Ranked.{AreRanked}
-use Rattle.voter_lists.specs.Roles.{RoleList, role_of, nominated_by, validators_of, has_repeat}
+use Rattle.voter_lists.specs.Roles.{RoleList, role_of, nominated_by, validators_of, has_repeated_account}
 use Rattle.voter_lists.specs.Bags.{Listing, is_listed, walk}
 use Rattle.election_snapshot.specs.Snapshot.{IsWellFormed, stake_of}
 use Rattle.weight_book.specs.Weights.{Follows, spent}
@@ -47,7 +47,7 @@ pub record IsListing (roles : RoleList) (listing : Listing) : Type 0 where
 -- as many targets as one may name at most, none of them twice
 pub record IsNomination (targets : List AccountId) : Type 0 where
   pub few : length targets ≤ MOST_NOMINATIONS
-  pub distinct : has_repeat targets ≡ false
+  pub distinct : has_repeated_account targets ≡ false
 
 -- there are at most 2,048 validators, and no validator keeps more than the whole of its rewards
 pub record AreRoles (roles : RoleList) : Type 0 where

@@ -16,15 +16,21 @@ use Rattle.state_rules.specs.Causes.{first_cause, slash_cause}
 use Rattle.npos_runtime.specs.declared.state_fault.StateFault.{StateFault}
 use Rattle.npos_runtime.specs.declared.state_fault.StateFault.TheVariants.{Cause, NotElected, NoMemory}
 use Rattle.npos_runtime.specs.Committee.{Committee}
-use Rattle.npos_runtime.specs.KeptChain.{params_in, defer_in, committee_in}
+use Rattle.state_rules.specs.Terms.{params_of, defer_of}
+use Rattle.npos_runtime.specs.KeptChain.{committee_in}
 
 -- the number of the next block is none that a block can have, or the one behind the last
 abbrev pub due_fault : ℕ → Option StateFault
 due_fault due = if is_within 1 (2 ^ 32) due then None else Some (Cause 1 due)
 
+-- a fault of a genesis with these numbers as a fault of the state; without numbers it is want of memory
+abbrev pub numbered_fault : Option (ℕ × ℕ) → StateFault
+numbered_fault None = NoMemory
+numbered_fault (Some numbers) = Cause 2 numbers.0
+
 -- a fault of the params, with its number as that of a genesis
 abbrev pub params_fault : GenesisFault → StateFault
-params_fault fault = Cause 2 (fault_numbers fault).0
+params_fault fault = numbered_fault (fault_numbers fault)
 
 -- a cause as a fault of the state
 abbrev pub stated : CauseFault → StateFault
@@ -48,9 +54,9 @@ election_fault params (Some row) = unless_yes (verdict_on (committee_in params r
 abbrev pub state_fault : State → Option StateFault
 state_fault state =
     option_or (due_fault state.due)
-    (option_or (option_map params_fault (terms_fault (params_in state) (defer_in state.params)))
+    (option_or (option_map params_fault (terms_fault (params_of state) (defer_of state)))
     (option_or (option_map stated (first_cause state))
-    (option_or (election_fault (params_in state) state.waiting)
+    (option_or (election_fault (params_of state) state.waiting)
     (option_map stated (slash_cause state)))))
 
 -- a fault is the one that stands first, or want of memory

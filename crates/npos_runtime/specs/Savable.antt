@@ -33,10 +33,10 @@ SavableStepLaw = (chain : Chain) (block : Block) → IsSavable chain → block_f
     → block.number ≡ chain.due → IsSavable (after_block chain block)
 
 -- the state that such a chain keeps has no fault
-abbrev pub SavedLaw : Type 0
-SavedLaw = (chain : Chain) → IsSavable chain → state_fault (kept chain) ≡ None
+abbrev pub SavedStateLaw : Type 0
+SavedStateLaw = (chain : Chain) → IsSavable chain → state_fault (kept chain) ≡ None
 
 -- where a state has no fault, a chain goes on from it that keeps this very state
-abbrev pub RestoredLaw : Type 0
-RestoredLaw = (state : State) → state_form.in_range state → state_fault state ≡ None
+abbrev pub RestoredStateLaw : Type 0
+RestoredStateLaw = (state : State) → state_form.in_range state → state_fault state ≡ None
     → IsSavable (chain_of state) × (kept (chain_of state) ≡ state)

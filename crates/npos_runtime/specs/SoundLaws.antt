@@ -4,7 +4,6 @@ use Rattle.block_wire.specs.declared.genesis.Genesis.{Genesis}
 use Rattle.block_wire.specs.declared.block.Block.{Block}
 use Rattle.block_wire.specs.Genesis.{genesis_form}
 use Rattle.block_wire.specs.Calls.{block_form}
-use Rattle.stake_ledger.specs.Ledger.{Ledger}
 use Rattle.chain_params.specs.Rules.{bonding_eras_of}
 use Rattle.npos_runtime.specs.declared.chain.Chain.{Chain}
 use Rattle.npos_runtime.specs.Genesis.{genesis_fault, genesis_chain}

@@ -4,7 +4,7 @@ ghost use Rattle.npos_base.specs.declared.account.AccountId.{AccountId};
 ghost use Rattle.npos_base.specs.declared.limits.TheConstants.{MOST_VOTERS};
 ghost use Rattle.voter_lists.specs.Roles.{role_of, validators_of};
 ghost use Rattle.voter_lists.specs.Ranked.{AreRanked};
-ghost use Rattle.election_snapshot.specs.Draft.{place_of, target_fault, with_target};
+ghost use Rattle.election_snapshot.specs.Draft.{place_of};
 ghost use Rattle.npos_runtime.specs.Ballots.{ballot_of, commission_in, commissions_of, is_eligible, snapshot_of, votes_of};
 ghost use Rattle.npos_runtime.specs.Rounds.{round_line, round_now};
 ghost use Rattle.npos_runtime.specs.Polling.{IsPolled, polled};
@@ -19,18 +19,6 @@ use npos_base::{AccountId, List, MOST_VOTERS, NoMemory};
 use std::alloc::Global;
 use voter_lists::{Role, Roles, Standing};
 
-/// Adds a target that has no fault.
-fn add_target(parts: &mut SnapshotParts, who: AccountId) -> Result<(), NoMemory>
-    requires { target_fault parts.old who ≡ None }
-    ensures { OnOk result (parts.new ≡ with_target parts.old who) }
-{
-    match parts.add_target(who) {
-        Ok(()) => Ok(()),
-        Err(SnapshotFault::NoMemory) => Err(NoMemory),
-        Err(_) => unreachable!(),
-    }
-}
-
 /// Adds all validators by rising account.
 #[tactic(auto, using(crate::proofs::BallotLemmas::target_free, crate::proofs::BallotLemmas::target_next))]
 fn add_targets(parts: &mut SnapshotParts, roles: &Roles) -> Result<(), NoMemory>
@@ -39,7 +27,7 @@ fn add_targets(parts: &mut SnapshotParts, roles: &Roles) -> Result<(), NoMemory>
     ensures { OnOk result (parts.new ≡ record { targets = validators_of roles.now; voters = [] }) }
 {
     for i in 0..roles.validator_count() {
-        add_target(parts, roles.validator_at(i))?;
+        parts.put_target(roles.validator_at(i))?;
     }
     Ok(())
 }

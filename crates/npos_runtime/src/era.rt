@@ -61,6 +61,7 @@ fn start(alloc: Global, eras: &mut EraBook, waiting: &Waiting) -> Result<(), NoM
     ensures { OnOk result (eras.new ≡ started (exposures_of waiting.now) eras.old) }
 {
     let elected = &waiting.elected;
+    // The snapshot is well formed, which `start_elected` asks for.
     let _seats = elected.snapshot().seats();
     let targets = targets(alloc, elected.snapshot())?;
     let voters = voters(alloc, elected.snapshot())?;

@@ -12,7 +12,7 @@ ghost use Rattle.npos_runtime.specs.EraLaws.{HistoryLaw, PaidOnLaw, PaidWithinRe
 ghost use Rattle.npos_runtime.specs.DeferredLaws.{QueuedLaw, AppliedLaw, TakenInAllLaw};
 ghost use Rattle.npos_runtime.specs.KeptLaws.{AlikeStepLaw, AlikeLaw, SameKeptLaw, ToldLaw, ResumeLaw, RestoreLaw, CheckpointLaw};
 ghost use Rattle.npos_runtime.specs.SoundLaws.{BooksStaySound, RolesStaySound, ErasStaySound, RoundStaysSound, SubmissionsStaySound, WaitingStaysSound, SlashesStaySound, StartsSound, KeepsSoundLaw, StaysSoundLaw, NoCauseLaw};
-ghost use Rattle.npos_runtime.specs.Savable.{SavableStartLaw, SavableStepLaw, SavedLaw, RestoredLaw};
+ghost use Rattle.npos_runtime.specs.Savable.{SavableStartLaw, SavableStepLaw, SavedStateLaw, RestoredStateLaw};
 
 use crate::Runtime;
 use election_check::laws::{a_packed_yes_is_a_plain_yes, a_plain_yes_is_passing};
@@ -228,11 +228,11 @@ pub fn chains_can_be_saved()
 
 /// The state of a chain that can be saved has no fault.
 pub fn a_saved_state_has_no_fault()
-    ensures { SavedLaw }
+    ensures { SavedStateLaw }
 {}
 
 /// Where a state has no fault, a chain goes on from it that can be saved, and keeps this very
 /// state.
 pub fn a_state_without_a_fault_is_kept()
-    ensures { RestoredLaw }
+    ensures { RestoredStateLaw }
 {}

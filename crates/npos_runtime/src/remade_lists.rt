@@ -81,6 +81,7 @@ fn score_in(thresholds: &[u64], bag: u32) -> u64
     requires scores { is_scoreless thresholds.now bag ≡ false }
     ensures { bag_of thresholds.now result ≡ bag }
 {
+    // What is read of them is in range: no threshold is above the greatest number.
     let _last = thresholds.last();
     match threshold_at(thresholds, bag as usize) {
         Some(threshold) => threshold,

@@ -1,13 +1,14 @@
 //! The round of a state that is open and its committee that waits, made anew.
 ghost use Rattle.std.specs.Prelude.{◌≡◌, [], map, Some, None, OnOk, IfOk, IfErr, option_map};
-ghost use Rattle.election_snapshot.specs.Draft.{target_fault, with_target, voter_fault, with_voter, seated};
+ghost use Rattle.election_snapshot.specs.Draft.{voter_fault, with_voter, seated};
 ghost use Rattle.election_check.specs.Plain.{verdict_plain};
 ghost use Rattle.election_check.specs.Seats.{IsReordered};
 ghost use Rattle.chain_params.specs.Rules.{seats_of};
 ghost use Rattle.chain_params.specs.Faults.{AreSound};
 ghost use Rattle.state_rules.specs.Rounds.{draft_of};
 ghost use Rattle.state_rules.specs.Sound.{IsSoundWaiting};
-ghost use Rattle.npos_runtime.specs.KeptChain.{params_in, committee_in, round_in};
+ghost use Rattle.state_rules.specs.Terms.{params_of};
+ghost use Rattle.npos_runtime.specs.KeptChain.{committee_in, round_in};
 ghost use Rattle.npos_runtime.specs.Live.{CanBeDue};
 ghost use Rattle.npos_runtime.specs.Restoring.{unless_yes, election_fault, IsDueFault};
 ghost use Rattle.npos_runtime.specs.Remade.{AreTargetsTaken, AreVotersTaken, IsBuilt, IsBuiltRound, IsBuiltCommittee};
@@ -22,18 +23,6 @@ use state_rules::{RoundRow, State, WaitingRow};
 use std::alloc::Global;
 use weight_book::Weights;
 
-/// Adds a target that has no fault.
-fn add_target(builder: &mut SnapshotBuilder, who: AccountId) -> Result<(), NoMemory>
-    requires { target_fault builder.old who ≡ None }
-    ensures { OnOk result (builder.new ≡ with_target builder.old who) }
-{
-    match builder.add_target(who) {
-        Ok(()) => Ok(()),
-        Err(SnapshotFault::NoMemory) => Err(NoMemory),
-        Err(_) => unreachable!(),
-    }
-}
-
 /// Adds the targets in order.
 fn add_targets(builder: &mut SnapshotBuilder, targets: &[(AccountId, u32)]) -> Result<(), NoMemory>
     requires empty { builder.old ≡ draft_of [] [] }
@@ -41,7 +30,7 @@ fn add_targets(builder: &mut SnapshotBuilder, targets: &[(AccountId, u32)]) -> R
     ensures { OnOk result (builder.new ≡ draft_of targets.now []) }
 {
     for target in targets {
-        add_target(builder, target.0)?;
+        builder.put_target(target.0)?;
     }
     Ok(())
 }
@@ -163,17 +152,18 @@ fn seal(alloc: Global, snapshot: Snapshot, weights: Weights) -> Result<Elected, 
 
 /// The committee that waits, with its commissions.
 fn committee_of(alloc: Global, state: &State, row: &WaitingRow) -> Result<Waiting, StateFault>
-    requires { IsBuiltCommittee (seats_of (params_in state.now)) row.now }
+    requires { IsBuiltCommittee (seats_of (params_of state.now)) row.now }
     ensures yes { OnOk result
-        (election_fault (params_in state.now) (Some row.now) ≡ None) }
-    ensures ok { IfOk result (λ waiting. waiting ≡ committee_in (params_in state.now) row.now) }
+        (election_fault (params_of state.now) (Some row.now) ≡ None) }
+    ensures ok { IfOk result (λ waiting. waiting ≡ committee_in (params_of state.now) row.now) }
     ensures refused { IfErr result
-        (IsDueFault (election_fault (params_in state.now) (Some row.now))) }
+        (IsDueFault (election_fault (params_of state.now) (Some row.now))) }
 {
     let snapshot = snapshot_of(alloc, seats_in(state), &row.round)?;
     let weights = weights_of(alloc, &snapshot, row)?;
     let commissions = commissions_of(alloc, row.round.targets.as_slice())?;
     let elected = seal(alloc, snapshot, weights)?;
+    // Members rise, and so do the row's: sealing has put none in another place.
     let _members = elected.committee();
     Ok(Waiting {
         elected,
@@ -183,7 +173,7 @@ fn committee_of(alloc: Global, state: &State, row: &WaitingRow) -> Result<Waitin
 
 /// How many are elected in a round.
 fn seats_in(state: &State) -> u32
-    ensures { result ≡ seats_of (params_in state.now) }
+    ensures { result ≡ seats_of (params_of state.now) }
 {
     match &state.params {
         None => 1,
@@ -195,11 +185,11 @@ fn seats_in(state: &State) -> u32
 pub fn waiting_of(alloc: Global, state: &State) -> Result<Option<Waiting>, StateFault>
     requires { IsSoundWaiting state.now state.now.waiting }
     ensures yes { OnOk result
-        (election_fault (params_in state.now) state.now.waiting ≡ None) }
+        (election_fault (params_of state.now) state.now.waiting ≡ None) }
     ensures ok { IfOk result (λ waiting. waiting
-        ≡ option_map (committee_in (params_in state.now)) state.now.waiting) }
+        ≡ option_map (committee_in (params_of state.now)) state.now.waiting) }
     ensures refused { IfErr result
-        (IsDueFault (election_fault (params_in state.now) state.now.waiting)) }
+        (IsDueFault (election_fault (params_of state.now) state.now.waiting)) }
 {
     let Some(row) = &state.waiting else {
         return Ok(None);

@@ -7,10 +7,10 @@ ghost use Rattle.chain_params.specs.Rules as rules;
 ghost use Rattle.chain_params.specs.Rules.{thresholds_in};
 ghost use Rattle.chain_params.specs.Faults.{AreSound, terms_fault};
 ghost use Rattle.state_rules.specs.Causes as causes;
-ghost use Rattle.state_rules.specs.Terms.{HasSoundTerms};
+ghost use Rattle.state_rules.specs.Terms.{HasSoundTerms, params_of, defer_of, defer_in};
 ghost use Rattle.state_rules.specs.Sound.{IsSoundState, HasSoundSlashes};
 ghost use Rattle.state_checkpoint.specs.Layout.{state_form};
-ghost use Rattle.npos_runtime.specs.KeptChain.{chain_of, params_in, defer_in, committee_in, roles_in, bag_entry, round_in, submission_in, eras_back};
+ghost use Rattle.npos_runtime.specs.KeptChain.{chain_of, committee_in, roles_in, bag_entry, round_in, submission_in, eras_back};
 ghost use Rattle.npos_runtime.specs.Remade.{AreRolesBetween, AreSoundItems, AreSoundEras, AreSoundSlashes, IsBuiltRound};
 ghost use Rattle.npos_runtime.specs.Live.{CanBeDue};
 ghost use Rattle.npos_runtime.specs.Restoring.{state_fault, due_fault, params_fault, stated, IsDueFault};
@@ -53,21 +53,24 @@ fn check_params(params: &Option<Params>, defer: u32) -> Result<(), StateFault>
 {
     match check_terms(params, defer) {
         Ok(()) => Ok(()),
-        Err(fault) => Err(StateFault::Cause {
-            number: 2,
-            detail: u64::from(fault.number()),
-        }),
+        Err(fault) => match fault.numbers() {
+            None => Err(StateFault::NoMemory),
+            Some((number, _)) => Err(StateFault::Cause {
+                number: 2,
+                detail: u64::from(number),
+            }),
+        },
     }
 }
 
 /// Whether the params of the state are without a fault, which takes them out of it meanwhile.
 fn check_terms_of(state: &mut State) -> Result<(), StateFault>
-    requires { length (thresholds_in (params_in state.old)) ≤ MOST_THRESHOLDS }
+    requires { length (thresholds_in (params_of state.old)) ≤ MOST_THRESHOLDS }
     ensures same { OnOk result (state.new ≡ state.old) }
     ensures ok { OnOk result
-        (terms_fault (params_in state.old) (defer_in state.old.params) ≡ None) }
+        (terms_fault (params_of state.old) (defer_of state.old) ≡ None) }
     ensures refused { IfErr result (IsDueFault (option_map params_fault
-        (terms_fault (params_in state.old) (defer_in state.old.params)))) }
+        (terms_fault (params_of state.old) (defer_of state.old)))) }
 {
     let Some((params, defer)) = state.params.take() else {
         return Ok(());
@@ -165,8 +168,8 @@ struct Past {
 /// The parts of a state but who waits.
 fn parts_of(state: State) -> (Terms, Accounts, Polls, Past)
     ensures terms { result.0 ≡ record {
-      params = params_in state;
-      defer = defer_in state.params;
+      params = params_of state;
+      defer = defer_of state;
       due = state.due;
     } }
     ensures accounts { result.1 ≡ record {
@@ -376,9 +379,9 @@ fn remake_state(alloc: Global, state: State, waiting: Option<Waiting>) -> Result
     requires terms { HasSoundTerms state }
     requires sound { IsSoundState state }
     requires slashes { HasSoundSlashes state }
-    requires thresholds { length (thresholds_in (params_in state)) ≤ MOST_THRESHOLDS }
+    requires thresholds { length (thresholds_in (params_of state)) ≤ MOST_THRESHOLDS }
     requires few { length state.slashes ≤ MOST_SLASHES }
-    requires elected { waiting ≡ option_map (committee_in (params_in state)) state.waiting }
+    requires elected { waiting ≡ option_map (committee_in (params_of state)) state.waiting }
     ensures { IfOk result (λ chain. chain ≡ chain_of state) }
 {
     let (terms, accounts, polls, past) = parts_of(state);
@@ -390,8 +393,8 @@ fn remake_state(alloc: Global, state: State, waiting: Option<Waiting>) -> Result
 #[tactic(auto, using(crate::proofs::RemadeStateLemmas::cause_first, crate::proofs::RemadeStateLemmas::election_first, crate::proofs::RemadeStateLemmas::slashes_first, crate::proofs::RemadeStateLemmas::no_fault))]
 fn go_on(alloc: Global, state: State) -> Result<Chain, StateFault>
     requires due { due_fault state.due ≡ None }
-    requires sound { terms_fault (params_in state) (defer_in state.params) ≡ None }
-    requires thresholds { length (thresholds_in (params_in state)) ≤ MOST_THRESHOLDS }
+    requires sound { terms_fault (params_of state) (defer_of state) ≡ None }
+    requires thresholds { length (thresholds_in (params_of state)) ≤ MOST_THRESHOLDS }
     requires few { length state.slashes ≤ MOST_SLASHES }
     ensures ok { IfOk result (λ chain. (state_fault state ≡ None) × (chain ≡ chain_of state)) }
     ensures refused { IfErr result (IsDueFault (state_fault state)) }

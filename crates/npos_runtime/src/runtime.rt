@@ -105,7 +105,8 @@ impl Runtime {
     }
 
     /// Takes the block whose number is due, and tells what happened in it. A block with another
-    /// number changes nothing. After want of memory the runtime is spent.
+    /// number changes nothing. After want of memory the runtime is spent; its books balance all the
+    /// same.
     pub fn apply(&mut self, block: Block) -> Result<Receipt, BlockFault>
         requires { length block.calls < 2 ^ 32 }
         ensures ok { IfOk result (λ receipt. AppliesWell self.old self.new block receipt.lines) }
@@ -113,8 +114,26 @@ impl Runtime {
         ensures spent { self.old.spent ≡ true → result ≡ Err faults.Spent }
         ensures wrong { self.old.spent ≡ false → block.number ≢ self.old.state.due
             → result ≡ Err (faults.WrongNumber self.old.state.due block.number) }
-        ensures books { OnOk result (IsBalanced self.new.state.book) }
+        ensures books { IsBalanced self.new.state.book }
         ensures listing { OnOk result (IsJoined self.new.state.roles self.new.state.bags) }
+        ensures ready { OnOk result (IsReady self.new.state) }
+    {
+        let result = self.take(block);
+        // the books tell that they balance, also where memory ran out
+        let _ = self.totals();
+        result
+    }
+
+    /// Takes the block, as `apply` does.
+    fn take(&mut self, block: Block) -> Result<Receipt, BlockFault>
+        requires { length block.calls < 2 ^ 32 }
+        ensures ok { IfOk result (λ receipt. AppliesWell self.old self.new block receipt.lines) }
+        ensures fault { IfErr result (HasFault self.old self.new block) }
+        ensures spent { self.old.spent ≡ true → result ≡ Err faults.Spent }
+        ensures wrong { self.old.spent ≡ false → block.number ≢ self.old.state.due
+            → result ≡ Err (faults.WrongNumber self.old.state.due block.number) }
+        ensures listing { OnOk result (IsJoined self.new.state.roles self.new.state.bags) }
+        ensures ready { OnOk result (IsReady self.new.state) }
     {
         if self.spent {
             return Err(BlockFault::Spent);

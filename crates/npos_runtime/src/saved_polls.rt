@@ -1,7 +1,6 @@
 //! The round that is open and the committee that waits, as rows.
 ghost use Rattle.std.specs.Prelude.{◌≡◌, ◌<◌, length, map, filter, option_map, IfOk};
 ghost use Rattle.std.specs.List.{zip};
-ghost use Rattle.npos_base.specs.Edge.{place_of as place};
 ghost use Rattle.election_snapshot.specs.Snapshot.{voter_at};
 ghost use Rattle.weight_book.specs.GivenEdges.{gives, kept_edges};
 ghost use Rattle.npos_runtime.specs.Kept.{open_of, kept_committee};
@@ -100,21 +99,15 @@ fn giving(alloc: Global, edges: &[Edge]) -> Result<Vec<Edge>, NoMemory>
     Ok(giving)
 }
 
-/// A number that rises with the voter, then with the target.
-fn place_of(edge: &Edge) -> u64
-    ensures { result ≡ place edge.now }
-{
-    u64::from(edge.voter) * 65_536 + u64::from(edge.target)
-}
-
 /// The edges that give something, by voter and then by target.
 fn edge_rows(alloc: Global, elected: &Elected) -> Result<List<Edge>, NoMemory>
     ensures { IfOk result (λ edges. edges ≡ kept_edges elected.now.weights.plain.edges) }
 {
+    // The snapshot is well formed and the weights are feasible: no two edges have one place.
     let _seats = elected.snapshot().seats();
     let _members = elected.committee();
     let mut edges = giving(alloc, elected.edges())?;
-    edges.sort_unstable_by_key(|edge| place_of(edge));
+    edges.sort_unstable_by_key(|edge| edge.place());
     Ok(List::from_vec(edges))
 }
 

@@ -3,6 +3,7 @@ use Rattle.std.proofs.Common.{◌≡◌, ℕ, suc, ◌+◌, Bool, true, false, n
 use Rattle.std.specs.List.{prefix_len}
 use Rattle.stake_ledger.specs.Ledger.{Ledger}
 use Rattle.submission_queue.specs.declared.submission.Submission.{Submission}
+use Rattle.submission_queue.specs.Ranking.{Ranking}
 use Rattle.election_snapshot.specs.Snapshot.{Snapshot}
 use Rattle.election_check.specs.declared.verdict.Verdict.{Verdict}
 use Rattle.election_check.specs.declared.verdict.Verdict.TheVariants as verdicts
@@ -14,7 +15,7 @@ use Rattle.block_receipts.specs.declared.line.Line.{Line}
 use Rattle.block_receipts.specs.declared.line.Line.TheVariants as lines
 use Rattle.std.proofs.lemmas.List.{append-nil}
 use Rattle.round_decision.specs.Deposits.{burned, all_burned}
-use Rattle.round_decision.specs.Decision.{judged, is_yes, fails, losers, others, decided_weights, forfeit_line, paid_out, paid_lines, rising, seat_line, books_decided, deposit_lines, Stops}
+use Rattle.round_decision.specs.Decision.{judged, is_yes, fails, losers, others, decided_weights, forfeit_line, paid_out, paid_lines, rising, seat_line, books_decided, deposit_lines, Stops, IsLeft}
 
 no_yes : (verdict : Verdict) → (verdict ≡ verdicts.Yes → ⊥) → is_yes verdict ≡ false
 no_yes verdicts.Yes other = absurd (other refl)
@@ -152,3 +153,23 @@ stops_later snapshot item rest book now told told_now fails stops =
 pub on_err : {T E : Type 0} {P : Type 0} (result : Result T E) → P → OnErr result P
 on_err (Ok value) holds = tt
 on_err (Err error) holds = holds
+
+-- nothing was taken from the queue
+pub left_whole : (queue : Ranking) → IsLeft queue queue
+left_whole queue = record { places = refl; taken = []; split = refl }
+
+-- one more was taken, if there was one
+pub left_later : (queue now next : Ranking) → IsLeft queue now → next ≡ record now { items = drop 1 now.items } → IsLeft queue next
+left_later queue now next left is = at now.items refl where
+  at : (items : List Submission) → now.items ≡ items → IsLeft queue next
+  at [] e = record {
+    places = ap (λ (q : Ranking). q.places) is ∙ left.places;
+    taken = left.taken;
+    split = left.split ∙ ap (λ xs. left.taken ++ xs) (e ∙ sym (ap (λ (q : Ranking). q.items) is ∙ ap (drop 1) e));
+  }
+  at (item ∷ items) e = record {
+    places = ap (λ (q : Ranking). q.places) is ∙ left.places;
+    taken = left.taken ++ item ∷ [];
+    split = left.split ∙ (ap (λ xs. left.taken ++ xs) (e ∙ ap (λ xs. item ∷ xs) (sym (ap (λ (q : Ranking). q.items) is ∙ ap (drop 1) e)))
+        ∙ sym (append_assoc left.taken (item ∷ []) next.items));
+  }

@@ -5,6 +5,7 @@ use Rattle.std.specs.List.{prefix_len, range_with_len}
 use Rattle.stake_ledger.specs.Ledger.{Ledger}
 use Rattle.stake_ledger.specs.Calls.{minted_free, room_of}
 use Rattle.submission_queue.specs.declared.submission.Submission.{Submission}
+use Rattle.submission_queue.specs.Ranking.{Ranking}
 use Rattle.election_snapshot.specs.Snapshot.{Snapshot, has, no_account}
 use Rattle.weight_book.specs.Weights.{Weights, support}
 use Rattle.compact_solution.specs.Decoded.{decoded}
@@ -107,3 +108,9 @@ abbrev pub Stops : Snapshot → List Submission → Ledger → Ledger → List L
 Stops snapshot items book now lines lines_now = (count : ℕ)
     × (now ≡ all_burned (take count (losers snapshot items)) book)
     × (lines_now ≡ lines ++ map (forfeit_line snapshot) (take count (losers snapshot items)))
+
+-- the queue is left without its first submissions, however many
+pub record IsLeft (old new : Ranking) : Type 0 where
+  pub places : new.places ≡ old.places
+  pub taken : List Submission
+  pub split : old.items ≡ taken ++ new.items

@@ -12,7 +12,7 @@ ghost use Rattle.election_check.specs.Plain.{verdict_plain};
 ghost use Rattle.quota_fill.specs.Filled.{filled};
 ghost use Rattle.block_receipts.specs.declared.line.Line.TheVariants as told;
 ghost use Rattle.round_decision.specs.Deposits.{AreHeld, burned, all_burned};
-ghost use Rattle.round_decision.specs.Decision.{judged, losers, others, decided_weights, forfeit_line, reward_in, rewarded, paid_out, paid_lines, rising, member_line, member_lines, books_decided, deposit_lines, Stops};
+ghost use Rattle.round_decision.specs.Decision.{judged, losers, others, decided_weights, forfeit_line, reward_in, rewarded, paid_out, paid_lines, rising, member_line, member_lines, books_decided, deposit_lines, Stops, IsLeft};
 
 use crate::deposits::{give_back, return_all};
 use block_receipts::Line;
@@ -26,16 +26,6 @@ use stake_ledger::Book;
 use std::alloc::Global;
 use submission_queue::{Queue, Submission};
 use weight_book::Weights;
-
-/// A checker of the round's snapshot.
-fn checker_of(alloc: Global, snapshot: Snapshot) -> Result<Checker, NoMemory>
-    ensures { IfOk result (λ checker. checker ≡ snapshot) }
-{
-    match Checker::new(alloc, snapshot) {
-        Ok(checker) => Ok(checker),
-        Err((_, want)) => Err(want),
-    }
-}
 
 /// The deposit of a submission that does not hold is gone. Where there is no memory for the line
 /// that tells it, nothing has changed.
@@ -65,7 +55,7 @@ fn forfeit(
 /// Judges the submissions by rank up to the first that holds, which is the winner. The deposits of
 /// those before it are burned, also where memory is refused before it is found. The weights of its
 /// solution are then in `weights`.
-#[tactic(auto, using(crate::proofs::DepositLemmas::front, crate::proofs::DepositLemmas::held_within))]
+#[tactic(auto, using(crate::proofs::DepositLemmas::front, crate::proofs::DepositLemmas::held_within, crate::proofs::DecisionLemmas::left_later, crate::proofs::DecisionLemmas::left_whole))]
 fn find_winner(
     alloc: Global,
     checker: &mut Checker,
@@ -88,6 +78,7 @@ fn find_winner(
     ensures held { OnOk result (AreHeld book.new (others checker.old queue.old.items)) }
     ensures so_far { Stops checker.old queue.old.items book.old book.new lines.old.items
         lines.new.items }
+    ensures left { IsLeft queue.old queue.new }
     ensures weights { IfOk result (λ winner. IfSome winner
         (λ item. weights.new.plain ≡ weights_decoded checker.old (decoded item.bytes))) }
     ensures valid { IfOk result (λ winner. IfSome winner
@@ -148,6 +139,7 @@ fn pay_out(
     ensures queue { OnOk result (queue.new ≡ empty_queue queue.old.places) }
     ensures unchanged { OnErr result (book.new ≡ book.old) }
     ensures untold { OnErr result (lines.new.items ≡ lines.old.items) }
+    ensures waiting { OnErr result (queue.new ≡ queue.old) }
 {
     lines.reserve(queue.items().len() + 3)?;
     give_back(book, lines, winner);
@@ -167,6 +159,7 @@ fn seat(checker: Checker, weights: Weights) -> Elected
     ensures weights { result.weights.plain ≡ rising checker weights.plain }
 {
     let elected = checker.elect(weights);
+    // The committee rises, so it is the one of the weights put in rising order.
     let _committee = elected.committee();
     elected
 }
@@ -179,6 +172,7 @@ fn seat_fill(alloc: Global, checker: Checker) -> Result<Elected, NoMemory>
 {
     every_fill_passes();
     a_plain_yes_is_passing();
+    // The snapshot is well formed, so its fill passes.
     let _seats = checker.snapshot().seats();
     let weights = fill(alloc, checker.snapshot())?;
     Ok(seat(checker, weights))
@@ -198,7 +192,9 @@ fn seat_winner(checker: Checker, weights: Weights, winner: &Submission) -> Elect
 
 /// Settles the submissions of the round of this number, and elects its committee. The amount is the
 /// reward of the winner. Where memory is refused, some of the submissions that do not hold have lost
-/// their deposits, the first ones by rank, which is told; nothing else has changed in the books.
+/// their deposits, the first ones by rank, which is told; nothing else has changed in the books, and
+/// the queue keeps those behind the ones that were looked at.
+#[tactic(auto, using(crate::proofs::DecisionLemmas::left_whole))]
 pub fn decide(
     alloc: Global,
     number: u32,
@@ -219,9 +215,10 @@ pub fn decide(
         ≡ rising snapshot (decided_weights snapshot (others snapshot queue.old.items))) }
     ensures stops { OnErr result (Stops snapshot queue.old.items book.old book.new
         lines.old.items lines.new.items) }
+    ensures left { OnErr result (IsLeft queue.old queue.new) }
 {
     let mut weights = Weights::with_room(alloc, &snapshot)?;
-    let mut checker = checker_of(alloc, snapshot)?;
+    let mut checker = Checker::of(alloc, snapshot)?;
     match find_winner(alloc, &mut checker, &mut weights, queue, book, lines)? {
         Some(winner) => {
             pay_out(book, lines, queue, &winner, amount, number)?;

@@ -3,5 +3,5 @@ use Rattle.npos_runtime.proofs.ballot.add_targets.Goals as goal
 
 pub loop-i-preserved : goal.loop-i-preserved
 loop-i-preserved c =
-    target_next c.args.roles.now c.loop-i.parts c.add_target.new.parts c.loop-i.i c.validator_at.result c.loop-i.invariant c.validator_at.ensures
-    c.in_ok-add_target.ensures
+    target_next c.args.roles.now c.loop-i.parts c.put_target.new.self c.loop-i.i c.validator_at.result c.loop-i.invariant c.validator_at.ensures
+    c.in_ok-put_target.ensures.ok

@@ -1,4 +1,4 @@
-use Rattle.std.proofs.Common.{rules, ◌≡◌, ◌∙◌, ◌+◌, ◌++◌, [], map, min, ap, sym, subst, arith}
+use Rattle.std.proofs.Common.{rules, ◌∙◌, ◌+◌, [], map, min, ap, sym, subst, arith}
 use Rattle.npos_base.specs.declared.limits.TheConstants.{MOST_PAST_ERAS}
 use Rattle.era_book.specs.Eras.{Eras, is_unknown, with_members}
 use Rattle.state_rules.specs.Sound.{EachIs, IsSoundEra}

@@ -1,9 +1,8 @@
-use Rattle.std.proofs.Common.{◌∙◌, ap, sym, subst}
+use Rattle.std.proofs.Common.{sym, subst}
 use Rattle.std.specs.List.Sorted.{IsStrictlySortedBy}
 use Rattle.std.specs.Map.{keys_of}
 use Rattle.npos_base.specs.Account.{account_cmp}
 use Rattle.era_book.specs.Members.{Members}
-use Rattle.era_book.specs.Eras.{with_members}
 use Rattle.npos_runtime.proofs.RemadeEraLemmas.{members_rise, members_sound}
 use Rattle.npos_runtime.proofs.remade_eras.put_era.Goals as goal
 

@@ -2,7 +2,7 @@ use Rattle.std.proofs.Common.{◌≡◌, ◌∙◌, map, ap, subst}
 use Rattle.std.specs.List.Sorted.{IsPermutation, IsStrictlyIncreasing}
 use Rattle.weight_book.specs.Weights.{Weights}
 use Rattle.state_rules.specs.Rounds.{Target}
-use Rattle.npos_runtime.specs.KeptChain.{params_in}
+use Rattle.state_rules.specs.Terms.{params_of}
 use Rattle.npos_runtime.proofs.RemadePollLemmas.{same_members, built_snapshot}
 use Rattle.npos_runtime.proofs.remade_polls.committee_of.Goals as goal
 
@@ -17,7 +17,7 @@ returns-clause-ok c =
     subst IsStrictlyIncreasing c.committee-members.ensures.members c.committee-members.ensures.rising in
     let members = same_members row.committee elected.weights.plain.committee c.requires.1.committee moved rising in
     λ i. record {
-      snapshot = (c.in_ok-elected.ensures.snapshot ∙ built_snapshot row.round c.in_ok-snapshot.snapshot c.seats_in.result (params_in c.args.state.now) c.seats_in.ensures c.in_ok-snapshot.ensures) i;
+      snapshot = (c.in_ok-elected.ensures.snapshot ∙ built_snapshot row.round c.in_ok-snapshot.snapshot c.seats_in.result (params_of c.args.state.now) c.seats_in.ensures c.in_ok-snapshot.ensures) i;
       weights = record {
         committee = members i;
         edges = (c.in_ok-elected.ensures.weights.edges ∙ (λ j. (weights j).edges)) i;

@@ -1,10 +1,10 @@
-use Rattle.std.proofs.Common.{◌≡◌, ◌≤◌, length, None, ap, sym, subst}
+use Rattle.std.proofs.Common.{◌≡◌, ◌≤◌, length, None, sym, subst}
 use Rattle.npos_base.specs.declared.limits.TheConstants.{MOST_THRESHOLDS}
 use Rattle.era_book.specs.declared.deferred.TheConstants.{MOST_SLASHES}
 use Rattle.chain_params.specs.Rules.{thresholds_in}
 use Rattle.chain_params.specs.Faults.{terms_fault}
 use Rattle.state_rules.specs.declared.state.State.{State}
-use Rattle.npos_runtime.specs.KeptChain.{params_in, defer_in}
+use Rattle.state_rules.specs.Terms.{params_of, defer_of}
 use Rattle.npos_runtime.specs.Restoring.{due_fault}
 use Rattle.npos_runtime.proofs.RemadeStateLemmas.{few_thresholds, few_slashes}
 use Rattle.npos_runtime.proofs.restoring.chain_of.Goals as goal
@@ -17,11 +17,11 @@ go_on-requires-clause-due c = subst (λ (state : State). due_fault state.due ≡
 
 pub go_on-requires-clause-sound : goal.go_on-requires-clause-sound
 go_on-requires-clause-sound c =
-    subst (λ (state : State). terms_fault (params_in state) (defer_in state.params) ≡ None) (sym c.in_ok-check_terms_of.ensures.same) c.in_ok-check_terms_of.ensures.ok
+    subst (λ (state : State). terms_fault (params_of state) (defer_of state) ≡ None) (sym c.in_ok-check_terms_of.ensures.same) c.in_ok-check_terms_of.ensures.ok
 
 pub go_on-requires-clause-thresholds : goal.go_on-requires-clause-thresholds
 go_on-requires-clause-thresholds c =
-    subst (λ (state : State). length (thresholds_in (params_in state)) ≤ MOST_THRESHOLDS) (sym c.in_ok-check_terms_of.ensures.same) (few_thresholds c.args.state c.requires)
+    subst (λ (state : State). length (thresholds_in (params_of state)) ≤ MOST_THRESHOLDS) (sym c.in_ok-check_terms_of.ensures.same) (few_thresholds c.args.state c.requires)
 
 pub go_on-requires-clause-few : goal.go_on-requires-clause-few
 go_on-requires-clause-few c =

@@ -8,7 +8,7 @@ use Rattle.block_receipts.specs.declared.line.Line.TheVariants as lines
 use Rattle.round_decision.specs.Deposits.{AreHeld, burned, all_burned}
 use Rattle.round_decision.specs.Decision.{judged, losers, others, forfeit_line, Stops}
 use Rattle.round_decision.proofs.DepositLemmas.{front, held_burned}
-use Rattle.round_decision.proofs.DecisionLemmas.{fails_first, fails_by, stops_later}
+use Rattle.round_decision.proofs.DecisionLemmas.{fails_first, fails_by, stops_later, left_later}
 use Rattle.round_decision.proofs.decision.find_winner.Goals as goal
 
 pub items-preserved : goal.items-preserved
@@ -42,6 +42,7 @@ items-preserved c =
           ∙ ((λ i. c.items.lines.items ++ (lines.Forfeit item.number item.deposit (seen i) ∷ map (forfeit_line snapshot) (losers snapshot later)))
           ∙ (ap (λ (xs : List Submission). c.items.lines.items ++ map (forfeit_line snapshot) xs) (sym lost) ∙ c.items.invariant.lines)));
       places = ap (λ (q : Ranking). q.places) c.take_best.ensures.rest ∙ c.items.invariant.places;
+      left = left_later c.args.queue.now c.items.queue c.take_best.new.self c.items.invariant.left c.take_best.ensures.rest;
       so_far = λ book now stops. c.items.invariant.so_far book now
           (subst (λ (xs : List Submission). Stops snapshot xs c.items.book book c.items.lines.items now) (sym first)
           (stops_later snapshot item later c.items.book book c.items.lines.items now (fails_by snapshot item (λ e. c.in_default-2.not-Yes (seen ∙ e)))
@@ -50,3 +51,7 @@ items-preserved c =
           (told.line ∙ (λ i. c.items.lines.items ++ (lines.Forfeit item.number item.deposit (seen i) ∷ [])))
           (subst (λ (xs : List Submission). Stops snapshot xs c.forfeit.new.book book c.forfeit.new.lines.items now) rest stops)))));
     }
+
+pub returns-in_err-forfeit-in_default-2-clause-left : goal.returns-in_err-forfeit-in_default-2-clause-left
+returns-in_err-forfeit-in_default-2-clause-left c =
+    left_later c.args.queue.now c.items.queue c.take_best.new.self c.items.invariant.left c.take_best.ensures.rest
