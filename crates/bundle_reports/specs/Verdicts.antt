@@ -1,5 +1,5 @@
 -- The lines that tell of an election: words, and then numbers in decimal behind a blank each.
-use Rattle.std.specs.Prelude.{ℕ, List, [], ◌∷◌, ◌++◌, codes, decimal}
+use Rattle.std.specs.Prelude.{ℕ, List, [], ◌∷◌, ◌++◌, Option, Some, None, option_to_list, codes, decimal}
 use Rattle.hex.specs.Hex.{encode_lower}
 use Rattle.npos_base.specs.declared.figures.Score.{Score}
 use Rattle.npos_base.specs.declared.limits.TheConstants.{MOST_TARGETS, MOST_VOTERS}
@@ -10,6 +10,7 @@ use Rattle.election_check.specs.declared.verdict.Verdict.{Verdict}
 use Rattle.election_check.specs.declared.verdict.Verdict.TheVariants as verdicts
 use Rattle.election_check.specs.Number.{verdict_number}
 use Rattle.npos_base.specs.declared.account.AccountId.{AccountId}
+use Rattle.bundle_reports.specs.declared.numbers.FaultNumbers.{FaultNumbers}
 use Rattle.told_lines.specs.Texts.{newline, account_text, number_text, numbers_line}
 
 abbrev pub score_numbers : Score → List ℕ
@@ -70,6 +71,14 @@ fault_numbers (faults.TooManyVotes place) = 11 ∷ place ∷ []
 fault_numbers (faults.TotalTooLarge place) = 12 ∷ place ∷ []
 fault_numbers (faults.BadSeats seats) = 13 ∷ seats ∷ []
 fault_numbers faults.NoMemory = []
+
+-- the same as they are handed on
+abbrev pub told_details : FaultNumbers → List ℕ
+told_details numbers = numbers.detail ∷ option_to_list numbers.seats
+
+abbrev pub told_numbers : Option FaultNumbers → List ℕ
+told_numbers None = []
+told_numbers (Some numbers) = numbers.number ∷ told_details numbers
 
 abbrev pub snapshot_line : SnapshotFault → List ℕ
 snapshot_line fault = numbers_line (codes "fault 0 snapshot") (fault_numbers fault)

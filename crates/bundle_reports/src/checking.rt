@@ -13,16 +13,6 @@ use npos_base::{Edge, List, NoMemory, Score};
 use std::alloc::Global;
 use weight_book::Weights;
 
-/// A checker for this snapshot.
-pub fn checker_of(alloc: Global, snapshot: Snapshot) -> Result<Checker, NoMemory>
-    ensures { IfOk result (λ checker. checker ≡ snapshot) }
-{
-    match Checker::new(alloc, snapshot) {
-        Ok(checker) => Ok(checker),
-        Err((_, want)) => Err(want),
-    }
-}
-
 /// The verdict on a committee and edges.
 pub fn plain_verdict(
     alloc: Global,
@@ -34,7 +24,7 @@ pub fn plain_verdict(
         ≡ verdict_plain snapshot (record { committee = committee; edges = edges })) }
 {
     let weights = Weights::of(alloc, snapshot.target_count(), committee, edges)?;
-    let mut checker = checker_of(alloc, snapshot)?;
+    let mut checker = Checker::of(alloc, snapshot)?;
     Ok(checker.verdict(&weights))
 }
 
@@ -48,7 +38,7 @@ pub fn packed_verdict(
     ensures { IfOk result (λ verdict. verdict ≡ verdict_packed snapshot claim.now bytes.now) }
 {
     let mut weights = Weights::with_room(alloc, &snapshot)?;
-    let mut checker = checker_of(alloc, snapshot)?;
+    let mut checker = Checker::of(alloc, snapshot)?;
     checker.judge_bytes(alloc, bytes, claim, &mut weights)
 }
 

@@ -8,7 +8,7 @@ ghost use Rattle.election_check.specs.Laws.{packed_of};
 ghost use Rattle.seq_phragmen.specs.Mined.{mined};
 ghost use Rattle.bundle_reports.specs.Demo.{IsPackedAs, fill_line, seq_line, election_text, demo_report};
 
-use crate::checking::checker_of;
+use crate::laws::every_snapshot_is_well_formed;
 use crate::mining::{Judged, judge, packed_weights};
 use crate::numbers::{tell_judged, tell_lost, tell_size};
 use compact_solution::{PackFault, Solution};
@@ -37,7 +37,7 @@ fn tell_fill(text: &mut Vec<u8>, checker: &mut Checker, weights: &Weights) -> Re
         ++ fill_line checker.old weights.now.plain) }
     ensures snapshot { checker.new ≡ checker.old }
 {
-    let _seats = checker.snapshot().seats();
+    every_snapshot_is_well_formed(checker.snapshot());
     let verdict = checker.verdict(weights);
     tell_judged(text, "fill score", &weights.score(), verdict)
 }
@@ -70,11 +70,11 @@ fn tell_packed(
 fn tell_election(alloc: Global, text: &mut Vec<u8>, snapshot: Snapshot) -> Result<(), NoMemory>
     ensures { OnOk result (text.new.items ≡ text.old.items ++ election_text snapshot) }
 {
-    let _seats = snapshot.seats();
+    every_snapshot_is_well_formed(&snapshot);
     let filled = fill(alloc, &snapshot)?;
     let packed = packed_by_load(alloc, &snapshot);
     tell_size(text, &snapshot)?;
-    let mut checker = checker_of(alloc, snapshot)?;
+    let mut checker = Checker::of(alloc, snapshot)?;
     tell_fill(text, &mut checker, &filled)?;
     tell_packed(alloc, text, &mut checker, packed)
 }

@@ -17,12 +17,12 @@ mod telling;
 
 pub use answers::Answer;
 pub use asked::{Miner, Rewriting, Task};
-pub use checking::{checker_of, packed_verdict, plain_verdict};
+pub use checking::{packed_verdict, plain_verdict};
 pub use demo::demo_text;
 pub use election::snapshot_of;
 pub use ending::Ending;
 pub use mining::{Judged, judge, packed_weights};
-pub use numbers::{tell_member, tell_verdict, tell_verdict_behind};
+pub use numbers::{FaultNumbers, numbers_of, tell_member, tell_verdict, tell_verdict_behind};
 pub use reading::{Election, MOST_BUNDLE};
 pub use rewriting::rewrite_bytes;
 pub use tasks::answer_bytes;

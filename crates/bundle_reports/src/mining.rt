@@ -12,7 +12,7 @@ ghost use Rattle.bundle_reports.specs.Rounds.{MinerHasRounds};
 
 use crate::answers::{Answer, lost, told};
 use crate::asked::Miner;
-use crate::checking::checker_of;
+use crate::laws::every_snapshot_is_well_formed;
 use crate::numbers::{tell_member, tell_score, tell_solution};
 use compact_solution::{PackFault, Solution, pack};
 use election_check::{Checker, Verdict};
@@ -42,7 +42,7 @@ fn tell_weights(text: &mut Vec<u8>, snapshot: &Snapshot, weights: Weights) -> Re
     ensures { OnOk result (text.new.items ≡ text.old.items
         ++ weights_lines snapshot.now weights.plain) }
 {
-    let _seats = snapshot.seats();
+    every_snapshot_is_well_formed(snapshot);
     let score = weights.score();
     let mut rising = weights;
     rising.sort_members();
@@ -55,9 +55,9 @@ fn tell_weights(text: &mut Vec<u8>, snapshot: &Snapshot, weights: Weights) -> Re
 fn mine_by_fill(alloc: Global, snapshot: Snapshot) -> Result<Answer, NoMemory>
     ensures { IfOk result (λ answer. IsMineReport miners.Fill snapshot (report_of answer)) }
 {
-    let _seats = snapshot.seats();
+    every_snapshot_is_well_formed(&snapshot);
     let weights = fill(alloc, &snapshot)?;
-    let mut checker = checker_of(alloc, snapshot)?;
+    let mut checker = Checker::of(alloc, snapshot)?;
     let verdict = checker.verdict(&weights);
     let mut lines = Vec::new(alloc);
     tell_weights(&mut lines, checker.snapshot(), weights)?;
@@ -87,7 +87,7 @@ pub fn judge(alloc: Global, checker: &mut Checker, solution: Solution) -> Result
         (score_of (expanded checker.old solution)) (solution_form.spelling solution)) }
     ensures snapshot { checker.new ≡ checker.old }
 {
-    let _seats = checker.snapshot().seats();
+    every_snapshot_is_well_formed(checker.snapshot());
     let mut weights = Weights::with_room(alloc, checker.snapshot())?;
     let mut again = Weights::with_room(alloc, checker.snapshot())?;
     let _yes = checker.expand(&solution, &mut weights);
@@ -113,7 +113,7 @@ fn answer_solution(
     requires { expand_fault snapshot solution ≡ None }
     ensures { IfOk result (λ answer. report_of answer ≡ solution_report snapshot solution) }
 {
-    let mut checker = checker_of(alloc, snapshot)?;
+    let mut checker = Checker::of(alloc, snapshot)?;
     let Judged {
         weights,
         score: _,
@@ -142,7 +142,7 @@ pub fn packed_weights(
         × (fault ≡ PackFault.LostWinner member)
         × (packed_of snapshot.now weights.now.plain ≡ Err member)) }
 {
-    let _seats = snapshot.seats();
+    every_snapshot_is_well_formed(snapshot);
     pack(
         alloc,
         snapshot.stakes(),

@@ -1,8 +1,8 @@
 //! The lines that tell of an election.
-ghost use Rattle.std.specs.Prelude.{◌≡◌, ◌≢◌, [], ◌∷◌, ◌++◌, flat_map, codes, OnOk};
+ghost use Rattle.std.specs.Prelude.{◌≡◌, ◌≢◌, Some, [], ◌∷◌, ◌++◌, flat_map, IfSome, OnOk};
 ghost use Rattle.election_snapshot.specs.declared.fault.SnapshotFault.TheVariants as faults;
 ghost use Rattle.told_lines.specs.Texts.{number_text, numbers_line, Keeps};
-ghost use Rattle.bundle_reports.specs.Verdicts.{member_line, score_numbers, score_line, solution_line, lost_line, verdict_details, verdict_numbers, verdict_line, fault_numbers, snapshot_line};
+ghost use Rattle.bundle_reports.specs.Verdicts.{member_line, score_numbers, score_line, solution_line, lost_line, verdict_details, verdict_numbers, verdict_line, fault_numbers, told_details, told_numbers, snapshot_line};
 ghost use Rattle.bundle_reports.specs.Demo.{judged_line, size_line};
 
 use election_check::Verdict;
@@ -182,37 +182,75 @@ pub fn tell_verdict(text: &mut Vec<u8>, verdict: Verdict) -> Result<(), NoMemory
     tell_verdict_behind(text, "verdict", verdict)
 }
 
-/// Appends the line of a number and its detail.
-fn tell_detail(text: &mut Vec<u8>, number: u128, detail: u32) -> Result<(), NoMemory>
-    ensures { OnOk result (text.new.items ≡ text.old.items
-        ++ numbers_line (codes "fault 0 snapshot") (number ∷ detail ∷ [])) }
-{
-    tell(
-        text,
-        &[
-            Piece::Words("fault 0 snapshot"),
-            Piece::Detail(number),
-            Piece::Detail(u128::from(detail)),
-            Piece::Words("\n"),
-        ],
-    )
+/// A fault of an election in numbers: its own, and one detail or two.
+#[derive(Clone, Copy, Debug)]
+pub struct FaultNumbers {
+    pub number: u32,
+    pub detail: u64,
+    /// The seats, where the detail is a count that is too small for them.
+    pub seats: Option<u32>,
 }
 
-/// Appends the line of two counts of which one is too small for the other.
-fn tell_two(text: &mut Vec<u8>, number: u128, first: u128, second: u32) -> Result<(), NoMemory>
-    ensures { OnOk result (text.new.items ≡ text.old.items
-        ++ numbers_line (codes "fault 0 snapshot") (number ∷ first ∷ second ∷ [])) }
+impl FaultNumbers {
+    /// A number with its detail.
+    fn new(number: u32, detail: u32) -> FaultNumbers
+        ensures { told_numbers (Some result) ≡ number ∷ detail ∷ [] }
+    {
+        FaultNumbers {
+            number,
+            detail: u64::from(detail),
+            seats: None,
+        }
+    }
+
+    /// A number with a count that is too small for the seats.
+    fn too_small(number: u32, count: u64, seats: u32) -> FaultNumbers
+        ensures { told_numbers (Some result) ≡ number ∷ count ∷ seats ∷ [] }
+    {
+        FaultNumbers {
+            number,
+            detail: count,
+            seats: Some(seats),
+        }
+    }
+}
+
+/// The numbers of a fault of an election. Want of memory is no such fault, and has none.
+pub fn numbers_of(fault: SnapshotFault) -> Option<FaultNumbers>
+    ensures numbers { told_numbers result ≡ fault_numbers fault }
+    ensures memory { IfSome result (λ _. fault ≢ faults.NoMemory) }
 {
-    tell(
-        text,
-        &[
-            Piece::Words("fault 0 snapshot"),
-            Piece::Detail(number),
-            Piece::Detail(first),
-            Piece::Detail(u128::from(second)),
-            Piece::Words("\n"),
-        ],
-    )
+    let numbers = match fault {
+        SnapshotFault::Few { targets, seats } => {
+            FaultNumbers::too_small(1, u64::from(targets), seats)
+        }
+        SnapshotFault::Poor { total, seats } => FaultNumbers::too_small(2, total, seats),
+        SnapshotFault::RepeatedTarget(place) => FaultNumbers::new(3, place),
+        SnapshotFault::RepeatedVoter(place) => FaultNumbers::new(4, place),
+        SnapshotFault::UnknownTarget(place) => FaultNumbers::new(5, place),
+        SnapshotFault::RepeatedVote(place) => FaultNumbers::new(6, place),
+        SnapshotFault::NoVotes(place) => FaultNumbers::new(7, place),
+        SnapshotFault::ZeroStake(place) => FaultNumbers::new(8, place),
+        SnapshotFault::TooManyTargets => FaultNumbers::new(9, MOST_TARGETS as u32),
+        SnapshotFault::TooManyVoters => FaultNumbers::new(10, MOST_VOTERS as u32),
+        SnapshotFault::TooManyVotes(place) => FaultNumbers::new(11, place),
+        SnapshotFault::TotalTooLarge(place) => FaultNumbers::new(12, place),
+        SnapshotFault::BadSeats(seats) => FaultNumbers::new(13, seats),
+        SnapshotFault::NoMemory => return None,
+    };
+    Some(numbers)
+}
+
+/// Appends the details of a fault of an election.
+fn tell_fault_details(text: &mut Vec<u8>, numbers: FaultNumbers) -> Result<(), NoMemory>
+    ensures { OnOk result (text.new.items ≡ text.old.items
+        ++ flat_map number_text (told_details numbers)) }
+{
+    let detail = Piece::Detail(u128::from(numbers.detail));
+    match numbers.seats {
+        None => tell(text, &[detail]),
+        Some(seats) => tell(text, &[detail, Piece::Detail(u128::from(seats))]),
+    }
 }
 
 /// Appends the line of an election that has a fault. Want of memory is no fault of an election, and
@@ -221,20 +259,16 @@ pub fn tell_snapshot_fault(text: &mut Vec<u8>, fault: SnapshotFault) -> Result<(
     ensures line { OnOk result (text.new.items ≡ text.old.items ++ snapshot_line fault) }
     ensures memory { OnOk result (fault ≢ faults.NoMemory) }
 {
-    match fault {
-        SnapshotFault::Few { targets, seats } => tell_two(text, 1, u128::from(targets), seats),
-        SnapshotFault::Poor { total, seats } => tell_two(text, 2, u128::from(total), seats),
-        SnapshotFault::RepeatedTarget(place) => tell_detail(text, 3, place),
-        SnapshotFault::RepeatedVoter(place) => tell_detail(text, 4, place),
-        SnapshotFault::UnknownTarget(place) => tell_detail(text, 5, place),
-        SnapshotFault::RepeatedVote(place) => tell_detail(text, 6, place),
-        SnapshotFault::NoVotes(place) => tell_detail(text, 7, place),
-        SnapshotFault::ZeroStake(place) => tell_detail(text, 8, place),
-        SnapshotFault::TooManyTargets => tell_detail(text, 9, MOST_TARGETS as u32),
-        SnapshotFault::TooManyVoters => tell_detail(text, 10, MOST_VOTERS as u32),
-        SnapshotFault::TooManyVotes(place) => tell_detail(text, 11, place),
-        SnapshotFault::TotalTooLarge(place) => tell_detail(text, 12, place),
-        SnapshotFault::BadSeats(seats) => tell_detail(text, 13, seats),
-        SnapshotFault::NoMemory => Err(NoMemory),
-    }
+    let Some(numbers) = numbers_of(fault) else {
+        return Err(NoMemory);
+    };
+    tell(
+        text,
+        &[
+            Piece::Words("fault 0 snapshot"),
+            Piece::Detail(u128::from(numbers.number)),
+        ],
+    )?;
+    tell_fault_details(text, numbers)?;
+    tell(text, &[Piece::Words("\n")])
 }

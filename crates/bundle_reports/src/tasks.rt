@@ -10,6 +10,7 @@ ghost use Rattle.bundle_reports.specs.Rounds.{TaskHasRounds};
 use crate::answers::Answer;
 use crate::asked::Task;
 use crate::checking::check_work;
+use crate::laws::every_snapshot_is_well_formed;
 use crate::mining::mine;
 use crate::reading::{Election, Reading, read_election};
 use npos_base::NoMemory;
@@ -41,7 +42,7 @@ fn answer_election(
     ensures passes { task ≡ tasks.Mine miners.Fill
         → IfOk result (λ answer. answer.ending ≢ endings.No) }
 {
-    let _seats = election.snapshot.seats();
+    every_snapshot_is_well_formed(&election.snapshot);
     report_on(alloc, election, task, size)
 }
 

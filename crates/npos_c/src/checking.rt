@@ -11,6 +11,7 @@ use crate::finding::{Finding, NposFinding, told_as};
 use crate::numbers::{NO_MEMORY, answer_of};
 use crate::reading::{Reading, read_election};
 use block_wire::Work;
+use bundle_reports::laws::every_snapshot_is_well_formed;
 use bundle_reports::{Election, packed_verdict, plain_verdict};
 use election_snapshot::Snapshot;
 use npos_base::NoMemory;
@@ -40,7 +41,7 @@ fn check_election(alloc: Global, election: Election, size: u64) -> Result<Findin
     ensures sound { IfOk result (λ finding. (reported finding).ending ≡ endings.Done
         → IsSoundElection tasks.Check election) }
 {
-    let _seats = election.snapshot.seats();
+    every_snapshot_is_well_formed(&election.snapshot);
     let Election { snapshot, work } = election;
     check_work(alloc, snapshot, work, size)
 }

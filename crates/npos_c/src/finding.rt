@@ -4,10 +4,9 @@ ghost use Rattle.election_check.specs.Number.{verdict_number};
 ghost use Rattle.bundle_reports.specs.Verdicts.{verdict_details, fault_numbers};
 ghost use Rattle.npos_c.specs.Findings.{figures, told_as};
 
-use bundle_reports::MOST_BUNDLE;
+use bundle_reports::{MOST_BUNDLE, numbers_of};
 use election_check::Verdict;
 use election_snapshot::SnapshotFault;
-use npos_base::{MOST_TARGETS, MOST_VOTERS};
 use scale_wire::fault::WireFault;
 
 /// What is found of the bytes of a bundle.
@@ -81,23 +80,26 @@ fn figures(kind: u32, number: u32, first: u64, second: u64) -> NposFinding
 fn verdict_figures(verdict: Verdict) -> NposFinding
     ensures { result ≡ figures JUDGED (verdict_number verdict ∷ verdict_details verdict) }
 {
+    let number = u32::from(verdict.number());
     match verdict {
-        Verdict::Yes => figures(JUDGED, 0, 0, 0),
-        Verdict::Undecodable { at, why } => figures(JUDGED, 1, at, u64::from(why.number())),
-        Verdict::NoVoter(voter) => figures(JUDGED, 2, u64::from(voter), 0),
-        Verdict::NoTarget(target) => figures(JUDGED, 3, u64::from(target), 0),
-        Verdict::VoterTwice(voter) => figures(JUDGED, 4, u64::from(voter), 0),
-        Verdict::TargetTwice(target) => figures(JUDGED, 5, u64::from(target), 0),
-        Verdict::NotNominated { voter, target } => {
-            figures(JUDGED, 6, u64::from(voter), u64::from(target))
+        Verdict::Yes => figures(JUDGED, number, 0, 0),
+        Verdict::Undecodable { at, why } => figures(JUDGED, number, at, u64::from(why.number())),
+        Verdict::NoVoter(place)
+        | Verdict::VoterTwice(place)
+        | Verdict::BadShare(place)
+        | Verdict::WrongSize(place)
+        | Verdict::Overspent(place) => figures(JUDGED, number, u64::from(place), 0),
+        Verdict::NoTarget(target) | Verdict::TargetTwice(target) => {
+            figures(JUDGED, number, u64::from(target), 0)
         }
-        Verdict::BadShare(voter) => figures(JUDGED, 7, u64::from(voter), 0),
-        Verdict::WrongSize(found) => figures(JUDGED, 8, u64::from(found), 0),
+        Verdict::NotNominated { voter, target } => {
+            figures(JUDGED, number, u64::from(voter), u64::from(target))
+        }
         Verdict::WrongScore(actual) => {
             let (third_high, third_low) = halves_of(actual.squares);
             NposFinding {
                 kind: JUDGED,
-                number: 9,
+                number,
                 first: actual.minimal,
                 second: actual.sum,
                 third_high,
@@ -105,9 +107,8 @@ fn verdict_figures(verdict: Verdict) -> NposFinding
             }
         }
         Verdict::Outweighed { target, prescore } => {
-            figures(JUDGED, 10, u64::from(target), prescore)
+            figures(JUDGED, number, u64::from(target), prescore)
         }
-        Verdict::Overspent(voter) => figures(JUDGED, 11, u64::from(voter), 0),
     }
 }
 
@@ -115,24 +116,14 @@ fn verdict_figures(verdict: Verdict) -> NposFinding
 fn fault_figures(fault: SnapshotFault) -> NposFinding
     ensures { result ≡ figures UNELECTABLE (fault_numbers fault) }
 {
-    match fault {
-        SnapshotFault::Few { targets, seats } => {
-            figures(UNELECTABLE, 1, u64::from(targets), u64::from(seats))
-        }
-        SnapshotFault::Poor { total, seats } => figures(UNELECTABLE, 2, total, u64::from(seats)),
-        SnapshotFault::RepeatedTarget(place) => figures(UNELECTABLE, 3, u64::from(place), 0),
-        SnapshotFault::RepeatedVoter(place) => figures(UNELECTABLE, 4, u64::from(place), 0),
-        SnapshotFault::UnknownTarget(place) => figures(UNELECTABLE, 5, u64::from(place), 0),
-        SnapshotFault::RepeatedVote(place) => figures(UNELECTABLE, 6, u64::from(place), 0),
-        SnapshotFault::NoVotes(place) => figures(UNELECTABLE, 7, u64::from(place), 0),
-        SnapshotFault::ZeroStake(place) => figures(UNELECTABLE, 8, u64::from(place), 0),
-        SnapshotFault::TooManyTargets => figures(UNELECTABLE, 9, MOST_TARGETS as u64, 0),
-        SnapshotFault::TooManyVoters => figures(UNELECTABLE, 10, MOST_VOTERS as u64, 0),
-        SnapshotFault::TooManyVotes(place) => figures(UNELECTABLE, 11, u64::from(place), 0),
-        SnapshotFault::TotalTooLarge(place) => figures(UNELECTABLE, 12, u64::from(place), 0),
-        SnapshotFault::BadSeats(seats) => figures(UNELECTABLE, 13, u64::from(seats), 0),
-        SnapshotFault::NoMemory => figures(UNELECTABLE, 0, 0, 0),
-    }
+    let Some(numbers) = numbers_of(fault) else {
+        return figures(UNELECTABLE, 0, 0, 0);
+    };
+    let seats = match numbers.seats {
+        None => 0,
+        Some(seats) => u64::from(seats),
+    };
+    figures(UNELECTABLE, numbers.number, numbers.detail, seats)
 }
 
 /// A finding in numbers.

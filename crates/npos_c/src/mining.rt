@@ -18,9 +18,10 @@ use crate::finding::Finding;
 use crate::mined::{Mined, Mining, NposMined, hand_out};
 use crate::numbers::{NO_MEMORY, UNKNOWN};
 use crate::reading::{Reading, read_election};
-use bundle_reports::{Election, Judged, Miner, checker_of, judge, packed_weights};
+use bundle_reports::laws::every_snapshot_is_well_formed;
+use bundle_reports::{Election, Judged, Miner, judge, packed_weights};
 use compact_solution::{PackFault, Solution};
-use election_check::Verdict;
+use election_check::{Checker, Verdict};
 use election_snapshot::Snapshot;
 use npos_base::{List, NoMemory, Score};
 use phragmms_miner::mine_mms;
@@ -56,10 +57,10 @@ fn mine_by_fill(alloc: Global, snapshot: Snapshot) -> Result<Mined, NoMemory>
     ensures { IfOk result (λ mined. outcome_of mined
         ≡ mined_from snapshot (filled snapshot) [] (verdict_plain snapshot (filled snapshot))) }
 {
-    let _seats = snapshot.seats();
+    every_snapshot_is_well_formed(&snapshot);
     let weights = fill(alloc, &snapshot)?;
     let score = weights.score();
-    let mut checker = checker_of(alloc, snapshot)?;
+    let mut checker = Checker::of(alloc, snapshot)?;
     let verdict = checker.verdict(&weights);
     Ok(as_mined(
         checker.snapshot(),
@@ -75,7 +76,7 @@ fn mine_solution(alloc: Global, snapshot: Snapshot, solution: Solution) -> Resul
     requires { expand_fault snapshot solution ≡ None }
     ensures { IfOk result (λ mined. outcome_of mined ≡ solution_mined snapshot solution) }
 {
-    let mut checker = checker_of(alloc, snapshot)?;
+    let mut checker = Checker::of(alloc, snapshot)?;
     let Judged {
         weights,
         score,
@@ -132,7 +133,7 @@ fn mine_soundly(alloc: Global, election: Election, miner: Miner) -> Result<Minin
     ensures sound { IfOk result (λ mining. IsYes (due_of mining)
         → IsSoundElection (tasks.Mine miner) election) }
 {
-    let _seats = election.snapshot.seats();
+    every_snapshot_is_well_formed(&election.snapshot);
     let Election { snapshot, .. } = election;
     mine_election(alloc, snapshot, miner)
 }

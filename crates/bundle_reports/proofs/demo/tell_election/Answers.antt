@@ -12,7 +12,7 @@ use Rattle.bundle_reports.proofs.demo.tell_election.Goals as goal
 pub tell_fill-requires : goal.tell_fill-requires
 tell_fill-requires c =
     subst (λ (s : Snapshot). IsFeasible s c.in_ok-filled.filled.plain) (sym c.in_ok-checker.ensures)
-    (subst (λ (w : Weights). IsFeasible c.args.snapshot w) (sym c.in_ok-filled.ensures.filled) (fill_passes c.args.snapshot c.seats-seats.ensures.well_formed).feasible)
+    (subst (λ (w : Weights). IsFeasible c.args.snapshot w) (sym c.in_ok-filled.ensures.filled) (fill_passes c.args.snapshot c.every_snapshot_is_well_formed.ensures).feasible)
 
 pub returns : goal.returns
 returns c =

@@ -7,4 +7,4 @@ use Rattle.bundle_reports.proofs.demo.tell_fill.Goals as goal
 pub score-requires-clause-fits : goal.score-requires-clause-fits
 score-requires-clause-fits c =
     let feasible = subst (λ (s : Snapshot). IsFeasible s c.args.weights.now.plain) (sym c.snapshot.ensures) c.requires in
-    omega (arith, amounts_within c.snapshot.result.now c.args.weights.now.plain feasible, c.seats-seats.ensures.well_formed.voters.total_fits)
+    omega (arith, amounts_within c.snapshot.result.now c.args.weights.now.plain feasible, c.every_snapshot_is_well_formed.ensures.voters.total_fits)

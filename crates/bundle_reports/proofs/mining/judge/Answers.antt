@@ -19,7 +19,7 @@ score-score-requires-clause-fits c =
     let feasible = whole_feasible c.args.checker.now c.args.solution c.expand-yes.new.weights.plain c.requires
     (whole_as c.args.checker.now c.args.checker.now c.args.solution c.expand-yes.new.weights.plain refl c.requires c.expand-yes.ensures.weights) in
     let here = subst (λ (s : Snapshot). IsFeasible s c.expand-yes.new.weights.plain) (sym c.snapshot.ensures) feasible in
-    omega (arith, amounts_within c.snapshot.result.now c.expand-yes.new.weights.plain here, c.seats-seats.ensures.well_formed.voters.total_fits)
+    omega (arith, amounts_within c.snapshot.result.now c.expand-yes.new.weights.plain here, c.every_snapshot_is_well_formed.ensures.voters.total_fits)
 
 pub returns-clause-feasible : goal.returns-clause-feasible
 returns-clause-feasible c =

@@ -8,4 +8,4 @@ pub tell_weights-requires : goal.tell_weights-requires
 tell_weights-requires c =
     let same = c.snapshot-2.ensures ∙ c.verdict-verdict.ensures.snapshot ∙ c.in_ok-checker.ensures in
     subst (λ (s : Snapshot). IsFeasible s c.in_ok-weights.weights.plain) (sym same)
-    (subst (λ (w : Weights). IsFeasible c.args.snapshot w) (sym c.in_ok-weights.ensures.filled) (fill_passes c.args.snapshot c.seats-seats.ensures.well_formed).feasible)
+    (subst (λ (w : Weights). IsFeasible c.args.snapshot w) (sym c.in_ok-weights.ensures.filled) (fill_passes c.args.snapshot c.every_snapshot_is_well_formed.ensures).feasible)

@@ -6,7 +6,7 @@ use Rattle.bundle_reports.proofs.mining.packed_weights.Goals as goal
 
 pub pack-requires : goal.pack-requires
 pack-requires c = packable_as c.args.snapshot.now c.args.weights.now.plain c.stakes.result.now c.committee.result.now c.edges.result.now
-    c.stakes.ensures.stakes c.committee.ensures c.edges.ensures c.seats-seats.ensures.well_formed c.requires.feasible c.requires.above
+    c.stakes.ensures.stakes c.committee.ensures c.edges.ensures c.every_snapshot_is_well_formed.ensures c.requires.feasible c.requires.above
 
 pub returns-clause-solution : goal.returns-clause-solution
 returns-clause-solution c = subst (λ (p : Result (List (List Entry)) ℕ). IfOk c.pack.result (λ solution. p ≡ Ok solution))
@@ -14,7 +14,7 @@ returns-clause-solution c = subst (λ (p : Result (List (List Entry)) ℕ). IfOk
     c.pack.ensures.solution
 
 pub returns-clause-sound : goal.returns-clause-sound
-returns-clause-sound c = packed_soundly c.args.snapshot.now c.args.weights.now.plain c.pack.result c.seats-seats.ensures.well_formed c.requires.feasible
+returns-clause-sound c = packed_soundly c.args.snapshot.now c.args.weights.now.plain c.pack.result c.every_snapshot_is_well_formed.ensures c.requires.feasible
     (subst (λ (p : Result (List (List Entry)) ℕ). IfOk c.pack.result (λ solution. p ≡ Ok solution))
     (packed_as c.args.snapshot.now c.args.weights.now.plain c.stakes.result.now c.committee.result.now c.edges.result.now c.stakes.ensures.stakes c.committee.ensures c.edges.ensures)
     c.pack.ensures.solution)

@@ -8,7 +8,7 @@ use Rattle.bundle_reports.proofs.mining.tell_weights.Goals as goal
 
 pub score-score-requires-clause-fits : goal.score-score-requires-clause-fits
 score-score-requires-clause-fits c =
-    omega (arith, amounts_within c.args.snapshot.now c.args.weights.plain c.requires, c.seats-seats.ensures.well_formed.voters.total_fits)
+    omega (arith, amounts_within c.args.snapshot.now c.args.weights.plain c.requires, c.every_snapshot_is_well_formed.ensures.voters.total_fits)
 
 pub tell_members-requires : goal.tell_members-requires
 tell_members-requires c =
