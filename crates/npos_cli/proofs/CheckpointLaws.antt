@@ -15,7 +15,7 @@ use Rattle.npos_runtime.specs.KeptChain.{chain_of}
 use Rattle.npos_runtime.specs.KeptLaws.{SameKeptLaw}
 use Rattle.npos_runtime.specs.Outcome.{Election}
 use Rattle.npos_runtime.specs.Restoring.{state_fault}
-use Rattle.npos_runtime.specs.Savable.{IsSavable, SavableStartLaw, SavableStepLaw, SavedLaw, RestoredLaw}
+use Rattle.npos_runtime.specs.Savable.{IsSavable, SavableStartLaw, SavableStepLaw, SavedStateLaw, RestoredStateLaw}
 use Rattle.npos_runtime.specs.SoundLaws.{AreNext}
 use Rattle.npos_runtime.specs.Step.{step}
 use Rattle.npos_runtime.proofs.KeptStateLemmas.{kept_alike}
@@ -187,7 +187,7 @@ pub resumed_by : (state : State) (chain : Chain) (fault : Option StateFault) →
 resumed_by state chain None sound is = (sound, cc)
 resumed_by state chain (Some fault) faulty is = let e : Err (state_line fault) ≡ Ok chain = is in cc
 
-module _ (saved : SavedLaw) (restored : RestoredLaw) where
+module _ (saved : SavedStateLaw) (restored : RestoredStateLaw) where
   twin_of : (chain : Chain) → IsSavable chain → AreTwins chain (chain_of (kept chain))
   twin_of chain savable =
       let back = restored (kept chain) savable.fits (saved chain savable) in
@@ -202,7 +202,7 @@ module _ (saved : SavedLaw) (restored : RestoredLaw) where
     at_is = refl;
   }
 
-pub starts_with_checkpoint : RestoredLaw → (bytes : List ℕ) → StartsWithCheckpoints bytes
+pub starts_with_checkpoint : RestoredStateLaw → (bytes : List ℕ) → StartsWithCheckpoints bytes
 starts_with_checkpoint restored bytes start starts =
     let by = resumed_by starts.genesis start.state (state_fault starts.genesis) refl starts.state_is in
     let same : kept start.state ≡ starts.genesis = ap kept (sym by.1) ∙ (restored starts.genesis starts.in_range by.0).1 in
@@ -292,7 +292,7 @@ due_on (block ∷ blocks) rest p next whole =
       on.3,
     )
 
-pub each_goes_on : SavedLaw → RestoredLaw → EachGoesOn
+pub each_goes_on : SavedStateLaw → RestoredStateLaw → EachGoesOn
 each_goes_on saved restored chain blocks savable next =
     let rest : List ℕ = block_bytes blocks ++ (turn npos_machine).spelling None in
     let on = due_on blocks ((turn npos_machine).spelling None) (first_place chain rest) next refl in
@@ -307,7 +307,7 @@ each_goes_on saved restored chain blocks savable next =
 
 -- ## From a place in a stream
 
-module _ (savable_start : SavableStartLaw) (savable_step : SavableStepLaw) (saved : SavedLaw) (restored : RestoredLaw) (same_law : SameKeptLaw)
+module _ (savable_start : SavableStartLaw) (savable_step : SavableStepLaw) (saved : SavedStateLaw) (restored : RestoredStateLaw) (same_law : SameKeptLaw)
     (bytes front text : List ℕ) (place : Spot Chain) (comes : ComesTo bytes front text place) where
   savable_there : IsSavable place.state
   savable_there =
@@ -386,10 +386,10 @@ module _ (savable_start : SavableStartLaw) (savable_step : SavableStepLaw) (save
             ∙ ap (λ later. first_seated ++ later) on.seated)),
       )
 
-pub goes_on : SavableStartLaw → SavableStepLaw → SavedLaw → RestoredLaw → SameKeptLaw → (bytes : List ℕ) → GoesOnFromCheckpoints bytes
+pub goes_on : SavableStartLaw → SavableStepLaw → SavedStateLaw → RestoredStateLaw → SameKeptLaw → (bytes : List ℕ) → GoesOnFromCheckpoints bytes
 goes_on savable_start savable_step saved restored same_law bytes front text place whole comes =
     goes_like savable_start savable_step saved restored same_law bytes front text place comes whole
 
-pub goes_on_whole : SavableStartLaw → SavableStepLaw → SavedLaw → RestoredLaw → SameKeptLaw → (bytes : List ℕ) → GoesOnWhole bytes
+pub goes_on_whole : SavableStartLaw → SavableStepLaw → SavedStateLaw → RestoredStateLaw → SameKeptLaw → (bytes : List ℕ) → GoesOnWhole bytes
 goes_on_whole savable_start savable_step saved restored same_law bytes front text place comes =
     whole_there savable_start savable_step saved restored same_law bytes front text place comes

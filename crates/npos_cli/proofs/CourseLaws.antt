@@ -2,12 +2,13 @@
 use Rattle.std.proofs.Common.{◌≡◌, inl, inr, ◌≤◌, ◌+◌, ◌-◌, ℕ, Bool, true, false, List, [], ◌++◌, length, take, drop, Option, Some, None, Result, Ok, Err, refl, sym, ◌∙◌, ap, subst, append_assoc, arith, length-append, true≢false}
 use Rattle.std.proofs.lemmas.List.{append-nil, take-append-drop, take-append-le}
 use Rattle.npos_base.specs.Outside.{Told, Appends}
+use Rattle.npos_base.proofs.Appended.{appends_none, appends_both}
 use Rattle.scale_wire.specs.declared.fault.Why.TheVariants.{Short}
 use Rattle.scale_wire.specs.declared.fault.WireFault.{WireFault}
 use Rattle.scale_wire.specs.Reading.{Place, IsRead}
 use Rattle.block_wire.specs.declared.genesis.Genesis.{Genesis}
 use Rattle.npos_runtime.specs.declared.chain.Chain.{Chain}
-use Rattle.npos_cli.specs.declared.replaying.Stop.TheVariants.{More, Last}
+use Rattle.npos_cli.specs.declared.turn.Stop.TheVariants.{More, Last}
 use Rattle.npos_cli.specs.declared.status.Status.{Status}
 use Rattle.npos_cli.specs.declared.halt.Halt.{Halt}
 use Rattle.npos_cli.specs.declared.halt.Halt.TheVariants as halts
@@ -18,15 +19,15 @@ use Rattle.npos_cli.specs.Chain.{npos_machine}
 use Rattle.block_wire.specs.Genesis.{genesis_form}
 use Rattle.npos_cli.specs.Ahead.{HasSeen, FeedsMore, CutsGenesis, AwaitsGenesis, AwaitsMore, Begins}
 use Rattle.npos_cli.specs.Turning.{spot, grown, WritesOn, InGenesis, Behind, KeepsUp}
-use Rattle.npos_cli.specs.Owed.{IsAll, LeftAfter, TakesAtMost, DeliversFront, FindsReplay, BeginsReplay, IsOwedReplay, Puts, FlushesBy}
+use Rattle.npos_cli.specs.Owed.{LeftAfter, TakesAtMost, DeliversFront, FindsReplay, BeginsReplay, IsOwedReplay, Puts, FlushesBy}
 use Rattle.npos_cli.specs.Report.{ReplayOwes, replay_status}
 use Rattle.npos_cli.specs.Streaming.{Course, Finished, CutBy, Halts, Delivered, HasWritten, ReadsWhile}
 use Rattle.npos_cli.proofs.ChainLaws.{genesis_laws, turn_laws}
 use Rattle.npos_cli.proofs.ReplayLaws.{reaches_itself, unreadable}
-use Rattle.npos_cli.proofs.WholeLaws.{passes_grow, start_grows, whole_grows, reached_front, undecided_whole}
+use Rattle.npos_cli.proofs.WholeLaws.{reaches_grow, start_grows, whole_grows, reached_front, undecided_whole}
 use Rattle.npos_cli.proofs.EdgeLaws.{left_join, left_none, seen_once, seen_more, delivered, fronted}
-use Rattle.npos_cli.proofs.TurnLaws.{appends_join, appends_none, reaches_join}
-use Rattle.npos_cli.proofs.StartLaws.{found}
+use Rattle.npos_cli.proofs.TurnLaws.{reaches_join}
+use Rattle.npos_cli.proofs.StartLaws.{found, finds_for}
 use Rattle.npos_cli.proofs.RunLaws.{replay_front}
 
 front_more : (text written more : List ℕ) → IsFront text written → IsFront text (written ++ more)
@@ -109,12 +110,6 @@ module _ (output : Output) where
     before = front_more keeps.text written more keeps.before;
   }
 
-  reaches_grow : (more : List ℕ) (p q : Spot Chain) (text : List ℕ) → Reaches (machine_of output) p q text → Reaches (machine_of output) (grown more p) (grown more q) text
-  reaches_grow more p q text reaches = record {
-    blocks = reaches.blocks;
-    passes = passes_grow (machine_of output) genesis_laws turn_laws more reaches.blocks p q text reaches.passes;
-  }
-
   -- nothing was written
   begins_nothing : (left : Option (List ℕ)) (old new : Option Told) → Appends old new [] → BeginsReplay (machine_of output) left old new
   begins_nothing left old new appends text status owed = fronted old new [] text appends (text, refl)
@@ -132,7 +127,7 @@ module _ (output : Output) where
     on None left_is owed = within taken p q starts reaches (owed taken tt)
     on (Some all) left_is owed =
         within (taken ++ left_is.0) (grown left_is.0 p) (grown left_is.0 q) (start_grows (machine_of output) genesis_laws turn_laws left_is.0 taken p starts)
-        (reaches_grow left_is.0 p q text reaches) (owed (taken ++ left_is.0) (sym left_is.2))
+        (reaches_grow (machine_of output) genesis_laws turn_laws left_is.0 p q text reaches) (owed (taken ++ left_is.0) (sym left_is.2))
 
   -- ## The genesis
 
@@ -224,18 +219,18 @@ module _ (output : Output) where
         → FeedsMore mid now here read (Ok going) → Course (machine_of output) left now old new going (spot read chain)
     course_on now here read chain going q_is writes feeds =
         let more = feeds.0 in
-        let all = reaches_join output course.start p q course.written writes.2.0 course.reaches writes.2.1 in
+        let all = reaches_join (machine_of output) genesis_laws turn_laws course.start p q course.written writes.2.0 course.reaches writes.2.1 in
         let there : grown more q ≡ spot read chain = ap (grown more) q_is ∙ ap (λ (place : Place). spot place chain) (sym feeds.3.0) in
         record {
           taken = course.taken ++ more;
           written = course.written ++ writes.2.0;
           seen = seen_more left mid now course.taken more false ended going course.seen
               (subst (λ (b : Bool). HasSeen mid now more b going) (sym writes.0) (seen_once mid now more going feeds.1 feeds.3.1));
-          told = appends_join old told new course.written writes.2.0 course.told writes.2.2;
+          told = appends_both old told new course.written writes.2.0 course.told writes.2.2;
           start = grown more course.start;
           starts = start_grows (machine_of output) genesis_laws turn_laws more course.taken course.start course.starts;
           reaches = subst (λ (s : Spot Chain). Reaches (machine_of output) (grown more course.start) s (course.written ++ writes.2.0)) there
-              (reaches_grow more course.start q (course.written ++ writes.2.0) all);
+              (reaches_grow (machine_of output) genesis_laws turn_laws more course.start q (course.written ++ writes.2.0) all);
           keeps_up = record {
             earlier = course.taken;
             last = more;
@@ -256,28 +251,27 @@ module _ (output : Output) where
       taken = left_join left mid now course.taken few.0 course.seen.taken few.1;
       last_read = few.2;
       one_piece = omega (arith, few.2, one_piece);
-      unsure = Behind course.start q course.starts (reaches_join output course.start p q course.written writes.2.0 course.reaches writes.2.1) writes.1;
+      unsure = Behind course.start q course.starts (reaches_join (machine_of output) genesis_laws turn_laws course.start p q course.written writes.2.0 course.reaches writes.2.1) writes.1;
     }
 
     -- the replay is known
     pub course_last : (faulty : Bool) → WritesOn (machine_of output) ended p q told new line (Ok (Last faulty)) → Finished (machine_of output) left mid old new line faulty
-    unfolding reaches_grow
     course_last faulty writes =
         let r = writes.0 in
         let text = course.written ++ writes.1 in
-        let all = reaches_join output course.start p r course.written writes.1 course.reaches writes.2 in
+        let all = reaches_join (machine_of output) genesis_laws turn_laws course.start p r course.written writes.1 course.reaches writes.2 in
         record {
           taken = course.taken;
           written = text;
           left_is = course.seen.taken;
-          told = appends_join old told new course.written writes.1 course.told writes.5;
+          told = appends_both old told new course.written writes.1 course.told writes.5;
           keeps_up = keeps_up_more course.taken course.written writes.1 course.keeps_up;
-          finds = found output left mid course.taken (text ++ line) ended faulty course.seen
+          finds = found (machine_of output) left mid course.taken (text ++ line) ended faulty course.seen
               (λ more follow. (
                 all_seated (machine_of output) course.start.state all.blocks,
                 Some r.state,
                 Replayed (grown more course.start) (grown more r) text line faulty (start_grows (machine_of output) genesis_laws turn_laws more course.taken course.start course.starts)
-                    (reaches_grow more course.start r text all) (writes.3 more follow) refl,
+                    (reaches_grow (machine_of output) genesis_laws turn_laws more course.start r text all) (writes.3 more follow) refl,
               ))
               writes.4;
         }
@@ -285,8 +279,8 @@ module _ (output : Output) where
     -- a write failed, or memory ran out
     pub course_cut : (halt : Halt) → WritesOn (machine_of output) ended p q told new line (Err halt) → Halts (machine_of output) left mid old new halt
     course_cut halts.NoMemory writes =
-        let all = reaches_join output course.start p writes.0 course.written writes.1 course.reaches writes.2 in
-        let appends = appends_join old told new course.written writes.1 course.told writes.3 in
+        let all = reaches_join (machine_of output) genesis_laws turn_laws course.start p writes.0 course.written writes.1 course.reaches writes.2 in
+        let appends = appends_both old told new course.written writes.1 course.told writes.3 in
         record {
           taken = course.taken;
           written = course.written ++ writes.1;
@@ -298,8 +292,8 @@ module _ (output : Output) where
           cut = inr (course.start, writes.0, course.starts, all);
         }
     course_cut halts.WriteFault writes =
-        let all = reaches_join output course.start p writes.0 course.written writes.1 course.reaches writes.3 in
-        let appends = appends_join old told new course.written writes.2 course.told writes.5 in
+        let all = reaches_join (machine_of output) genesis_laws turn_laws course.start p writes.0 course.written writes.1 course.reaches writes.3 in
+        let appends = appends_both old told new course.written writes.2 course.told writes.5 in
         record {
           taken = course.taken;
           written = course.written ++ writes.2;
@@ -315,8 +309,8 @@ module _ (output : Output) where
     unread : (now : Option (List ℕ)) (more : List ℕ) (halt : Halt) (writes : WritesOn (machine_of output) ended p q told new line (Ok More)) → LeftAfter mid now more → length more ≤ 65536
         → CutBy (machine_of output) halt (course.taken ++ more) (course.written ++ writes.2.0) → Halts (machine_of output) left now old new halt
     unread now more halt writes left_is one_piece cut =
-        let all = reaches_join output course.start p q course.written writes.2.0 course.reaches writes.2.1 in
-        let appends = appends_join old told new course.written writes.2.0 course.told writes.2.2 in
+        let all = reaches_join (machine_of output) genesis_laws turn_laws course.start p q course.written writes.2.0 course.reaches writes.2.1 in
+        let appends = appends_both old told new course.written writes.2.0 course.told writes.2.2 in
         let text = course.written ++ writes.2.0 in
         let joined = left_join left mid now course.taken more course.seen.taken left_is in
         record {
@@ -334,7 +328,7 @@ module _ (output : Output) where
             before = front_itself text;
           };
           front = begins_reached left now old new (course.taken ++ more) text text (grown more course.start) (grown more q) joined
-              (start_grows (machine_of output) genesis_laws turn_laws more course.taken course.start course.starts) (reaches_grow more course.start q text all) (front_itself text) appends;
+              (start_grows (machine_of output) genesis_laws turn_laws more course.taken course.start course.starts) (reaches_grow (machine_of output) genesis_laws turn_laws more course.start q text all) (front_itself text) appends;
           cut = cut;
         }
 
@@ -342,40 +336,35 @@ module _ (output : Output) where
     pub course_unread : (now : Option (List ℕ)) (here read : Place) (halt : Halt) → WritesOn (machine_of output) ended p q told new line (Ok More) → FeedsMore mid now here read (Err halt)
         → Halts (machine_of output) left now old new halt
     course_unread now here read halts.ReadFault writes feeds =
-        let all = reaches_join output course.start p q course.written writes.2.0 course.reaches writes.2.1 in
+        let all = reaches_join (machine_of output) genesis_laws turn_laws course.start p q course.written writes.2.0 course.reaches writes.2.1 in
         let same : course.taken ≡ course.taken ++ feeds.0 = sym (append-nil course.taken) ∙ ap (λ (back : List ℕ). course.taken ++ back) (sym feeds.3) in
         unread now feeds.0 halts.ReadFault writes feeds.1 feeds.2
         (subst (λ (bytes : List ℕ). IsWhole (machine_of output) bytes (course.written ++ writes.2.0)) same
         (undecided_whole (machine_of output) genesis_laws turn_laws course.taken (course.written ++ writes.2.0) (Behind course.start q course.starts all writes.1)))
     course_unread now here read halts.NoMemory writes feeds =
-        let all = reaches_join output course.start p q course.written writes.2.0 course.reaches writes.2.1 in
+        let all = reaches_join (machine_of output) genesis_laws turn_laws course.start p q course.written writes.2.0 course.reaches writes.2.1 in
         unread now feeds.0 halts.NoMemory writes feeds.1 feeds.2
         (inr (
           grown feeds.0 course.start,
           grown feeds.0 q,
           start_grows (machine_of output) genesis_laws turn_laws feeds.0 course.taken course.start course.starts,
-          reaches_grow feeds.0 course.start q (course.written ++ writes.2.0) all,
+          reaches_grow (machine_of output) genesis_laws turn_laws feeds.0 course.start q (course.written ++ writes.2.0) all,
         ))
     course_unread now here read halts.WriteFault writes feeds = absurd feeds.3
 
   -- ## The last line
 
-  pub finds_for : (left now : Option (List ℕ)) (text : List ℕ) (faulty : Bool) (status : Status) → FindsReplay (machine_of output) left now text faulty → status ≡ replay_status faulty
-      → (bytes : List ℕ) × IsAll left bytes × ReplayOwes (machine_of output) bytes text status
-  finds_for left now text faulty status finds is =
-      (finds.0, finds.1, (record { text = text; faulty = faulty; seated = finds.2.0; last = finds.2.1 }, finds.2.2, refl, is))
-
   module _ (left now : Option (List ℕ)) (old told : Option Told) (line : List ℕ) (faulty : Bool) (done : Finished (machine_of output) left now old told line faulty) where
     halts_within : (new : Option Told) (put : List ℕ) → Appends told new put → IsFront put line → Halts (machine_of output) left now old new halts.WriteFault
     halts_within new put appends front =
-        let all = appends_join old told new done.written put done.told appends in
+        let all = appends_both old told new done.written put done.told appends in
         record {
           taken = done.taken;
           written = done.written ++ put;
           left_is = done.left_is;
           told = all;
           keeps_up = keeps_up_more done.taken done.written put done.keeps_up;
-          front = replay_front (machine_of output) genesis_laws turn_laws left old new (done.written ++ line) (replay_status faulty) (finds_for left now (done.written ++ line) faulty (replay_status faulty) done.finds refl)
+          front = replay_front (machine_of output) genesis_laws turn_laws left old new (done.written ++ line) (replay_status faulty) (finds_for (machine_of output) left now (done.written ++ line) faulty (replay_status faulty) done.finds refl)
               (fronted old new (done.written ++ put) (done.written ++ line) all
               (front.0, ap (λ (back : List ℕ). done.written ++ back) front.1 ∙ sym (append_assoc done.written put front.0)));
           cut = tt;
@@ -390,7 +379,7 @@ module _ (output : Output) where
     -- the line was written, and the flush failed
     pub finished_unflushed : (mid new : Option Told) (halt : Halt) → Puts told mid line (Ok tt) → FlushesBy mid new (Err halt) → Halts (machine_of output) left now old new halt
     finished_unflushed mid new halts.WriteFault puts flushes =
-        halts_within new line (subst (λ (t : List ℕ). Appends told new t) (append-nil line) (appends_join told mid new line [] puts flushes)) (front_itself line)
+        halts_within new line (subst (λ (t : List ℕ). Appends told new t) (append-nil line) (appends_both told mid new line [] puts flushes)) (front_itself line)
     finished_unflushed mid new halts.ReadFault puts flushes = absurd flushes
     finished_unflushed mid new halts.NoMemory puts flushes = absurd flushes
 
@@ -404,6 +393,6 @@ module _ (output : Output) where
       faulty = faulty;
       finds = done.finds;
       status_is = is;
-      delivers = delivered old mid new (done.written ++ line) (appends_join old told mid done.written line done.told puts) flushes;
+      delivers = delivered old mid new (done.written ++ line) (appends_both old told mid done.written line done.told puts) flushes;
     }
     -- ## What was written where a write failed

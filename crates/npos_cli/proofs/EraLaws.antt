@@ -1,5 +1,5 @@
 -- What the runtime says of eras over blocks holds of the blocks that a replay takes.
-use Rattle.std.proofs.Common.{ℕ, ◌+◌, ◌<◌, List, [], Option, Some, None, IfSome, arith}
+use Rattle.std.proofs.Common.{ℕ, ◌<◌, List, [], Option, Some, None, IfSome, arith}
 use Rattle.std.proofs.lemmas.List.Elements.{All-nil}
 use Rattle.npos_runtime.specs.Genesis.{genesis_chain}
 use Rattle.npos_runtime.specs.declared.chain.Chain.{Chain}

@@ -1,13 +1,12 @@
 -- Wherever the input of a pool has come, the laws of pools hold of it.
-use Rattle.std.proofs.Common.{◌≡◌, ℕ, List, [], ◌∷◌, Option, Some, None, Result, Ok, Err, IfSome, refl, sym, ◌∙◌, ap, subst}
+use Rattle.std.proofs.Common.{◌≡◌, ℕ, List, [], ◌∷◌, Option, Some, None, Ok, IfSome, refl, sym, ap, subst}
 use Rattle.stake_pools.specs.declared.input.PoolGenesis.{PoolGenesis}
 use Rattle.stake_pools.specs.declared.input.PoolItem.{PoolItem}
 use Rattle.stake_pools.specs.declared.fault.PoolFault.{PoolFault}
-use Rattle.stake_pools.specs.declared.chain.PoolChain.{PoolChain}
 use Rattle.stake_pools.specs.Genesis.{pool_fault, pool_chain}
 use Rattle.stake_pools.specs.Step.{after_items}
 use Rattle.stake_pools.specs.Sound.{IsSoundPool}
-use Rattle.stake_pools.specs.Laws.{StartLaw, KeptLaw, WorthLaw, JoinLaw, RedeemLaw, UndilutedLaw, PaidLaw}
+use Rattle.stake_pools.specs.Laws.{PoolStartLaw, KeptLaw, WorthLaw, JoinLaw, RedeemLaw, UndilutedLaw, PaidLaw}
 use Rattle.npos_cli.specs.Replay.{Spot, Passes, behind}
 use Rattle.npos_cli.specs.Pools.{PoolRun, pool_started, pool_machine, PoolsAreFair}
 
@@ -24,7 +23,7 @@ started_is None genesis run e =
     (refl, sym (ap (λ (r : PoolRun). r.pool) same))
 started_is (Some fault) genesis run e = cc
 
-pub fair : StartLaw → KeptLaw → WorthLaw → JoinLaw → RedeemLaw → UndilutedLaw → PaidLaw → (bytes : List ℕ) → PoolsAreFair bytes
+pub fair : PoolStartLaw → KeptLaw → WorthLaw → JoinLaw → RedeemLaw → UndilutedLaw → PaidLaw → (bytes : List ℕ) → PoolsAreFair bytes
 fair starts_sound keeps worths joins redeems undiluted paid bytes start place text starts reaches =
     let is = started_is (pool_fault starts.genesis) starts.genesis start.state starts.state_is in
     let first : IsSoundPool start.state.pool = subst IsSoundPool (sym is.1) (starts_sound starts.genesis is.0) in

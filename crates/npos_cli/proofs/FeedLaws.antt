@@ -8,7 +8,7 @@ use Rattle.npos_cli.specs.Ahead.{FeedsMore}
 use Rattle.npos_base.specs.declared.outside.Asked.{Asked}
 use Rattle.npos_base.specs.Outside.{given_more, given_none}
 use Rattle.npos_cli.specs.Owed.{TakesAtMost}
-use Rattle.npos_cli.proofs.EdgeLaws.{left_none, left_taken, takes_none, takes_no_more}
+use Rattle.npos_cli.proofs.EdgeLaws.{left_none, left_taken}
 
 -- nothing was read
 pub feeds_nothing : (left : Option (List ℕ)) (old : Place) → FeedsMore left left old old (Err NoMemory)

@@ -1,5 +1,5 @@
 -- What is owed for an input that was read whole, by what was read of it and told.
-use Rattle.std.proofs.Common.{◌≡◌, ◌≢◌, ℕ, ◌+◌, ◌<◌, Bool, true, false, List, [], ◌∷◌, ◌++◌, length, Option, Some, None, Result, Ok, Err, IfOk, refl, sym, ◌∙◌, ap, subst, append_assoc, arith, length-append}
+use Rattle.std.proofs.Common.{◌≡◌, ◌≢◌, ℕ, ◌+◌, ◌<◌, Bool, true, false, List, [], ◌++◌, length, Option, Some, None, Result, Ok, Err, IfOk, refl, sym, ◌∙◌, ap, subst, append_assoc, arith, length-append}
 use Rattle.std.proofs.lemmas.List.{append-nil}
 use Rattle.scale_wire.specs.declared.fault.Why.TheVariants.{Trailing}
 use Rattle.scale_wire.specs.declared.fault.WireFault.{WireFault}
@@ -11,25 +11,18 @@ use Rattle.npos_cli.specs.declared.going.Turn.{Turn}
 use Rattle.npos_cli.specs.declared.going.Turn.TheVariants.{Taken, Last}
 use Rattle.npos_cli.specs.declared.status.Status.{Status}
 use Rattle.npos_cli.specs.declared.status.Status.TheVariants as statuses
-use Rattle.npos_cli.specs.Replay.{Machine, Spot, turn, IsTurn, behind, Starts, Reaches, all_seated, Refused, OtherNumber, Followed, Ended, Outcome, BadGenesis, FaultyGenesis, Replayed}
+use Rattle.npos_cli.specs.Replay.{Machine, Spot, turn, Starts, Reaches, all_seated, Refused, OtherNumber, Followed, Ended, Outcome, BadGenesis, FaultyGenesis, Replayed}
 use Rattle.npos_cli.specs.Report.{ReplayOwes, replay_status}
 use Rattle.npos_cli.specs.Ahead.{first_place}
-use Rattle.npos_cli.specs.Going.{EndsHere, TakesItem, GoesOn}
+use Rattle.npos_cli.specs.Going.{EndsHere, TakesItem, HasTold, GoesOn}
+use Rattle.npos_cli.specs.Turning.{spot}
 use Rattle.npos_cli.proofs.ReplayLaws.{reaches_more, reaches_itself}
-
--- where a cursor and a state stand together
-abbrev pub place_of : {S : Type 0} → Place → S → Spot S
-place_of place state = record { at = place.at; state = state; rest = place.rest }
-
--- the items so far lead from the start to here, and were told
-abbrev pub HasTold : {G B S E : Type 0} → Machine G B S E → Spot S → Spot S → List ℕ → List ℕ → Type 0
-HasTold m p q old new = (written : List ℕ) × Reaches m p q written × (new ≡ old ++ written)
 
 module _ {G B S E : Type 0} (m : Machine G B S E) (genesis_laws : IsWire m.genesis) (turn_laws : IsWire (turn m)) where
   -- ## One item
 
   stop_item : (old here : Place) (q : Spot S) (state : S) (before told : List ℕ) (stop : Turn) → IsRead (turn m) old None here
-      → EndsHere here (m.ending state) before told stop → TakesItem m (place_of old state) q before told stop
+      → EndsHere here (m.ending state) before told stop → TakesItem m (spot old state) q before told stop
   stop_item old here q state before told Taken is ends = absurd ends
   stop_item old here q state before told (Last true) is ends =
       (fault_line here.at Trailing, Followed here.rest is.whole ends.0 (ap (λ at. fault_line at Trailing) is.at_is) refl, ends.1)
@@ -37,17 +30,17 @@ module _ {G B S E : Type 0} (m : Machine G B S E) (genesis_laws : IsWire m.genes
       (m.ending state, Ended (is.whole ∙ (ap (λ rest. (turn m).spelling None ++ rest) ends.0 ∙ append-nil ((turn m).spelling None))) refl refl, ends.1)
 
   pub stop_items : {F : Type 0} (result : Result Turn F) (old here : Place) (q : Spot S) (state : S) (before told : List ℕ)
-      → IsRead (turn m) old None here → IfOk result (EndsHere here (m.ending state) before told) → IfOk result (TakesItem m (place_of old state) q before told)
+      → IsRead (turn m) old None here → IfOk result (EndsHere here (m.ending state) before told) → IfOk result (TakesItem m (spot old state) q before told)
   stop_items (Ok stop) old here q state before told is ends = stop_item old here q state before told stop is ends
   stop_items (Err e) old here q state before told is ends = tt
 
   pub fault_item : (old new : Place) (q : Spot S) (state : S) (before told : List ℕ) (fault : WireFault) → IsFault (turn m) old fault new
-      → told ≡ before ++ fault_line fault.at fault.why → TakesItem m (place_of old state) q before told (Last true)
+      → told ≡ before ++ fault_line fault.at fault.why → TakesItem m (spot old state) q before told (Last true)
   fault_item old new q state before told fault is told_is =
       (fault_line fault.at fault.why, Refused is.place fault.why is.bad (ap (λ at. fault_line at fault.why) is.at_is) refl, told_is)
 
   pub number_item : (old here : Place) (q : Spot S) (state : S) (before told : List ℕ) (item : B) → IsRead (turn m) old (Some item) here → m.number item ≢ m.due state
-      → told ≡ before ++ number_line (old.at + 1) (m.due state) (m.number item) → TakesItem m (place_of old state) q before told (Last true)
+      → told ≡ before ++ number_line (old.at + 1) (m.due state) (m.number item) → TakesItem m (spot old state) q before told (Last true)
   number_item old here q state before told item is other told_is =
       (number_line (old.at + 1) (m.due state) (m.number item), OtherNumber item here.rest is.in_range is.whole other refl refl, told_is)
 
@@ -98,7 +91,7 @@ module _ {G B S E : Type 0} (m : Machine G B S E) (genesis_laws : IsWire m.genes
       (outcome line true None, FaultyGenesis genesis place.rest line is.in_range is.whole faulty refl, text_is, status_is)
 
   pub input_starts : (bytes : List ℕ) (place : Place) (genesis : G) (state : S) → IsRead m.genesis (first_place bytes) genesis place → m.start genesis ≡ Ok state
-      → Starts m bytes (place_of place state)
+      → Starts m bytes (spot place state)
   input_starts bytes place genesis state is started = record {
     genesis = genesis;
     in_range = is.in_range;

@@ -1,23 +1,11 @@
 -- What is read from the bytes that are known is read whatever follows, and a refusal stands whatever follows, unless
 -- bytes are missing.
-use Rattle.std.proofs.Common.{◌≡◌, ◌≢◌, ◌⊎◌, inl, inr, ℕ, Bool, List, ◌++◌, refl, sym, ◌∙◌, ap, subst, append_assoc}
+use Rattle.std.proofs.Common.{◌≡◌, ◌≢◌, ◌⊎◌, inl, inr, ℕ, Bool, List, ◌++◌, refl, sym, ◌∙◌, ap, subst}
 use Rattle.std.proofs.lemmas.List.{append-nil}
 use Rattle.scale_wire.specs.declared.fault.Why.{Why}
 use Rattle.scale_wire.specs.declared.fault.Why.TheVariants.{Short, NotShortest, TooWide, BadTag, TooMany, Trailing}
 use Rattle.scale_wire.specs.Form.{Form, IsWire, IsBytes}
-use Rattle.scale_wire.specs.Reading.{Place, IsRead}
 use Rattle.npos_cli.specs.Ahead.{MayFollow, IsSure}
-
--- the place where more bytes follow
-abbrev pub further : List ℕ → Place → Place
-further more place = record { at = place.at; rest = place.rest ++ more }
-
-pub read_grows : {V : Type 0} (form : Form V) (old new : Place) (value : V) (more : List ℕ) → IsRead form old value new → IsRead form (further more old) value (further more new)
-read_grows form old new value more is = record {
-  in_range = is.in_range;
-  whole = ap (λ bytes. bytes ++ more) is.whole ∙ append_assoc (form.spelling value) new.rest more;
-  at_is = is.at_is;
-}
 
 pub is_short : (why : Why) → (why ≡ Short) ⊎ (why ≢ Short)
 is_short Short = inl refl

@@ -25,7 +25,8 @@ use Rattle.npos_cli.specs.Streaming.{Halts, ReplayEnds}
 use Rattle.npos_cli.specs.Ran.{Traffic, HaltedBy, Ran, DemoEnds}
 use Rattle.npos_cli.proofs.EdgeLaws.{unflushed, takes_none}
 use Rattle.npos_cli.proofs.RunLaws.{found_unread, nothing_asked, front_found, front_delivered}
-use Rattle.npos_cli.proofs.CourseLaws.{finds_for, has_written, begins_starved}
+use Rattle.npos_cli.proofs.CourseLaws.{has_written, begins_starved}
+use Rattle.npos_cli.proofs.StartLaws.{finds_for}
 
 -- nothing was delivered, which is a front of any text
 pub front_none : (now : Option Told) (text : List ℕ) → DeliversFront now now text
@@ -224,7 +225,7 @@ halted_of Checkpoint t result ends e = cc
 answers_of : (output : Output) (t : Traffic) (result : Result Status Halt) → ReplayEnds (machine_of output) t.left t.left_now t.told t.told_now result
     → IfOk result (AnswersFor (Some (replaying output)) t.left t.told t.told_now)
 answers_of output t (Ok status) done =
-    let finds = finds_for output t.left t.left_now done.text done.faulty status done.finds done.status_is in
+    let finds = finds_for (machine_of output) t.left t.left_now done.text done.faulty status done.finds done.status_is in
     (done.text, (finds.0, finds.1, owed_by output finds.0 done.text status finds.2), done.delivers)
 answers_of output t (Err halt) cut = tt
 

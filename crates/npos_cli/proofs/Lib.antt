@@ -3,6 +3,7 @@ pub mod EdgeLaws
 pub mod GrowLaws
 pub mod ChainLaws
 pub mod TurnLaws
+pub mod WritLaws
 pub mod SavableLaws
 pub mod NearLaws
 pub mod StartLaws
@@ -21,6 +22,7 @@ pub mod JobLaws
 pub mod EndLaws
 pub mod RewriteLaws
 pub mod GoingLaws
+pub mod IntakeLaws
 pub mod PoolLaws
 pub mod ResumeLaws
 pub mod FairLaws

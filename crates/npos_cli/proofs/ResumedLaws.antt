@@ -10,7 +10,7 @@ use Rattle.npos_runtime.specs.History.{CanTake}
 use Rattle.npos_runtime.specs.Laws.{IsSeatedSoundly, SeatedSoundLaw, NoneCrowdedOutLaw}
 use Rattle.npos_runtime.specs.Outcome.{Election}
 use Rattle.npos_runtime.specs.Restoring.{state_fault}
-use Rattle.npos_runtime.specs.Savable.{IsSavable, RestoredLaw}
+use Rattle.npos_runtime.specs.Savable.{IsSavable, RestoredStateLaw}
 use Rattle.npos_runtime.specs.Seatings.{SeatingsLaw}
 use Rattle.npos_runtime.specs.Step.{step, seated_by}
 use Rattle.npos_cli.specs.Replay.{Spot, behind, Passes, Reaches, Starts, all_seated, Outcome, BadGenesis, FaultyGenesis, Replayed}
@@ -35,7 +35,7 @@ seated_are : (state : Chain) (blocks : List Block) → all_seated resume_machine
 seated_are state [] = refl
 seated_are state (block ∷ blocks) = ap (λ later. (step state block).seated ++ later) (seated_are (step state block).state blocks)
 
-module _ (restored : RestoredLaw) (bytes : List ℕ) (start : Spot Chain) (starts : Starts resume_machine bytes start) where
+module _ (restored : RestoredStateLaw) (bytes : List ℕ) (start : Spot Chain) (starts : Starts resume_machine bytes start) where
   savable_start : IsSavable start.state
   savable_start =
       let by = resumed_by starts.genesis start.state (state_fault starts.genesis) refl starts.state_is in
@@ -48,12 +48,12 @@ module _ (restored : RestoredLaw) (bytes : List ℕ) (start : Spot Chain) (start
       let live = live_passes reaches.blocks start place text passes between.live in
       record { between = between; fit = omega (arith, live.due.at_most, due_passes reaches.blocks start place text passes) }
 
-pub books_go_on : RestoredLaw → (bytes : List ℕ) → ResumedBooksBalance bytes
+pub books_go_on : RestoredStateLaw → (bytes : List ℕ) → ResumedBooksBalance bytes
 books_go_on restored bytes start place text starts reaches =
     let live = (savable_start restored bytes start starts).ready.between.live in
     (live_passes reaches.blocks start place text (as_replayed reaches.blocks start place text reaches.passes) live).books.balanced
 
-pub seats_go_on : RestoredLaw → SeatedSoundLaw → (bytes : List ℕ) → ResumedSeatsAreSound bytes
+pub seats_go_on : RestoredStateLaw → SeatedSoundLaw → (bytes : List ℕ) → ResumedSeatsAreSound bytes
 seats_go_on restored law bytes out (BadGenesis at why bad o) =
     subst (λ (out : Outcome Chain Election). All IsSeatedSoundly out.seated) (sym o) (λ k d below. absurd (omega (arith, below)))
 seats_go_on restored law bytes out (FaultyGenesis state rest line in_range whole faulty o) =
@@ -63,19 +63,19 @@ seats_go_on restored law bytes out (Replayed p q text line faulty starts reaches
     (subst (All IsSeatedSoundly) (sym (seated_are p.state reaches.blocks))
     (law p.state reaches.blocks (can_take restored bytes p starts q text reaches)))
 
-pub rounds_go_on : RestoredLaw → SeatingsLaw → (bytes : List ℕ) → ResumedRoundsAreSeated bytes
+pub rounds_go_on : RestoredStateLaw → SeatingsLaw → (bytes : List ℕ) → ResumedRoundsAreSeated bytes
 rounds_go_on restored law bytes start place text starts reaches =
     law start.state reaches.blocks (can_take restored bytes start starts place text reaches)
 
-pub none_crowded_on : RestoredLaw → NoneCrowdedOutLaw → (bytes : List ℕ) → ResumedNoneIsCrowdedOut bytes
+pub none_crowded_on : RestoredStateLaw → NoneCrowdedOutLaw → (bytes : List ℕ) → ResumedNoneIsCrowdedOut bytes
 none_crowded_on restored law bytes start place text starts reaches decision =
     law start.state reaches.blocks decision (can_take restored bytes start starts place text reaches)
 
-pub deposits_go_on : RestoredLaw → DepositsGoOnLaw → (bytes : List ℕ) → ResumedDepositsAreKept bytes
+pub deposits_go_on : RestoredStateLaw → DepositsGoOnLaw → (bytes : List ℕ) → ResumedDepositsAreKept bytes
 deposits_go_on restored law bytes start place text starts reaches =
     law start.state reaches.blocks (can_take restored bytes start starts place text reaches) (savable_start restored bytes start starts).sound.queue
 
-pub eras_go_on : RestoredLaw → OnceOnLaw → PaidOnLaw → ToldOnLaw → DuesOnLaw → SlashLaw → QueuedLaw → AppliedLaw → TakenInAllLaw
+pub eras_go_on : RestoredStateLaw → OnceOnLaw → PaidOnLaw → ToldOnLaw → DuesOnLaw → SlashLaw → QueuedLaw → AppliedLaw → TakenInAllLaw
     → (bytes : List ℕ) → ResumedErasAreKept bytes
 eras_go_on restored once paid told dues slash queued applied in_all bytes start place text starts reaches =
     let can = can_take restored bytes start starts place text reaches in

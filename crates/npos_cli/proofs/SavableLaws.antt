@@ -6,7 +6,7 @@ use Rattle.npos_runtime.specs.Savable.{IsSavable, SavableStepLaw}
 use Rattle.npos_runtime.specs.Step.{step}
 use Rattle.npos_cli.specs.declared.output.Output.{Output}
 use Rattle.npos_cli.specs.declared.output.Output.TheVariants.{Checkpoint}
-use Rattle.npos_cli.specs.declared.replaying.Turn.TheVariants.{Taken}
+use Rattle.npos_cli.specs.declared.turn.Turn.TheVariants.{Taken}
 use Rattle.npos_cli.specs.Outputs.{block_text, machine_of}
 use Rattle.npos_cli.specs.Replay.{Spot, behind, Passes, Reaches}
 use Rattle.npos_cli.specs.Turning.{TakesTurn}

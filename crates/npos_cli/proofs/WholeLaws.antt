@@ -28,6 +28,12 @@ module _ {G B S E : Type 0} (m : Machine G B S E) (genesis_laws : IsWire m.genes
     passes.4,
   )
 
+  abbrev pub reaches_grow : (more : List ℕ) (p q : Spot S) (text : List ℕ) → Reaches m p q text → Reaches m (grown more p) (grown more q) text
+  reaches_grow more p q text reaches = record {
+    blocks = reaches.blocks;
+    passes = passes_grow more reaches.blocks p q text reaches.passes;
+  }
+
   pub start_grows : (more bytes : List ℕ) (p : Spot S) → Starts m bytes p → Starts m (bytes ++ more) (grown more p)
   start_grows more bytes p start = record {
     genesis = start.genesis;

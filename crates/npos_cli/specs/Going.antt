@@ -20,6 +20,10 @@ TakesItem {G} {B} {S} {E} m p q old new Taken = (item : B) × IsTurn m p item q.
     × (q ≡ behind m p item q.rest) × (new ≡ old ++ m.lines p.state item)
 TakesItem m p q old new (Last faulty) = (line : List ℕ) × Stops m p line faulty × (new ≡ old ++ line)
 
+-- items lead from one place to the other, and were told
+abbrev pub HasTold : {G B S E : Type 0} → Machine G B S E → Spot S → Spot S → List ℕ → List ℕ → Type 0
+HasTold m p q old new = (written : List ℕ) × Reaches m p q written × (new ≡ old ++ written)
+
 -- items lead from here to where the input ends
 abbrev pub GoesOn : {G B S E : Type 0} → Machine G B S E → Spot S → List ℕ → List ℕ → Bool → Type 0
 GoesOn {G} {B} {S} {E} m p old new faulty = (q : Spot S) × (written : List ℕ) × (line : List ℕ)

@@ -14,6 +14,7 @@ pub mod Outputs
 pub mod Books
 pub mod Headline
 pub mod Turning
+pub mod Intake
 pub mod Streaming
 pub mod Ran
 pub mod Laws

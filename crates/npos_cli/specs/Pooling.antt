@@ -4,8 +4,8 @@ use Rattle.scale_wire.specs.Reading.{Place}
 use Rattle.stake_pools.specs.declared.chain.PoolChain.{PoolChain}
 use Rattle.npos_cli.specs.Replay.{Spot}
 use Rattle.npos_cli.specs.Pools.{PoolRun}
+use Rattle.npos_cli.specs.Turning.{spot}
 
 -- where a cursor and a pool stand together, behind so many items
 abbrev pub pool_spot : Place → ℕ → PoolChain → Spot PoolRun
-pool_spot place asked chain =
-    record { at = place.at; state = record { asked = asked; pool = chain }; rest = place.rest }
+pool_spot place asked chain = spot place (record { asked = asked; pool = chain })

@@ -1,5 +1,5 @@
 -- The lines of faults that a replay alone has.
-use Rattle.std.specs.Prelude.{ℕ, List, ◌++◌, codes, decimal}
+use Rattle.std.specs.Prelude.{ℕ, List, [], ◌++◌, codes, decimal, Option, Some, None}
 use Rattle.told_lines.specs.Texts.{newline}
 
 -- at this place stands the number of a block that is not the due one
@@ -8,7 +8,8 @@ number_line at due found =
     codes "fault " ++ (decimal at ++ (codes " number due "
     ++ (decimal due ++ (codes " found " ++ (decimal found ++ newline)))))
 
--- the genesis has the fault of this number, with this detail
-abbrev pub genesis_line : ℕ × ℕ → List ℕ
-genesis_line fault =
+-- the genesis has the fault of this number, with this detail; a fault without numbers has no line
+abbrev pub genesis_line : Option (ℕ × ℕ) → List ℕ
+genesis_line None = []
+genesis_line (Some fault) =
     codes "fault 0 genesis " ++ (decimal fault.0 ++ (codes " " ++ (decimal fault.1 ++ newline)))

@@ -4,19 +4,19 @@ use Rattle.scale_wire.specs.declared.fault.Why.TheVariants.{Short, Trailing}
 use Rattle.npos_base.specs.Outside.{Told, Appends}
 use Rattle.scale_wire.specs.Reading.{Place}
 use Rattle.npos_runtime.specs.declared.chain.Chain.{Chain}
-use Rattle.npos_cli.specs.declared.replaying.Turn.{Turn}
-use Rattle.npos_cli.specs.declared.replaying.Turn.TheVariants.{Taken, Stopped}
-use Rattle.npos_cli.specs.declared.replaying.Stop.{Stop}
-use Rattle.npos_cli.specs.declared.replaying.Stop.TheVariants.{More, Last}
+use Rattle.npos_cli.specs.declared.turn.Turn.{Turn}
+use Rattle.npos_cli.specs.declared.turn.Turn.TheVariants.{Taken, Stopped}
+use Rattle.npos_cli.specs.declared.turn.Stop.{Stop}
+use Rattle.npos_cli.specs.declared.turn.Stop.TheVariants.{More, Last}
 use Rattle.bundle_reports.specs.Texts.{fault_line}
 use Rattle.npos_cli.specs.declared.halt.Halt.{Halt}
 use Rattle.npos_cli.specs.declared.halt.Halt.TheVariants as halts
 use Rattle.npos_cli.specs.Ahead.{MayFollow}
 use Rattle.npos_cli.specs.Replay.{Machine, Spot, turn, IsTurn, behind, Starts, Reaches, Stops, IsFront}
 
--- where a cursor and a chain stand together
-abbrev pub spot : Place → Chain → Spot Chain
-spot place chain = record { at = place.at; state = chain; rest = place.rest }
+-- where a cursor and a state stand together
+abbrev pub spot : {S : Type 0} → Place → S → Spot S
+spot place state = record { at = place.at; state = state; rest = place.rest }
 
 -- Behind a genesis, which has fewer than 2^23 bytes, stand blocks of fewer than 2^28 bytes each,
 -- whose numbers rise by one and are below 2^32: so no place comes near 2^64.

@@ -5,6 +5,7 @@ mod edges;
 mod going;
 mod halt;
 mod input;
+mod intake;
 mod job;
 pub mod laws;
 mod output;
@@ -18,6 +19,7 @@ mod rewriting;
 mod status;
 mod telling;
 mod top;
+mod turn;
 
 pub use bundle_reports::{Miner, Rewriting, Task};
 pub use job::Job;

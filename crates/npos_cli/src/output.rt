@@ -31,13 +31,15 @@ pub fn tell_block(output: Output, text: &mut Vec<u8>, lines: &[Line]) -> Result<
 
 /// Appends the checkpoint of the chain.
 fn tell_checkpoint(alloc: Global, text: &mut Vec<u8>, runtime: &Runtime) -> Result<(), NoMemory>
-    requires { state_form.in_range (kept runtime.now.state) }
+    requires unspent { runtime.now.spent ≡ false }
+    requires range { state_form.in_range (kept runtime.now.state) }
     ensures { OnOk result (text.new.items
         ≡ text.old.items ++ state_form.spelling (kept runtime.now.state)) }
 {
     let state = match runtime.save(alloc) {
         Ok(state) => state,
-        Err(SaveFault::Spent | SaveFault::NoMemory) => return Err(NoMemory),
+        Err(SaveFault::Spent) => unreachable!(),
+        Err(SaveFault::NoMemory) => return Err(NoMemory),
     };
     let bytes = write_state(alloc, &state)?;
     text.extend_from_slice(bytes.as_slice())?;
@@ -51,7 +53,8 @@ pub fn tell_chain(
     text: &mut Vec<u8>,
     runtime: &Runtime,
 ) -> Result<(), NoMemory>
-    requires { state_form.in_range (kept runtime.now.state) }
+    requires unspent { runtime.now.spent ≡ false }
+    requires range { state_form.in_range (kept runtime.now.state) }
     ensures { OnOk result
         (text.new.items ≡ text.old.items ++ end_text output runtime.now.state) }
 {

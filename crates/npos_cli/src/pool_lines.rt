@@ -21,9 +21,9 @@ pub fn tell_pool_fault(text: &mut Vec<u8>, fault: PoolFault) -> Result<(), NoMem
         ++ genesis_line (fault_numbers fault)) }
     ensures memory { OnOk result (fault ≢ faults.NoMemory) }
 {
-    match fault {
-        PoolFault::NoMemory => Err(NoMemory),
-        fault => tell_fault_of_genesis(text, fault.number(), fault.detail()),
+    match fault.numbers() {
+        None => Err(NoMemory),
+        Some((number, detail)) => tell_fault_of_genesis(text, number, detail),
     }
 }
 

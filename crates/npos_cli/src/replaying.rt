@@ -4,7 +4,7 @@ ghost use Rattle.std.specs.Prelude.{◌≡◌, ◌≢◌, ◌+◌, ◌<◌, ◌�
 ghost use Rattle.npos_runtime.specs.Savable.{IsSavable};
 ghost use Rattle.npos_base.specs.Outside.{Appends, StopsTrying};
 ghost use Rattle.npos_cli.specs.declared.halt.Halt.TheVariants as halts;
-ghost use Rattle.npos_cli.specs.declared.replaying.Stop.TheVariants as stops;
+ghost use Rattle.npos_cli.specs.declared.turn.Stop.TheVariants as stops;
 ghost use Rattle.npos_cli.specs.declared.output.Output.TheVariants as outputs;
 ghost use Rattle.npos_cli.specs.Outputs.{end_text, machine_of};
 ghost use Rattle.npos_cli.specs.Ahead.{Begins, AwaitsMore, first_place};
@@ -19,6 +19,7 @@ use crate::halt::Halt;
 use crate::output::{Output, tell_block, tell_chain};
 use crate::pieces::{PIECE, blank_piece, read_piece};
 use crate::telling::{tell_genesis_fault, tell_other_number};
+use crate::turn::{Stop, Turn};
 use block_wire::{Genesis, Next, StreamReader};
 use bundle_reports::tell_fault;
 use npos_base::{NoMemory, Sink, Source};
@@ -26,21 +27,6 @@ use npos_runtime::laws::chains_can_be_saved;
 use npos_runtime::{BlockFault, Runtime};
 use scale_wire::fault::{ReadFault, Why, WireFault};
 use std::alloc::Global;
-
-/// Where the reader of what is held stops.
-enum Stop {
-    /// Bytes are missing, and more may come.
-    More,
-    /// The replay ended, with a fault line or not.
-    Last { faulty: bool },
-}
-
-/// What a turn of the reader came to.
-enum Turn {
-    /// A block was taken.
-    Taken,
-    Stopped(Stop),
-}
 
 /// Ends the replay behind the None: with what is told of the chain, or because a byte follows.
 fn tell_stop(
@@ -50,7 +36,8 @@ fn tell_stop(
     runtime: &Runtime,
     text: &mut Vec<u8>,
 ) -> Result<Stop, NoMemory>
-    requires { IsSavable runtime.now.state }
+    requires unspent { runtime.now.spent ≡ false }
+    requires savable { IsSavable runtime.now.state }
     ensures { IfOk result (StopsHere reader.now
         (end_text output runtime.now.state) text.old.items text.new.items) }
 {
@@ -102,7 +89,8 @@ fn take_turn(
             tell_other_number(text, at, due, found)?;
             Ok(Turn::Stopped(Stop::Last { faulty: true }))
         }
-        Err(BlockFault::Spent | BlockFault::NoMemory) => Err(NoMemory),
+        Err(BlockFault::Spent) => unreachable!(),
+        Err(BlockFault::NoMemory) => Err(NoMemory),
     }
 }
 

@@ -75,7 +75,8 @@ fn take_block(
             tell_other_number(text, at + 1, due, found)?;
             Ok(Turn::Last { faulty: true })
         }
-        Err(BlockFault::Spent | BlockFault::NoMemory) => Err(NoMemory),
+        Err(BlockFault::Spent) => unreachable!(),
+        Err(BlockFault::NoMemory) => Err(NoMemory),
     }
 }
 

@@ -1,5 +1,5 @@
 //! The lines of blocks, of their faults, and the end line.
-ghost use Rattle.std.specs.Prelude.{◌≡◌, ◌≢◌, ◌++◌, flat_map, decimal, OnOk};
+ghost use Rattle.std.specs.Prelude.{◌≡◌, ◌≢◌, ◌++◌, flat_map, decimal, Some, OnOk};
 ghost use Rattle.told_lines.specs.Texts.{newline};
 ghost use Rattle.bundle_reports.specs.Texts.{fault_line, word_of};
 ghost use Rattle.npos_cli.specs.Texts.{number_line, genesis_line};
@@ -43,9 +43,9 @@ pub fn tell_genesis_fault(text: &mut Vec<u8>, fault: GenesisFault) -> Result<(),
         ++ genesis_line (fault_numbers fault)) }
     ensures memory { OnOk result (fault ≢ faults.NoMemory) }
 {
-    match fault {
-        GenesisFault::NoMemory => Err(NoMemory),
-        fault => tell_fault_of_genesis(text, fault.number(), fault.detail()),
+    match fault.numbers() {
+        None => Err(NoMemory),
+        Some((number, detail)) => tell_fault_of_genesis(text, number, detail),
     }
 }
 
@@ -68,7 +68,7 @@ pub fn tell_state_fault(text: &mut Vec<u8>, fault: StateFault) -> Result<(), NoM
 
 /// Appends the line of the genesis fault with this number and this detail.
 pub fn tell_fault_of_genesis(text: &mut Vec<u8>, number: u8, detail: u32) -> Result<(), NoMemory>
-    ensures { OnOk result (text.new.items ≡ text.old.items ++ genesis_line (number, detail)) }
+    ensures { OnOk result (text.new.items ≡ text.old.items ++ genesis_line (Some (number, detail))) }
 {
     tell(
         text,

@@ -153,8 +153,7 @@ fn run_job<S: Source, K: Sink>(
     }
 }
 
-/// Finds the job that the words ask for, and does it. Where memory is refused before the job is
-/// known, nothing is read or written.
+/// Finds the job that the words ask for, and does it.
 fn run_words<S: Source, K: Sink>(
     alloc: Global,
     words: &[String],

@@ -1,7 +1,7 @@
 use Rattle.std.proofs.Common.{rules, ◌≡◌, ◌+◌, length, refl, ap, ◌∙◌, Ok, arith, length-append}
 use Rattle.std.proofs.lemmas.Result.{err_from_is_err_and}
 use Rattle.scale_wire.specs.Reading.{Place}
-use Rattle.npos_cli.specs.declared.replaying.Stop.TheVariants.{More, Last}
+use Rattle.npos_cli.specs.declared.turn.Stop.TheVariants.{More, Last}
 use Rattle.npos_cli.specs.Outputs.{machine_of}
 use Rattle.npos_cli.specs.Turning.{spot, WritesOn}
 use Rattle.npos_cli.proofs.TurnLaws.{ends_alike, nearer_end}
@@ -9,6 +9,7 @@ use Rattle.npos_cli.proofs.NearLaws.{reaches_near, cut_room}
 use Rattle.npos_cli.proofs.SavableLaws.{savable_reaches}
 use Rattle.npos_cli.proofs.AskLaws.{asks_last, asks_more, tries_more}
 use Rattle.npos_cli.proofs.CourseLaws.{course_on, course_last, course_cut, course_unread, wary_on}
+use Rattle.npos_cli.proofs.ChainLaws.{genesis_laws, turn_laws}
 use Rattle.npos_cli.proofs.replaying.take_all.Goals as goal
 
 pub returns-in_err-faulty-clause-runs : goal.returns-in_err-faulty-clause-runs
@@ -66,7 +67,7 @@ pieces-smaller g c =
     let rest : length c.read_piece.new.reader.rest ≡ length c.take_turns.new.reader.rest + length feeds.0 = ap (λ (p : Place). length p.rest) feeds.3.0 ∙ length-append c.take_turns.new.reader.rest feeds.0 in
     nearer_end (c.pieces.reader.at + length c.pieces.reader.rest) (c.take_turns.new.reader.at + length c.take_turns.new.reader.rest) (c.read_piece.new.reader.at + length c.read_piece.new.reader.rest)
     c.pieces.ended c.in_ok-ended-in-More.ended writes.0
-    (ends_alike c.args.output (spot c.pieces.reader c.pieces.runtime.state) (spot c.take_turns.new.reader c.take_turns.new.runtime.state) writes.2.0 writes.2.1)
+    (ends_alike (machine_of c.args.output) genesis_laws turn_laws (spot c.pieces.reader c.pieces.runtime.state) (spot c.take_turns.new.reader c.take_turns.new.runtime.state) writes.2.0 writes.2.1)
     (omega (arith, room)) (omega (arith, at, rest)) (λ e. omega (arith, at, c.in_ok-ended-in-More.ensures.further e))
 
 pub pieces-preserved : goal.pieces-preserved

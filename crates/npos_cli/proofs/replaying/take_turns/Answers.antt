@@ -1,13 +1,13 @@
 use Rattle.std.proofs.Common.{rules, ◌∙◌, subst, List, ℕ, Err}
 use Rattle.std.proofs.lemmas.Result.{err_from_is_err_and}
 use Rattle.npos_base.specs.Outside.{Appends}
-use Rattle.npos_cli.specs.declared.replaying.Turn.TheVariants.{Taken, Stopped}
+use Rattle.npos_cli.specs.declared.turn.Turn.TheVariants.{Taken, Stopped}
 use Rattle.npos_cli.specs.Outputs.{machine_of}
 use Rattle.npos_cli.specs.Owed.{Puts}
 use Rattle.npos_cli.specs.Turning.{spot, TakesTurn}
 use Rattle.npos_cli.proofs.SavableLaws.{savable_turn, silent_turn}
 use Rattle.npos_cli.proofs.AskLaws.{tries_more}
-use Rattle.npos_cli.proofs.TurnLaws.{writ_more, writ_cut, writ_stop}
+use Rattle.npos_cli.proofs.WritLaws.{writ_more, writ_cut, writ_stop}
 use Rattle.npos_cli.proofs.replaying.take_turns.Goals as goal
 
 pub turns-preserved : goal.turns-preserved

@@ -3,7 +3,7 @@ use Rattle.npos_runtime.specs.Savable.{IsSavable}
 use Rattle.npos_cli.specs.declared.output.Output.TheVariants.{Checkpoint}
 use Rattle.npos_cli.specs.Turning.{spot}
 use Rattle.npos_cli.proofs.AskLaws.{TriesOn}
-use Rattle.npos_cli.proofs.TurnLaws.{HasWrit}
+use Rattle.npos_cli.proofs.WritLaws.{HasWrit}
 use Rattle.npos_cli.proofs.replaying.take_turns.Given as goal
 
 -- the blocks so far lead from the start to here, and what they write was written
