@@ -13,6 +13,8 @@ mod ordinary;
 #[cfg(test)]
 mod outside;
 #[cfg(test)]
+mod pools;
+#[cfg(test)]
 mod refusals;
 #[cfg(test)]
 mod replays;

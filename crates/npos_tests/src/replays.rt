@@ -8,11 +8,11 @@ use std::alloc::Global;
 use std::test::Fail;
 
 // The bytes of the accounts 1 and 9.
-const ONE: [u8; 32] = [
+pub const ONE: [u8; 32] = [
     0, 0, 0, 0, 0, 0, 0, 0, 0, 0, 0, 0, 0, 0, 0, 0, 0, 0, 0, 0, 0, 0, 0, 0, 0, 0, 0, 0, 0, 0, 0, 1,
 ];
 
-const NINE: [u8; 32] = [
+pub const NINE: [u8; 32] = [
     0, 0, 0, 0, 0, 0, 0, 0, 0, 0, 0, 0, 0, 0, 0, 0, 0, 0, 0, 0, 0, 0, 0, 0, 0, 0, 0, 0, 0, 0, 0, 9,
 ];
 
@@ -126,22 +126,115 @@ const BLOCKS: [&[u8]; 4] = [
     &[0x01, 0x08, 0x00, 0x01, 0x0c, 0x00, 0x00],
 ];
 
-// Outsides that fail over those blocks: the size of a piece and the numbers of the reads, and of
-// the writes and the flush, that fail; and then the status, what is written and how many bytes are
-// left.
-static FAILING: [(usize, &[u64], &[u64], u8, &str, usize); 12] = [
-    (70, &[0], &[], 4, "", 211),
-    (70, &[1], &[], 4, "", 141),
-    (70, &[2], &[], 4, "", 71),
-    (70, &[3], &[], 4, THIRD_BLOCK, 1),
-    (70, &[4], &[], 4, THIRD_BLOCK, 0),
-    (206, &[1], &[], 4, FIRST_BLOCK, 5),
-    (4096, &[], &[0], 5, "", 0),
-    (20, &[], &[1], 5, "block 1\ncall 0 ok\nca", 0),
-    (4096, &[], &[1], 5, FIRST_BLOCK, 0),
-    (4096, &[], &[2], 5, SECOND_BLOCK, 0),
-    (4096, &[], &[3], 5, THIRD_BLOCK, 0),
-    (4096, &[], &[4], 5, WHOLE, 0),
+/// An outside that fails over those blocks, and what a replay then comes to.
+struct Failing {
+    piece: usize,
+    /// The numbers of the reads, and of the writes and the flush, that fail.
+    reads: &'static [u64],
+    writes: &'static [u64],
+    status: u8,
+    text: &'static str,
+    /// How many bytes are left.
+    left: usize,
+}
+
+static FAILING: [Failing; 12] = [
+    Failing {
+        piece: 70,
+        reads: &[0],
+        writes: &[],
+        status: 4,
+        text: "",
+        left: 211,
+    },
+    Failing {
+        piece: 70,
+        reads: &[1],
+        writes: &[],
+        status: 4,
+        text: "",
+        left: 141,
+    },
+    Failing {
+        piece: 70,
+        reads: &[2],
+        writes: &[],
+        status: 4,
+        text: "",
+        left: 71,
+    },
+    Failing {
+        piece: 70,
+        reads: &[3],
+        writes: &[],
+        status: 4,
+        text: THIRD_BLOCK,
+        left: 1,
+    },
+    Failing {
+        piece: 70,
+        reads: &[4],
+        writes: &[],
+        status: 4,
+        text: THIRD_BLOCK,
+        left: 0,
+    },
+    Failing {
+        piece: 206,
+        reads: &[1],
+        writes: &[],
+        status: 4,
+        text: FIRST_BLOCK,
+        left: 5,
+    },
+    Failing {
+        piece: 4096,
+        reads: &[],
+        writes: &[0],
+        status: 5,
+        text: "",
+        left: 0,
+    },
+    Failing {
+        piece: 20,
+        reads: &[],
+        writes: &[1],
+        status: 5,
+        text: "block 1\ncall 0 ok\nca",
+        left: 0,
+    },
+    Failing {
+        piece: 4096,
+        reads: &[],
+        writes: &[1],
+        status: 5,
+        text: FIRST_BLOCK,
+        left: 0,
+    },
+    Failing {
+        piece: 4096,
+        reads: &[],
+        writes: &[2],
+        status: 5,
+        text: SECOND_BLOCK,
+        left: 0,
+    },
+    Failing {
+        piece: 4096,
+        reads: &[],
+        writes: &[3],
+        status: 5,
+        text: THIRD_BLOCK,
+        left: 0,
+    },
+    Failing {
+        piece: 4096,
+        reads: &[],
+        writes: &[4],
+        status: 5,
+        text: WHOLE,
+        left: 0,
+    },
 ];
 
 // The lines up to a block, and all lines.
@@ -176,15 +269,15 @@ fn damaged_streams_end_with_a_fault_line(rt: HostRuntime) -> Result<(), Fail> {
 
 #[test]
 fn a_failed_read_or_write_ends_the_run(rt: HostRuntime) -> Result<(), Fail> {
-    for &(piece, reads, writes, status, text, left) in &FAILING {
+    for row in &FAILING {
         let outside = Outside {
-            piece,
-            reads,
-            writes,
+            piece: row.piece,
+            reads: row.reads,
+            writes: row.writes,
         };
         let ran = replay_parts(rt.alloc(), &BLOCKS, outside)?;
-        assert_eq!(rt; ran.written.as_slice(), text.as_bytes());
-        assert_eq!(rt; (ran.status, ran.left), (status, left));
+        assert_eq!(rt; ran.written.as_slice(), row.text.as_bytes());
+        assert_eq!(rt; (ran.status, ran.left), (row.status, row.left));
     }
     Ok(())
 }
@@ -245,88 +338,6 @@ fn words_without_a_form_owe_the_usage_line(rt: HostRuntime) -> Result<(), Fail> 
             "usage: npos replay|check|mine|pack|show|demo|checkpoint|resume|pools\n",
         );
         assert_eq!(rt; ran.left, 69);
-    }
-    Ok(())
-}
-
-// The bytes of the account 2.
-const TWO: [u8; 32] = [
-    0, 0, 0, 0, 0, 0, 0, 0, 0, 0, 0, 0, 0, 0, 0, 0, 0, 0, 0, 0, 0, 0, 0, 0, 0, 0, 0, 0, 0, 0, 0, 2,
-];
-
-// The genesis of a pool: the accounts 1 and 2 have 100 units each, the pool is 9, and what leaves
-// waits one era.
-const POOL: [&[u8]; 7] = [
-    &[0x08],
-    &ONE,
-    &[0x91, 0x01],
-    &TWO,
-    &[0x91, 0x01],
-    &NINE,
-    &[0x04],
-];
-
-// Accounts and what they ask of the pool, each behind the tag 1, and what is written of it.
-static POOLED: [(&[(&[u8; 32], &[u8])], &str); 2] = [
-    (
-        &[
-            (&ONE, &[0x00, 0xf0]), // joins with 60
-            (&TWO, &[0x00, 0xa0]), // joins with 40
-            (&ONE, &[0x03, 0x28]), // rewards 10
-            (&NINE, &[0x05, 0xc8]), // slashes 50
-            (&TWO, &[0x00, 0x28]), // joins with 10
-            (&ONE, &[0x01, 0xf0]), // leaves with 60 points
-            (&ONE, &[0x02]), // redeems too early
-            (&NINE, &[0x06]), // begins an era
-            (&ONE, &[0x02]), // redeems
-            (&ONE, &[0x04]), // claims
-        ],
-        "call 0 ok\n\
-call 1 ok\n\
-call 2 ok\n\
-call 3 ok\n\
-slashed 0000000000000000000000000000000000000000000000000000000000000009 50\n\
-call 4 ok\n\
-call 5 ok\n\
-call 6 refused 36\n\
-call 7 ok\n\
-call 8 ok\n\
-paid 0000000000000000000000000000000000000000000000000000000000000001 30\n\
-call 9 ok\n\
-paid 0000000000000000000000000000000000000000000000000000000000000001 6\n\
-pool points 60 active 30 pot 4 credits 4\n\
-end free 120 active 30 unlocking 0 deposits 0 minted 0 burned 50 issuance 150\n",
-    ),
-    (
-        &[
-            (&ONE, &[0x00, 0xf0]),
-            (&TWO, &[0x00, 0xa0]),
-            (&ONE, &[0x03, 0x04]), // rewards 1
-        ],
-        "call 0 ok\n\
-call 1 ok\n\
-call 2 ok\n\
-pool points 100 active 100 pot 1 credits 0\n\
-end free 100 active 100 unlocking 0 deposits 0 minted 0 burned 0 issuance 200\n",
-    ),
-];
-
-fn pool_input(alloc: Global, items: &[(&[u8; 32], &[u8])]) -> Result<List<u8>, NoMemory> {
-    let mut pen = Pen::new(alloc);
-    put_parts(&mut pen, &POOL)?;
-    for (who, kind) in items {
-        put_parts(&mut pen, &[&[0x01], *who, *kind])?;
-    }
-    pen.put_u8(0)?;
-    Ok(pen.finish())
-}
-
-#[test]
-fn pools_are_gone_through(rt: HostRuntime) -> Result<(), Fail> {
-    for &(items, text) in &POOLED {
-        let bytes = pool_input(rt.alloc(), items)?;
-        let ran = run_over(rt.alloc(), &["npos", "pools"], bytes, calm(7))?;
-        delivered(&rt, &ran, 0, text);
     }
     Ok(())
 }

@@ -1,7 +1,7 @@
 //! Streams that stop behind a block and go on from its checkpoint: what is written then is what the
 //! whole replay writes there. The texts were made by another program.
 use crate::stream_calls::{Call, Stream, put_block, put_stream_genesis};
-use crate::stream_rows::STREAMS;
+use crate::stream_rows::{SECOND_WINS, STREAMS};
 use crate::streams::run_verb;
 use npos_base::{List, NoMemory};
 use scale_wire::Pen;
@@ -194,7 +194,7 @@ fn told_of_overspent(alloc: Global, stream: &Stream) -> Result<Vec<u8>, NoMemory
 
 #[test]
 fn an_edge_gives_no_more_than_its_voter_has(rt: HostRuntime) -> Result<(), Fail> {
-    let text = told_of_overspent(rt.alloc(), &STREAMS[9])?;
+    let text = told_of_overspent(rt.alloc(), &SECOND_WINS)?;
     assert_eq!(rt; text.as_slice(), b"fault 0 checkpoint 11 11 0\n".as_slice());
     Ok(())
 }

@@ -142,7 +142,7 @@ fn fault_of(alloc: Global, params: Params, wait: Option<u32>) -> Result<(u8, u32
     };
     Ok(match start(alloc, genesis) {
         Ok(_) => (0, 0),
-        Err(fault) => (fault.number(), fault.detail()),
+        Err(fault) => fault.numbers().ok_or(NoMemory)?,
     })
 }
 

@@ -16,6 +16,33 @@ pub const BONDS: [Call; 6] = [
     Call(3, Validate(0)),
 ];
 
+/// The best claim is wrong, and the second wins.
+pub const SECOND_WINS: Stream = Stream {
+    endowment: 100,
+    least_bond: 10,
+    places: 3,
+    blocks: &[
+        &BONDS,
+        &[],
+        &[
+            Call(4, Claim(40)),
+            Call(4, Claim(39)),
+            Call(5, Claim(38)),
+            Call(5, Claim(38)),
+            Call(5, Claim(41)),
+        ],
+        &[],
+        &[],
+    ],
+    text: "block 1\ncall 0 ok\ncall 1 ok\ncall 2 ok\ncall 3 ok\ncall 4 ok\ncall 5 ok\nblock 2\n\
+block 3\nsnapshot 1 targets 3 voters 3 total 130\ncall 0 ok\ncall 1 ok\ncall 2 ok\n\
+call 3 refused 20\ncall 4 ok\nreturn 3 12\nblock 4\n\
+block 5\nforfeit 4 12 verdict 9 40 100 5200\nreturn 1 12\nreward 1 5\nreturn 2 12\n\
+seat 1 signed 1\nmember 0000000000000000000000000000000000000000000000000000000000000001 60\n\
+member 0000000000000000000000000000000000000000000000000000000000000002 40\n\
+end free 363 active 130 unlocking 0 deposits 0 minted 5 burned 12 issuance 493\n",
+};
+
 /// Streams, each with what a replay of it writes. There are five accounts and two seats, eras of six
 /// blocks with the snapshot in the third, one era of bonding, and the thresholds 50 and 80.
 pub static STREAMS: [Stream; 18] = [
@@ -198,31 +225,7 @@ call 7 ok\ncall 8 ok\ncall 9 ok\ncall 10 refused 16\nblock 2\nblock 3\nvoid 1 fe
 end free 415 active 85 unlocking 0 deposits 0 minted 0 burned 0 issuance 500\n",
     },
     // ranks and deposits: the best claim is wrong and the second wins
-    Stream {
-        endowment: 100,
-        least_bond: 10,
-        places: 3,
-        blocks: &[
-            &BONDS,
-            &[],
-            &[
-                Call(4, Claim(40)),
-                Call(4, Claim(39)),
-                Call(5, Claim(38)),
-                Call(5, Claim(38)),
-                Call(5, Claim(41)),
-            ],
-            &[],
-            &[],
-        ],
-        text: "block 1\ncall 0 ok\ncall 1 ok\ncall 2 ok\ncall 3 ok\ncall 4 ok\ncall 5 ok\nblock 2\n\
-block 3\nsnapshot 1 targets 3 voters 3 total 130\ncall 0 ok\ncall 1 ok\ncall 2 ok\n\
-call 3 refused 20\ncall 4 ok\nreturn 3 12\nblock 4\n\
-block 5\nforfeit 4 12 verdict 9 40 100 5200\nreturn 1 12\nreward 1 5\nreturn 2 12\n\
-seat 1 signed 1\nmember 0000000000000000000000000000000000000000000000000000000000000001 60\n\
-member 0000000000000000000000000000000000000000000000000000000000000002 40\n\
-end free 363 active 130 unlocking 0 deposits 0 minted 5 burned 12 issuance 493\n",
-    },
+    SECOND_WINS,
     // a wrong claim alone, and the fill is seated
     Stream {
         endowment: 100,

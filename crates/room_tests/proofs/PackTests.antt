@@ -6,24 +6,22 @@ use Rattle.std.proofs.lemmas.List.Elements.{All-cons, All-get_or}
 use Rattle.std.proofs.lemmas.List.FromFn.{length-range_with_len, get_or-range_with_len}
 use Rattle.std.proofs.lemmas.Map.Keys.{IsDistinct-cons}
 use Rattle.std.proofs.lemmas.Bool.Decides.{nat_tests}
+use Rattle.std.proofs.lemmas.Bool.{and_parts}
 use Rattle.npos_base.specs.declared.figures.Edge.{Edge}
 use Rattle.npos_base.specs.declared.limits.TheConstants.{MOST_NOMINATIONS, MOST_VOTERS}
-use Rattle.compact_solution.specs.Packing.{IsPackable, edges_of, stake_at, same_pair}
+use Rattle.npos_base.specs.Edge.{edges_from}
+use Rattle.compact_solution.specs.Packing.{IsPackable, stake_at, same_pair}
 use Rattle.compact_solution.proofs.FitLemmas.{short_filter}
-
-both : (b c : Bool) → (b && c) ≡ true → (b ≡ true) × (c ≡ true)
-both true c e = (refl, e)
-both false c e = absurd (true≢false (sym e))
 
 all_from : {X : Type 0} (P : X → Type 0) (test : X → Bool) → ((x : X) → test x ≡ true → P x) → (xs : List X) → list_all test xs ≡ true → All P xs
 all_from P test each [] e = λ k d lt. absurd (omega (arith, lt))
 all_from P test each (x ∷ xs) e =
-    let parts = both (test x) (list_all test xs) e in All-cons P x xs (each x parts.0) (all_from P test each xs parts.1)
+    let parts = and_parts (test x) (list_all test xs) e in All-cons P x xs (each x parts.0) (all_from P test each xs parts.1)
 
 apart_from : (edge : Edge) (edges : List Edge) → list_all (λ other. not (same_pair edge other)) edges ≡ true → AllByRecursion (λ other. same_pair edge other ≡ false) edges
 apart_from edge [] e = tt
 apart_from edge (other ∷ edges) e =
-    let parts = both (not (same_pair edge other)) (list_all (λ other. not (same_pair edge other)) edges) e in
+    let parts = and_parts (not (same_pair edge other)) (list_all (λ other. not (same_pair edge other)) edges) e in
     (no (same_pair edge other) parts.0, apart_from edge edges parts.1) where
       no : (b : Bool) → not b ≡ true → b ≡ false
       no true e = absurd (true≢false (sym e))
@@ -37,11 +35,11 @@ distinct_from : (edges : List Edge) → are_distinct edges ≡ true → IsDistin
 unfolding IsDistinct
 distinct_from [] e = tt
 distinct_from (edge ∷ edges) e =
-    let parts = both (list_all (λ other. not (same_pair edge other)) edges) (are_distinct edges) e in
+    let parts = and_parts (list_all (λ other. not (same_pair edge other)) edges) (are_distinct edges) e in
     IsDistinct-cons same_pair edge edges (apart_from edge edges parts.0) (distinct_from edges parts.1)
 
 abbrev pub has_stake : List ℕ → List Edge → ℕ → Bool
-has_stake stakes edges voter = nat_le (sum_by (λ edge. edge.amount) (edges_of edges voter)) (stake_at stakes voter)
+has_stake stakes edges voter = nat_le (sum_by (λ edge. edge.amount) (edges_from edges voter)) (stake_at stakes voter)
 
 abbrev pub is_packable : List ℕ → List ℕ → List Edge → Bool
 is_packable stakes committee edges =
@@ -51,12 +49,12 @@ is_packable stakes committee edges =
 
 pub packable : (stakes committee : List ℕ) (edges : List Edge) → is_packable stakes committee edges ≡ true → IsPackable stakes committee edges
 packable stakes committee edges e =
-    let a = both (nat_le (length stakes) MOST_VOTERS) _ e in
-    let b = both (list_all (λ edge. nat_lt edge.voter (length stakes)) edges) _ a.1 in
-    let c = both (are_distinct edges) _ b.1 in
-    let d = both (list_all (λ edge. list_any (λ member. nat_eq member edge.target) committee) edges) _ c.1 in
-    let f = both (list_all (λ edge. nat_lt 0 edge.amount) edges) _ d.1 in
-    let g = both (nat_le (length edges) MOST_NOMINATIONS) _ f.1 in
+    let a = and_parts (nat_le (length stakes) MOST_VOTERS) _ e in
+    let b = and_parts (list_all (λ edge. nat_lt edge.voter (length stakes)) edges) _ a.1 in
+    let c = and_parts (are_distinct edges) _ b.1 in
+    let d = and_parts (list_all (λ edge. list_any (λ member. nat_eq member edge.target) committee) edges) _ c.1 in
+    let f = and_parts (list_all (λ edge. nat_lt 0 edge.amount) edges) _ d.1 in
+    let g = and_parts (nat_le (length edges) MOST_NOMINATIONS) _ f.1 in
     let few : length edges ≤ MOST_NOMINATIONS = grind (arith, nat_tests, g.0) in
     record {
       few_voters = grind (arith, nat_tests, a.0);
@@ -65,11 +63,11 @@ packable stakes committee edges e =
       to_members = all_from (λ (edge : Edge). list_any (λ member. nat_eq member edge.target) committee ≡ true) (λ edge. list_any (λ member. nat_eq member edge.target) committee) (λ edge e. e) edges d.0;
       above = all_from (λ (edge : Edge). 0 < edge.amount) (λ edge. nat_lt 0 edge.amount) (λ edge e. grind (arith, nat_tests, e)) edges f.0;
       few_edges = λ voter. omega (arith, few, short_filter (λ (edge : Edge). nat_eq edge.voter voter) edges);
-      within = λ voter h. within_at voter h (all_from (λ (voter : ℕ). sum_by (λ edge. edge.amount) (edges_of edges voter) ≤ stake_at stakes voter) (has_stake stakes edges) (λ voter e. grind (arith, nat_tests, e)) (range_with_len 0 (length stakes)) g.1);
+      within = λ voter h. within_at voter h (all_from (λ (voter : ℕ). sum_by (λ edge. edge.amount) (edges_from edges voter) ≤ stake_at stakes voter) (has_stake stakes edges) (λ voter e. grind (arith, nat_tests, e)) (range_with_len 0 (length stakes)) g.1);
     } where
-      within_at : (voter : ℕ) → voter < length stakes → All (λ (voter : ℕ). sum_by (λ edge. edge.amount) (edges_of edges voter) ≤ stake_at stakes voter) (range_with_len 0 (length stakes))
-          → sum_by (λ edge. edge.amount) (edges_of edges voter) ≤ stake_at stakes voter
+      within_at : (voter : ℕ) → voter < length stakes → All (λ (voter : ℕ). sum_by (λ edge. edge.amount) (edges_from edges voter) ≤ stake_at stakes voter) (range_with_len 0 (length stakes))
+          → sum_by (λ edge. edge.amount) (edges_from edges voter) ≤ stake_at stakes voter
       within_at voter h all =
           let at : get_or (range_with_len 0 (length stakes)) voter 0 ≡ voter = get_or-range_with_len 0 (length stakes) voter 0 h ∙ zero-add voter in
-          subst (λ (n : ℕ). sum_by (λ edge. edge.amount) (edges_of edges n) ≤ stake_at stakes n) at
-          (All-get_or (λ (voter : ℕ). sum_by (λ edge. edge.amount) (edges_of edges voter) ≤ stake_at stakes voter) (range_with_len 0 (length stakes)) voter 0 (omega (arith, h, length-range_with_len 0 (length stakes))) all)
+          subst (λ (n : ℕ). sum_by (λ edge. edge.amount) (edges_from edges n) ≤ stake_at stakes n) at
+          (All-get_or (λ (voter : ℕ). sum_by (λ edge. edge.amount) (edges_from edges voter) ≤ stake_at stakes voter) (range_with_len 0 (length stakes)) voter 0 (omega (arith, h, length-range_with_len 0 (length stakes))) all)

@@ -287,7 +287,23 @@ fn accounts_are_found_by_guesses(rt: HostRuntime) -> Result<(), Fail> {
 
 /// A row: an account and what is free, beside 20 active and 3 held, and as many chunks of one
 /// value, whose releases rise by a step.
-type Made = (u8, u64, u32, u64, u32);
+#[derive(Clone, Copy)]
+struct Made {
+    who: u8,
+    free: u64,
+    chunks: u32,
+    value: u64,
+    step: u32,
+}
+
+/// A row with nothing free and no chunks.
+const BARE: Made = Made {
+    who: 0,
+    free: 0,
+    chunks: 0,
+    value: 0,
+    step: 0,
+};
 
 /// Rows, what the genesis gave, was minted and burned, and what is told of them: the first bad row,
 /// that the sums fail, or each row with its chunks.
@@ -295,20 +311,102 @@ static MADE: [(&[Made], (u64, u64, u64), &str); 12] = [
     (&[], (0, 0, 0), "0 known: "),
     (&[], (7, 0, 7), "0 known: "),
     (
-        &[(1, 7, 0, 0, 0), (4, 0, 2, 5, 1)],
+        &[
+            Made {
+                who: 1,
+                free: 7,
+                ..BARE
+            },
+            Made {
+                who: 4,
+                chunks: 2,
+                value: 5,
+                step: 1,
+                ..BARE
+            },
+        ],
         (70, 3, 10),
         "2 known: 1 7 20 0 3, 4 0 20 10 3, ",
     ),
-    (&[(2, 0, 32, 1, 1)], (55, 0, 0), "1 known: 2 0 20 32 3, "),
-    (&[(2, 0, 33, 1, 1)], (56, 0, 0), "row 0"),
-    (&[(2, 0, 2, 5, 0)], (33, 0, 0), "row 0"),
-    (&[(2, 0, 1, 0, 1)], (23, 0, 0), "row 0"),
-    (&[(2, 0, 0, 0, 0), (2, 0, 0, 0, 0)], (46, 0, 0), "row 1"),
-    (&[(2, 0, 0, 0, 0), (1, 0, 2, 5, 0)], (0, 0, 0), "row 1"),
-    (&[(2, 0, 0, 0, 0)], (20, 4, 0), "sum"),
-    (&[(2, 1 << 63, 0, 0, 0)], ((1 << 63) + 23, 0, 0), "sum"),
     (
-        &[(2, u64::MAX, 0, 0, 0), (3, 0, 0, 0, 0)],
+        &[Made {
+            who: 2,
+            chunks: 32,
+            value: 1,
+            step: 1,
+            ..BARE
+        }],
+        (55, 0, 0),
+        "1 known: 2 0 20 32 3, ",
+    ),
+    (
+        &[Made {
+            who: 2,
+            chunks: 33,
+            value: 1,
+            step: 1,
+            ..BARE
+        }],
+        (56, 0, 0),
+        "row 0",
+    ),
+    (
+        &[Made {
+            who: 2,
+            chunks: 2,
+            value: 5,
+            ..BARE
+        }],
+        (33, 0, 0),
+        "row 0",
+    ),
+    (
+        &[Made {
+            who: 2,
+            chunks: 1,
+            step: 1,
+            ..BARE
+        }],
+        (23, 0, 0),
+        "row 0",
+    ),
+    (
+        &[Made { who: 2, ..BARE }, Made { who: 2, ..BARE }],
+        (46, 0, 0),
+        "row 1",
+    ),
+    (
+        &[
+            Made { who: 2, ..BARE },
+            Made {
+                who: 1,
+                chunks: 2,
+                value: 5,
+                ..BARE
+            },
+        ],
+        (0, 0, 0),
+        "row 1",
+    ),
+    (&[Made { who: 2, ..BARE }], (20, 4, 0), "sum"),
+    (
+        &[Made {
+            who: 2,
+            free: 1 << 63,
+            ..BARE
+        }],
+        ((1 << 63) + 23, 0, 0),
+        "sum",
+    ),
+    (
+        &[
+            Made {
+                who: 2,
+                free: u64::MAX,
+                ..BARE
+            },
+            Made { who: 3, ..BARE },
+        ],
         (22, 0, 0),
         "sum",
     ),
@@ -321,19 +419,19 @@ fn push<T: Drop>(list: &mut List<T>, item: T) -> Result<(), NoMemory> {
     }
 }
 
-fn row(alloc: Global, made: Made) -> Result<BookRow, NoMemory> {
-    let (who, free, count, value, step) = made;
+fn row(alloc: Global, made: &Made) -> Result<BookRow, NoMemory> {
+    let value = made.value;
     let mut chunks = List::new(alloc);
-    for number in 0..count {
-        let release = number.wrapping_mul(step);
+    for number in 0..made.chunks {
+        let release = number.wrapping_mul(made.step);
         push(&mut chunks, Chunk { value, release })?;
     }
     Ok(BookRow {
         who: AccountId {
             hi: 0,
-            lo: u128::from(who),
+            lo: u128::from(made.who),
         },
-        free,
+        free: made.free,
         active: 20,
         chunks,
         held: 3,
@@ -361,7 +459,7 @@ fn tell(alloc: Global, book: &Book, text: &mut String) -> Result<(), Fail> {
 fn told_of_rows(alloc: Global, made: &[Made], sums: (u64, u64, u64)) -> Result<String, Fail> {
     let mut rows = List::new(alloc);
     for one in made {
-        push(&mut rows, row(alloc, *one)?)?;
+        push(&mut rows, row(alloc, one)?)?;
     }
     let mut text = String::new(alloc);
     match Book::from_rows(alloc, rows, sums.0, sums.1, sums.2) {

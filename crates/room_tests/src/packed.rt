@@ -1,5 +1,5 @@
 //! Worked verdicts on packed solutions.
-use crate::verdicts::{at, checker_of, finished};
+use crate::verdicts::{at, finished};
 use compact_solution::Solution;
 use election_check::{Checker, Verdict};
 use election_snapshot::{Snapshot, SnapshotBuilder};
@@ -179,7 +179,7 @@ static FAULTS: [(&[u8], usize, Verdict); 18] = [
 
 #[test]
 fn the_first_fault_of_bytes_is_the_verdict(rt: HostRuntime) -> Result<(), Fail> {
-    let mut checker = checker_of(rt.alloc(), small(rt.alloc(), SIXTY, FORTY)?)?;
+    let mut checker = Checker::of(rt.alloc(), small(rt.alloc(), SIXTY, FORTY)?)?;
     let right = whole(rt.alloc(), &RIGHT, 15)?;
     let right_claim = claim(40, 100, 5200);
     for &(groups, empty, verdict) in &FAULTS {
@@ -237,7 +237,7 @@ fn shares_are_rounded_down_and_the_last_target_gets_the_rest(rt: HostRuntime) ->
         bytes.push(0x04)?;
         let bytes = whole(rt.alloc(), &bytes, 14)?;
         let snapshot = small(rt.alloc(), (first, &[0, 1]), (second, &[2]))?;
-        let mut checker = checker_of(rt.alloc(), snapshot)?;
+        let mut checker = Checker::of(rt.alloc(), snapshot)?;
         let found = judged(rt.alloc(), &mut checker, &bytes, &claim)?;
         assert_eq!(rt; found.0, verdict);
     }
@@ -285,7 +285,7 @@ fn the_last_entry_is_told_from_all_before_it(rt: HostRuntime) -> Result<(), Fail
         (16383, &twice, Verdict::TargetTwice(5)),
         (16384, &[0; 15], Verdict::WrongSize(2048)),
     ];
-    let mut checker = checker_of(rt.alloc(), large(rt.alloc())?)?;
+    let mut checker = Checker::of(rt.alloc(), large(rt.alloc())?)?;
     for (count, groups, verdict) in table {
         let mut weights = Weights::with_room(rt.alloc(), checker.snapshot())?;
         let bytes = ones(rt.alloc(), count, groups)?;

@@ -156,13 +156,6 @@ fn snapshot_of(alloc: Global, case: &Case) -> Result<Snapshot, NoMemory> {
     small(alloc, (first, votes), (second, more))
 }
 
-pub(crate) fn checker_of(alloc: Global, snapshot: Snapshot) -> Result<Checker, NoMemory> {
-    match Checker::new(alloc, snapshot) {
-        Ok(checker) => Ok(checker),
-        Err((_, want)) => Err(want),
-    }
-}
-
 fn weights_of(alloc: Global, snapshot: &Snapshot, case: &Case) -> Result<Weights, NoMemory> {
     let mut weights = Weights::with_room(alloc, snapshot)?;
     for member in case.members {
@@ -184,7 +177,7 @@ fn weights_of(alloc: Global, snapshot: &Snapshot, case: &Case) -> Result<Weights
 fn agrees(alloc: Global, case: &Case) -> Result<bool, NoMemory> {
     let snapshot = snapshot_of(alloc, case)?;
     let weights = weights_of(alloc, &snapshot, case)?;
-    let mut checker = checker_of(alloc, snapshot)?;
+    let mut checker = Checker::of(alloc, snapshot)?;
     let told = checker.verdict(&weights) == case.verdict;
     match checker.seal(weights) {
         Ok(elected) => Ok(told && case.verdict == Verdict::Yes && elected.committee().len() == 2),
@@ -252,7 +245,7 @@ fn large_weights(alloc: Global, snapshot: &Snapshot) -> Result<Weights, NoMemory
 fn largest_passes(alloc: Global) -> Result<bool, NoMemory> {
     let snapshot = large(alloc)?;
     let weights = large_weights(alloc, &snapshot)?;
-    let mut checker = checker_of(alloc, snapshot)?;
+    let mut checker = Checker::of(alloc, snapshot)?;
     let mut passes = true;
     for _ in 0..32 {
         passes &= checker.verdict(&weights) == Verdict::Yes;

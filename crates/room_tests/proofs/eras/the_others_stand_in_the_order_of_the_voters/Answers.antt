@@ -5,7 +5,8 @@ use Rattle.std.specs.List.{IsDistinct}
 use Rattle.npos_base.specs.declared.account.AccountId.{AccountId}
 use Rattle.npos_base.specs.declared.figures.Edge.{Edge}
 use Rattle.npos_base.specs.declared.limits.TheConstants.{WHOLE_FRACTION}
-use Rattle.era_book.specs.Committee.{IsWithin, IsElected, given_to}
+use Rattle.npos_base.specs.Edge.{support}
+use Rattle.era_book.specs.Committee.{IsWithin, IsElected}
 use Rattle.room_tests.proofs.eras.the_others_stand_in_the_order_of_the_voters.Goals as goal
 
 abbrev at : ℕ → AccountId
@@ -21,7 +22,7 @@ abbrev edge : ℕ → ℕ → Edge
 edge voter amount = record { voter = voter; target = 0; amount = amount }
 
 abbrev given : ℕ → Type 0
-given member = get_or (95 ∷ 0 ∷ []) member 0 ≡ given_to member (edge 2 5 ∷ edge 1 50 ∷ edge 0 40 ∷ [])
+given member = get_or (95 ∷ 0 ∷ []) member 0 ≡ support (edge 2 5 ∷ edge 1 50 ∷ edge 0 40 ∷ []) member
 
 elected : IsElected targets voters (7 ∷ 8 ∷ []) (95 ∷ 0 ∷ []) (edge 2 5 ∷ edge 1 50 ∷ edge 0 40 ∷ []) (0 ∷ 1 ∷ [])
 unfolding IsDistinct
