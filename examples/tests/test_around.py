@@ -188,6 +188,11 @@ class Origins(Folder):
         for body in ['list.push(0)?;\n    Ok(())', 'match list.push(0) {\n        Ok(()) => Ok(()),\n        Err(Fault::NoMemory) => Err(NoMemory),\n    }']:
             self.assertEqual(self.place(body).returncode, 0)
 
+    def test_another_cause_beside_it_is_one_more(self) -> None:
+        for body in ['match list.push(0) {\n        Ok(()) => Ok(()),\n        Err(Fault::Spent | Fault::NoMemory) => Err(NoMemory),\n    }',
+                     'match list.push(0) {\n        Ok(()) => {}\n        Err(Fault::NoMemory) => return Err(NoMemory),\n    }\n    Err(NoMemory)']:
+            self.assertEqual(self.place(body).returncode, 1)
+
     def test_what_is_made_is_one_more(self) -> None:
         done = self.place('match list.push(0) {\n        Ok(()) => Ok(()),\n        Err(_) => Err(NoMemory),\n    }')
         self.assertEqual(done.returncode, 1)
