@@ -22,7 +22,8 @@ use Rattle.npos_runtime.specs.declared.chain.Chain.{Chain}
 use Rattle.npos_runtime.specs.declared.round.Round.TheVariants as rounds
 use Rattle.chain_params.specs.Faults.{numbers_fault, limits_fault, threshold_fault, is_within, AreSound}
 use Rattle.std.proofs.lemmas.List.Elements.{All-nil, All-cons}
-use Rattle.npos_runtime.specs.Ballots.{active_of, votes_of, is_eligible, ballot_of, snapshot_of, commission_in, commissions_of}
+use Rattle.voter_lists.specs.Votes.{votes_of}
+use Rattle.npos_runtime.specs.Ballots.{active_of, is_eligible, ballot_of, snapshot_of, commission_in, commissions_of}
 use Rattle.chain_params.specs.Rules.{seats_of}
 use Rattle.npos_runtime.specs.Rounds.{is_few, is_poor, round_now}
 use Rattle.npos_base.specs.declared.limits.TheConstants.{WHOLE_FRACTION}

@@ -38,7 +38,8 @@ use Rattle.round_decision.proofs.VerdictLemmas.{decided_passes}
 use Rattle.npos_runtime.specs.declared.chain.Chain.{Chain}
 use Rattle.npos_runtime.specs.declared.round.Round.{Round}
 use Rattle.npos_runtime.specs.declared.round.Round.TheVariants as rounds
-use Rattle.npos_runtime.specs.Ballots.{active_of, votes_of, is_eligible, electorate, voter_of, snapshot_of, commissions_of}
+use Rattle.voter_lists.specs.Votes.{votes_of}
+use Rattle.npos_runtime.specs.Ballots.{active_of, is_eligible, electorate, voter_of, snapshot_of, commissions_of}
 use Rattle.npos_runtime.specs.Committee.{Committee}
 use Rattle.npos_runtime.specs.Rounds.{is_few, is_poor, round_after}
 use Rattle.npos_runtime.specs.Deciding.{decision_of, decision_phase}

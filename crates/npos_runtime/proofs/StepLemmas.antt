@@ -8,7 +8,8 @@ use Rattle.voter_lists.specs.Bags.{walk}
 use Rattle.election_snapshot.specs.Snapshot.{Voter}
 use Rattle.election_snapshot.specs.Draft.{Draft, accounts_of, with_voter}
 use Rattle.npos_runtime.specs.declared.chain.Chain.{Chain}
-use Rattle.npos_runtime.specs.Ballots.{active_of, votes_of, is_eligible, electorate, voter_of, ballot_of}
+use Rattle.voter_lists.specs.Votes.{votes_of}
+use Rattle.npos_runtime.specs.Ballots.{active_of, is_eligible, electorate, voter_of, ballot_of}
 use Rattle.npos_runtime.specs.Live.{IsOnce, IsLive, times}
 use Rattle.npos_runtime.specs.Polling.{IsPolled, polled}
 

@@ -13,7 +13,7 @@ use Rattle.voter_lists.specs.declared.standing.Role.TheVariants as role
 use Rattle.voter_lists.specs.Roles.{RoleList, role_of, nominated_by, validators_of, has_repeated_account}
 use Rattle.election_snapshot.specs.Snapshot.{has, no_account}
 use Rattle.election_snapshot.specs.Draft.{place_of, has_repeat}
-use Rattle.npos_runtime.specs.Ballots.{choices_in, choices_of, votes_of}
+use Rattle.voter_lists.specs.Votes.{choices_in, choices_of, votes_of}
 use Rattle.npos_runtime.specs.Live.{IsNomination}
 
 -- no more votes than choices

@@ -15,7 +15,8 @@ use Rattle.voter_lists.specs.Roles.{validators_of}
 use Rattle.election_snapshot.specs.Snapshot.{Voter, total_of}
 use Rattle.election_snapshot.specs.Draft.{Draft, accounts_of, stands_in, voter_fault}
 use Rattle.npos_runtime.specs.declared.chain.Chain.{Chain}
-use Rattle.npos_runtime.specs.Ballots.{active_of, votes_of, voter_of}
+use Rattle.voter_lists.specs.Votes.{votes_of}
+use Rattle.npos_runtime.specs.Ballots.{active_of, voter_of}
 use Rattle.npos_runtime.specs.Live.{IsLive, IsOnce, times}
 use Rattle.npos_runtime.specs.Polling.{IsPolled}
 use Rattle.npos_runtime.proofs.ListLemmas.{one, times_cons}
@@ -89,7 +90,7 @@ no_fault chain draft who more live room polled stake votes =
       not_none (active_of chain who) stake,
       not_none (length (votes_of chain.roles who)) votes,
       not_below MOST_NOMINATIONS (length (votes_of chain.roles who)) (few_votes chain.roles who (live.roles.nominations who)),
-      ap (λ (targets : List AccountId). list_any (λ target. nat_le (length targets) target) (votes_of chain.roles who)) polled.targets ∙ votes_known (validators_of chain.roles) (Rattle.npos_runtime.specs.Ballots.choices_of chain.roles who),
+      ap (λ (targets : List AccountId). list_any (λ target. nat_le (length targets) target) (votes_of chain.roles who)) polled.targets ∙ votes_known (validators_of chain.roles) (Rattle.voter_lists.specs.Votes.choices_of chain.roles who),
       distinct_votes chain.roles who (live.roles.nominations who),
       not_above (2 ^ 64) (total_of draft.voters + active_of chain who)
           (total_fits chain draft who live.books.balanced polled.voters (front_once (accounts_of draft.voters) more who polled.once)),

@@ -1,33 +1,21 @@
 -- The snapshot of a round: who stands, who votes, and for whom, as roles, bags and active stakes
 -- are at that moment.
-use Rattle.std.specs.Prelude.{ℕ, Bool, List, [], ◌∷◌, map, filter, filter_map, take, length, nat_lt, ◌&&◌}
+use Rattle.std.specs.Prelude.{ℕ, Bool, List, map, filter, take, length, nat_lt, ◌&&◌}
 use Rattle.npos_base.specs.declared.account.AccountId.{AccountId}
 use Rattle.npos_base.specs.declared.limits.TheConstants.{MOST_VOTERS}
 use Rattle.stake_ledger.specs.Ledger.{row_at}
 use Rattle.voter_lists.specs.declared.standing.Role.{Role}
 use Rattle.voter_lists.specs.declared.standing.Role.TheVariants as role
-use Rattle.voter_lists.specs.Roles.{RoleList, role_of, nominated_by, validators_of}
+use Rattle.voter_lists.specs.Roles.{RoleList, role_of, validators_of}
+use Rattle.voter_lists.specs.Votes.{votes_of}
 use Rattle.voter_lists.specs.Bags.{walk}
 use Rattle.election_snapshot.specs.Snapshot.{Voter, Snapshot}
-use Rattle.election_snapshot.specs.Draft.{Draft, place_of, seated}
+use Rattle.election_snapshot.specs.Draft.{Draft, seated}
 use Rattle.npos_runtime.specs.declared.chain.Chain.{Chain}
 use Rattle.chain_params.specs.Rules.{seats_of}
 
 abbrev pub active_of : Chain → AccountId → ℕ
 active_of chain who = (row_at chain.book who).active
-
--- whom an account chooses: a validator itself alone, a nominator those that it named
-abbrev pub choices_in : Role → AccountId → List AccountId → List AccountId
-choices_in (role.Validator commission) who named = who ∷ []
-choices_in role.Nominator who named = named
-choices_in role.Nobody who named = []
-
-abbrev pub choices_of : RoleList → AccountId → List AccountId
-choices_of roles who = choices_in (role_of roles who) who (nominated_by roles who)
-
--- its votes are the places of its choices among the validators; a choice that is no validator now gets none
-abbrev pub votes_of : RoleList → AccountId → List ℕ
-votes_of roles who = filter_map (place_of (validators_of roles)) (choices_of roles who)
 
 -- an account takes part where it has active stake and a vote
 abbrev pub is_eligible : Chain → AccountId → Bool

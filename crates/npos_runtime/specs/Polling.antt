@@ -5,7 +5,8 @@ use Rattle.npos_base.specs.declared.limits.TheConstants.{MOST_VOTERS}
 use Rattle.voter_lists.specs.Roles.{validators_of}
 use Rattle.election_snapshot.specs.Draft.{Draft, accounts_of, with_voter}
 use Rattle.npos_runtime.specs.declared.chain.Chain.{Chain}
-use Rattle.npos_runtime.specs.Ballots.{active_of, votes_of, is_eligible, electorate, voter_of}
+use Rattle.voter_lists.specs.Votes.{votes_of}
+use Rattle.npos_runtime.specs.Ballots.{active_of, is_eligible, electorate, voter_of}
 use Rattle.npos_runtime.specs.Live.{IsOnce}
 
 -- the draft with the voter of this account, if it is eligible

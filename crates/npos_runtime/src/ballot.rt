@@ -1,23 +1,21 @@
 //! The snapshot of a round, made from roles, bags and books.
-ghost use Rattle.std.specs.Prelude.{◌≡◌, ◌<◌, List, [], ◌∷◌, length, filter_map, None, OnOk, IfOk};
+ghost use Rattle.std.specs.Prelude.{◌≡◌, ◌<◌, List, [], ◌∷◌, length, OnOk, IfOk};
 ghost use Rattle.npos_base.specs.declared.account.AccountId.{AccountId};
 ghost use Rattle.npos_base.specs.declared.limits.TheConstants.{MOST_VOTERS};
 ghost use Rattle.voter_lists.specs.Roles.{role_of, validators_of};
 ghost use Rattle.voter_lists.specs.Ranked.{AreRanked};
-ghost use Rattle.election_snapshot.specs.Draft.{place_of};
-ghost use Rattle.npos_runtime.specs.Ballots.{ballot_of, commission_in, commissions_of, is_eligible, snapshot_of, votes_of};
+ghost use Rattle.npos_runtime.specs.Ballots.{ballot_of, commission_in, commissions_of, is_eligible, snapshot_of};
 ghost use Rattle.npos_runtime.specs.Rounds.{round_line, round_now};
 ghost use Rattle.npos_runtime.specs.Polling.{IsPolled, polled};
 ghost use Rattle.npos_runtime.specs.Live.{IsLive};
 
-use crate::guesses::Guesses;
 use crate::{Chain, Round};
 use block_receipts::Line;
 use chain_params::seats_of;
 use election_snapshot::{SnapshotFault, SnapshotParts};
 use npos_base::{AccountId, List, MOST_VOTERS, NoMemory};
 use std::alloc::Global;
-use voter_lists::{Role, Roles, Standing};
+use voter_lists::{Electorate, Role, Roles};
 
 /// Adds all validators by rising account.
 #[tactic(auto, using(crate::proofs::BallotLemmas::target_free, crate::proofs::BallotLemmas::target_next))]
@@ -32,58 +30,26 @@ fn add_targets(parts: &mut SnapshotParts, roles: &Roles) -> Result<(), NoMemory>
     Ok(())
 }
 
-/// Writes the votes for these choices: the rank of each that is a validator.
-#[tactic(auto, using(crate::proofs::BallotLemmas::cast_some, crate::proofs::BallotLemmas::cast_none))]
-fn cast(
-    roles: &Roles,
-    guesses: &Guesses,
-    choices: &[AccountId],
-    votes: &mut Vec<u16>,
-) -> Result<(), NoMemory>
-    ensures { OnOk result
-        (votes.new.items ≡ filter_map (place_of (validators_of roles.now)) choices.now) }
-{
-    votes.clear();
-    for choice in choices {
-        if let Some(rank) = guesses.rank(roles, *choice) {
-            votes.push(rank)?;
-        }
-    }
-    Ok(())
-}
-
-/// Writes the votes of an account. Who named targets is a nominator.
-fn find_votes(
-    roles: &Roles,
-    guesses: &mut Guesses,
-    who: AccountId,
-    votes: &mut Vec<u16>,
-) -> Result<(), NoMemory>
-    ensures { OnOk result (votes.new.items ≡ votes_of roles.now who) }
-{
-    match roles.standing_from(&mut guesses.in_roles, who) {
-        Some(Standing::Nominator(targets)) => cast(roles, guesses, targets.as_slice(), votes),
-        Some(Standing::Validator { .. }) => cast(roles, guesses, &[who], votes),
-        None => cast(roles, guesses, &[], votes),
-    }
-}
-
-/// Adds the voter of an account if it is eligible, and tells whether it is.
+/// Adds the voter of an account if it is eligible, and tells whether it is. Its row may be the one
+/// at the guess, which moves on.
 fn add_voter(
     parts: &mut SnapshotParts,
     chain: &Chain,
-    guesses: &mut Guesses,
+    electorate: &mut Electorate<'_>,
+    guess: &mut usize,
     who: AccountId,
     votes: &mut Vec<u16>,
 ) -> Result<bool, NoMemory>
     requires live { IsLive chain.now }
+    requires roles { electorate.old ≡ chain.now.roles }
     requires room { length parts.old.voters < MOST_VOTERS }
     requires polled { (more : List AccountId) × IsPolled chain.now parts.old (who ∷ more) }
     ensures answer { IfOk result (λ added. added ≡ is_eligible chain.now who) }
     ensures ok { OnOk result (parts.new ≡ polled chain.now parts.old who) }
+    ensures kept { electorate.new ≡ electorate.old }
 {
-    let stake = chain.book.active_from(&mut guesses.in_book, who);
-    find_votes(&chain.roles, guesses, who, votes)?;
+    let stake = chain.book.active_from(guess, who);
+    electorate.cast(who, votes)?;
     if stake == 0 || votes.is_empty() {
         return Ok(false);
     }
@@ -97,7 +63,8 @@ fn add_voters(alloc: Global, parts: &mut SnapshotParts, chain: &Chain) -> Result
     requires empty { parts.old ≡ record { targets = validators_of chain.now.roles; voters = [] } }
     ensures { OnOk result (parts.new ≡ ballot_of chain.now) }
 {
-    let mut guesses = Guesses::new(alloc, &chain.roles)?;
+    let mut electorate = chain.roles.electorate(alloc)?;
+    let mut guess = 0;
     let mut votes = Vec::new(alloc);
     let mut voters = 0;
     let mut walk = chain.bags.walk();
@@ -105,7 +72,7 @@ fn add_voters(alloc: Global, parts: &mut SnapshotParts, chain: &Chain) -> Result
         let Some(who) = walk.next() else {
             break;
         };
-        if add_voter(parts, chain, &mut guesses, who, &mut votes)? {
+        if add_voter(parts, chain, &mut electorate, &mut guess, who, &mut votes)? {
             voters += 1;
         }
     }

@@ -7,7 +7,6 @@ mod begin;
 mod chain;
 mod decision;
 mod era;
-mod guesses;
 pub mod laws;
 mod lists;
 mod offices;

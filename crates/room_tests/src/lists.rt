@@ -116,6 +116,34 @@ fn roles_come_and_go(rt: HostRuntime) -> Result<(), Fail> {
     Ok(())
 }
 
+/// Who left has no rank, and no vote either.
+#[test]
+fn votes_are_ranks_of_validators(rt: HostRuntime) -> Result<(), Fail> {
+    let alloc = rt.alloc();
+    let mut roles = Roles::new(alloc);
+    for validator in [4, 2, 6] {
+        roles.validate(at(validator), 0)?;
+    }
+    roles.nominate(at(3), list_of(alloc, &[at(6), at(2), at(4)])?)?;
+    roles.nominate(at(1), list_of(alloc, &[at(4)])?)?;
+    roles.chill(at(2))?;
+    let mut electorate = roles.electorate(alloc)?;
+    let mut votes = Vec::new(alloc);
+    let table: [(u8, &[u16]); 6] = [
+        (3, &[1, 0]),
+        (1, &[0]),
+        (4, &[0]),
+        (6, &[1]),
+        (2, &[]),
+        (9, &[]),
+    ];
+    for (who, ranks) in table {
+        electorate.cast(at(who), &mut votes)?;
+        assert_eq!(rt; votes.as_slice(), ranks);
+    }
+    Ok(())
+}
+
 #[test]
 fn a_nomination_is_refused_for_its_first_fault(rt: HostRuntime) -> Result<(), Fail> {
     let alloc = rt.alloc();

@@ -17,3 +17,6 @@ pub mod OneAnswerLemmas
 pub mod TakenLemmas
 pub mod RoleLemmas
 pub mod RepeatLemmas
+pub mod MarkLemmas
+pub mod VoteLemmas
+pub mod RankingLemmas

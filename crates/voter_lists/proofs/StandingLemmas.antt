@@ -19,10 +19,10 @@ use Rattle.npos_base.specs.Account.{account_cmp}
 use Rattle.npos_base.proofs.AccountOrder.{account_total, account_exact, account_apart}
 use Rattle.npos_base.proofs.EntryLemmas.{sorted_put, lookup_put, lookup_other}
 use Rattle.account_places.specs.Places.{place_in, by_account, Stand}
-use Rattle.account_places.proofs.StandLemmas.{tied, not_again, by_account_ordered}
+use Rattle.account_places.proofs.StandLemmas.{tied, not_again, by_account_ordered, by_account_more, place_last}
 use Rattle.voter_lists.specs.declared.standing.Standing.{Standing}
 use Rattle.voter_lists.specs.Roles.{RoleList, standing_of, with_standing, without_role}
-use Rattle.voter_lists.specs.Standings.{with_some, standings_placed, AreBeside}
+use Rattle.voter_lists.specs.Standings.{with_some, standings_placed}
 
 -- what stands at a place, where there is one
 abbrev pub at_place : List (Option Standing) → Option ℕ → Option Standing
@@ -150,7 +150,7 @@ module _ (standings now : List (Option Standing)) (places places_now : List (Acc
       ∙ sym (standing_left roles who q rise ∙ rw (account_apart who q (λ e. true≢false (sym (ap is_eq (ap (account_cmp q) e ∙ tied_itself account_total q)) ∙ apart))) refl)))
 
 -- a standing changes at the place of its account
-module _ (standings : List (Option Standing)) (accounts : List AccountId) (who : AccountId) (place : ℕ) (stand : Stand accounts (by_account accounts)) (beside : AreBeside standings accounts) (there : place_in (by_account accounts) who ≡ Some place) where
+module _ (standings : List (Option Standing)) (accounts : List AccountId) (who : AccountId) (place : ℕ) (stand : Stand accounts (by_account accounts)) (beside : length standings ≡ length accounts) (there : place_in (by_account accounts) who ≡ Some place) where
   pub place_within : place < length standings
   place_within = omega (arith, beside, slice_get_within accounts place who (stand.standing who place there))
 
@@ -182,20 +182,21 @@ module _ (standings : List (Option Standing)) (accounts : List AccountId) (who :
   pub placed_absent : standings_placed standings (by_account accounts) ≡ without_role (standings_placed standings (by_account accounts)) who
   placed_absent = placed_without standings standings (by_account accounts) (by_account accounts) who (by_account_ordered accounts) (by_account_ordered accounts) (λ q apart. refl) (ap (at_place standings) absent)
 
-  -- one more account has a standing
-  pub placed_push : (accounts_now : List AccountId) (standing : Standing) → Stand accounts (by_account accounts) → AreBeside standings accounts
-      → by_account accounts_now ≡ insert_entry account_cmp (by_account accounts) who (length (by_account accounts))
-      → standings_placed (standings ++ Some standing ∷ []) (by_account accounts_now) ≡ with_standing (standings_placed standings (by_account accounts)) who standing
-  placed_push accounts_now standing stand beside more =
-      let longer = standings ++ Some standing ∷ [] in
-      let seam : length (by_account accounts) ≡ length standings = omega (arith, stand.count, beside) in
-      let here : at_place longer (place_in (by_account accounts_now) who) ≡ Some standing =
-      ap (λ places. at_place longer (place_in places who)) more ∙ ap (at_place longer) (lookup_put account_total who (length (by_account accounts)) (by_account accounts)) ∙ ap (λ n. get_or longer n None) seam ∙ get_or-append_seam standings (Some standing) [] None in
-      let others : (q : AccountId) → is_eq (account_cmp q who) ≡ false → at_place longer (place_in (by_account accounts_now) q) ≡ at_place standings (place_in (by_account accounts) q) =
-      λ q apart. ap (λ places. at_place longer (place_in places q)) more ∙ ap (at_place longer) (lookup_other account_total who (length (by_account accounts)) q (by_account accounts) apart) ∙ kept q in
-      placed_with standings longer (by_account accounts) (by_account accounts_now) who (by_account_ordered accounts) (by_account_ordered accounts_now) others standing here where
-        kept : (q : AccountId) → at_place (standings ++ Some standing ∷ []) (place_in (by_account accounts) q) ≡ at_place standings (place_in (by_account accounts) q)
+  -- an account that gets a place has no standing for that
+  pub placed_more : Stand accounts (by_account accounts) → length standings ≡ length accounts
+      → standings_placed (standings ++ None ∷ []) (by_account (accounts ++ who ∷ [])) ≡ standings_placed standings (by_account accounts)
+  placed_more stand beside =
+      let longer = standings ++ None ∷ [] in
+      let now = accounts ++ who ∷ [] in
+      let seam : length accounts ≡ length standings = sym beside in
+      let here : at_place longer (place_in (by_account now) who) ≡ None =
+      ap (at_place longer) (place_last accounts who) ∙ ap (λ n. get_or longer n None) seam ∙ get_or-append_seam standings None [] None in
+      let others : (q : AccountId) → is_eq (account_cmp q who) ≡ false → at_place longer (place_in (by_account now) q) ≡ at_place standings (place_in (by_account accounts) q) =
+      λ q apart. ap (λ places. at_place longer (place_in places q)) (by_account_more accounts who) ∙ ap (at_place longer) (lookup_other account_total who (length accounts) q (by_account accounts) apart) ∙ kept q in
+      placed_without standings longer (by_account accounts) (by_account now) who (by_account_ordered accounts) (by_account_ordered now) others here
+      ∙ left_absent (standings_placed standings (by_account accounts)) who (ap is_some standing_nowhere) where
+        kept : (q : AccountId) → at_place (standings ++ None ∷ []) (place_in (by_account accounts) q) ≡ at_place standings (place_in (by_account accounts) q)
         kept q = at (place_in (by_account accounts) q) refl where
-          at : (p : Option ℕ) → place_in (by_account accounts) q ≡ p → at_place (standings ++ Some standing ∷ []) p ≡ at_place standings p
+          at : (p : Option ℕ) → place_in (by_account accounts) q ≡ p → at_place (standings ++ None ∷ []) p ≡ at_place standings p
           at None e = refl
-          at (Some p) e = get_or_append_left standings (Some standing ∷ []) None p (omega (arith, beside, slice_get_within accounts p q (stand.standing q p e)))
+          at (Some p) e = get_or_append_left standings (None ∷ []) None p (omega (arith, beside, slice_get_within accounts p q (stand.standing q p e)))

@@ -1,9 +1,11 @@
 pub mod Bag
 pub mod BagRows
 pub mod Bags
+pub mod Marks
 pub mod Owed
 pub mod Reasons
 pub mod Ranked
+pub mod Ranking
 pub mod Roles
 pub mod Standings
 pub mod Links
@@ -11,3 +13,4 @@ pub mod Rings
 pub mod Nodes
 pub mod OneWalk
 pub mod Taken
+pub mod Votes

@@ -3,17 +3,21 @@
 #![tactic(auto)]
 
 mod bags;
+mod electorate;
 pub mod laws;
 mod nodes;
+mod ranking;
 mod ranks;
 mod refusal;
 mod rings;
 mod roles;
+mod row;
 mod standing;
 mod standings;
 mod walk;
 
 pub use bags::Bags;
+pub use electorate::Electorate;
 pub use refusal::ListRefusal;
 pub use roles::Roles;
 pub use standing::{Role, Standing};

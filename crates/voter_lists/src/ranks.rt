@@ -1,11 +1,13 @@
 //! Accounts in a vector, each once and by rising account, so that the one at a place is at hand.
-ghost use Rattle.std.specs.Prelude.{◌≡◌, ◌<◌, false, vec_len};
+ghost use Rattle.std.specs.Prelude.{◌≡◌, ◌<◌, ◌≤◌, false, length, vec_len};
 ghost use Rattle.std.specs.Vec.{vec_capacity};
 ghost use Rattle.std.specs.BTreeMap.{is_at};
 ghost use Rattle.std.specs.BTreeSet.{insert_key};
 ghost use Rattle.std.specs.Set.{remove_key};
 ghost use Rattle.std.specs.List.Sorted.{IsStrictlySortedBy};
 ghost use Rattle.npos_base.specs.Account.{account_cmp};
+ghost use Rattle.npos_base.specs.declared.limits.TheConstants.{MOST_VALIDATORS};
+ghost use Rattle.voter_lists.specs.Votes.{rank_of};
 
 use npos_base::AccountId;
 
@@ -47,5 +49,17 @@ pub(crate) fn leave_where(accounts: &mut Vec<AccountId>, who: AccountId, there: 
 {
     if there {
         leave(accounts, who);
+    }
+}
+
+/// The place of the account among these. It is found in the logarithm of their number.
+pub(crate) fn rank_among(accounts: &[AccountId], who: AccountId) -> Option<u16>
+    requires rising { IsStrictlySortedBy account_cmp accounts.now }
+    requires few { length accounts.now ≤ MOST_VALIDATORS }
+    ensures { result ≡ rank_of accounts.now who }
+{
+    match accounts.binary_search(&who) {
+        Ok(rank) => Some(rank as u16),
+        Err(_) => None,
     }
 }

@@ -1,17 +1,22 @@
 //! The roles of accounts, after Substrate's staking pallet.
-ghost use Rattle.std.specs.Prelude.{◌≡◌, ◌≢◌, ◌<◌, ◌≤◌, [], ◌∷◌, length, None, Some, OnOk, OnErr, slice_get, position, is_some};
+ghost use Rattle.std.specs.Prelude.{◌≡◌, ◌≢◌, ◌<◌, ◌≤◌, [], ◌∷◌, length, None, Some, IfOk, IfErr, OnOk, OnErr, slice_get, position, is_some};
 ghost use Rattle.std.specs.Option.{option_copied};
 ghost use Rattle.std.specs.List.{list_any};
 ghost use Rattle.std.specs.List.Sorted.{IsStrictlySortedBy};
 ghost use Rattle.npos_base.specs.Account.{account_cmp, same_account};
 ghost use Rattle.npos_base.specs.declared.limits.TheConstants.{MOST_VALIDATORS};
-ghost use Rattle.npos_base.specs.Refusal.{MeetsAlways, answer_of};
+ghost use Rattle.npos_base.specs.Refusal.{IsDue, MeetsAlways, answer_of};
+ghost use Rattle.voter_lists.specs.declared.refusal.ListRefusal.TheVariants.{NoMemory as NoMemoryRefusal};
+ghost use Rattle.voter_lists.specs.Marks.{AreMarks, RepeatAlike, has_repeated_mark};
 ghost use Rattle.voter_lists.specs.Owed.{Meets};
+ghost use Rattle.voter_lists.specs.Ranked.{AreRanked};
 ghost use Rattle.voter_lists.specs.Roles.{role_of, nominated_by, validators_of, is_validator, KeepsOthers, standing_of, has_repeated_account, is_no_target, nominate_refusal, nominated, validate_refusal, validating, chill_refusal, without_role};
 ghost use Rattle.voter_lists.specs.Taken.{CanTake, with_role};
 
 use crate::ListRefusal;
-use crate::ranks::{enter, leave, leave_where};
+use crate::electorate::Electorate;
+use crate::ranks::{enter, leave, leave_where, rank_among};
+use crate::row::UNKNOWN;
 use crate::standing::{Role, Standing};
 use crate::standings::Standings;
 use npos_base::{AccountId, List, MOST_NOMINATIONS, MOST_VALIDATORS, NoMemory, WHOLE_FRACTION};
@@ -33,9 +38,9 @@ impl Model for Roles {
 
     ghost use Rattle.voter_lists.specs.Ranked.{AreRanked};
 
-    ghost view = { λ r. r.standings };
+    ghost view = { λ r. r.standings.roles };
 
-    ghost invariant = { λ r. AreRanked r.standings r.validators.items };
+    ghost invariant = { λ r. AreRanked r.standings.roles r.validators.items };
 }
 
 impl Roles {
@@ -55,8 +60,14 @@ impl Roles {
             (nominated self.old who targets) self.old self.new result }
         ensures others { KeepsOthers self.old self.new who }
     {
-        self.check_targets(who, targets.as_slice())?;
-        self.put_nominator(who, targets)?;
+        let marks = check_targets(&self.standings, who, targets.as_slice())?;
+        put_nominator(
+            &mut self.standings,
+            &mut self.validators,
+            who,
+            targets,
+            marks,
+        )?;
         Ok(())
     }
 
@@ -70,7 +81,7 @@ impl Roles {
         if commission > WHOLE_FRACTION {
             return Err(ListRefusal::BadFraction);
         }
-        if !self.is_validator(who) && self.validators.len() >= MOST_VALIDATORS {
+        if !self.standings.is_validator(who) && self.validators.len() >= MOST_VALIDATORS {
             return Err(ListRefusal::TooManyValidators);
         }
         self.put_validator(who, commission)?;
@@ -93,21 +104,18 @@ impl Roles {
     {
         match role {
             Role::Nobody => unreachable!(),
-            Role::Nominator => self.put_nominator(who, targets),
+            Role::Nominator => {
+                let marks = self.standings.marks_for(targets.as_slice())?;
+                put_nominator(
+                    &mut self.standings,
+                    &mut self.validators,
+                    who,
+                    targets,
+                    marks,
+                )
+            }
             Role::Validator { commission } => self.put_validator(who, commission),
         }
-    }
-
-    /// The account becomes a nominator of these targets.
-    fn put_nominator(&mut self, who: AccountId, targets: List<AccountId>) -> Result<(), NoMemory>
-        ensures ok { OnOk result (self.new ≡ nominated self.old who targets) }
-        ensures err { OnErr result (self.new ≡ self.old) }
-        ensures others { KeepsOthers self.old self.new who }
-    {
-        let validates = self.is_validator(who);
-        self.standings.put(who, Standing::Nominator(targets))?;
-        leave_where(&mut self.validators, who, validates);
-        Ok(())
     }
 
     /// The account becomes a validator with this commission.
@@ -118,7 +126,7 @@ impl Roles {
         ensures others { KeepsOthers self.old self.new who }
     {
         self.validators.reserve(1)?;
-        self.standings.put(who, Standing::Validator { commission })?;
+        self.standings.put_validator(who, commission)?;
         enter(&mut self.validators, who);
         Ok(())
     }
@@ -192,56 +200,108 @@ impl Roles {
         ensures place { result ≡ position (same_account who) (validators_of self.now) }
         ensures some { is_some result ≡ is_validator self.now who }
     {
-        match self.validators.as_slice().binary_search(&who) {
-            Ok(rank) => Some(rank as u16),
-            Err(_) => None,
-        }
+        rank_among(self.validators.as_slice(), who)
     }
 
-    /// Whether the account is a validator. Its standing is found sooner than its rank.
-    fn is_validator(&self, who: AccountId) -> bool
-        ensures { result ≡ is_validator self.now who }
+    /// The electorate as it is now. It takes two bytes for each account that ever had a role or was
+    /// named.
+    pub fn electorate(&self, alloc: Global) -> Result<Electorate<'_>, NoMemory>
+        ensures { IfOk result (λ electorate. electorate ≡ self.now) }
     {
-        match self.standings.get(who) {
-            Some(Standing::Validator { .. }) => true,
-            _ => false,
+        Electorate::new(alloc, &self.standings, self.validators.as_slice())
+    }
+}
+
+/// The account becomes a nominator of these targets, which have these marks.
+fn put_nominator(
+    standings: &mut Standings,
+    validators: &mut Vec<AccountId>,
+    who: AccountId,
+    targets: List<AccountId>,
+    marks: List<u32>,
+) -> Result<(), NoMemory>
+    requires ranked { AreRanked standings.old.roles validators.old.items }
+    requires marks { AreMarks standings.old.accounts marks targets }
+    ensures ok { OnOk result (standings.new.roles ≡ nominated standings.old.roles who targets) }
+    ensures err { OnErr result (standings.new.roles ≡ standings.old.roles) }
+    ensures ranked { AreRanked standings.new.roles validators.new.items }
+{
+    let validates = standings.put_nominator(who, targets, marks)?;
+    leave_where(validators, who, validates);
+    Ok(())
+}
+
+/// The marks of these targets, where the account may nominate them. Each is found once.
+fn check_targets(
+    standings: &Standings,
+    who: AccountId,
+    targets: &[AccountId],
+) -> Result<List<u32>, ListRefusal>
+    ensures ok { IfOk result (λ marks. AreMarks standings.now.accounts marks targets.now) }
+    ensures none { OnOk result (nominate_refusal standings.now.roles who targets.now ≡ None) }
+    ensures due { IfErr result
+        (IsDue NoMemoryRefusal (nominate_refusal standings.now.roles who targets.now)) }
+{
+    if targets.is_empty() {
+        return Err(ListRefusal::NoTargets);
+    }
+    if targets.len() > MOST_NOMINATIONS {
+        return Err(ListRefusal::TooManyTargets);
+    }
+    let marks = standings.marks_of(targets)?;
+    if repeats(marks.as_slice(), targets) {
+        return Err(ListRefusal::RepeatedTarget);
+    }
+    if misses(standings, who, marks.as_slice(), targets) {
+        return Err(ListRefusal::NotValidator);
+    }
+    Ok(marks)
+}
+
+/// Whether a target is no validator, or is the nominator itself.
+fn misses(standings: &Standings, who: AccountId, marks: &[u32], targets: &[AccountId]) -> bool
+    requires { AreMarks standings.now.accounts marks.now targets.now }
+    ensures { result ≡ list_any (λ target. is_no_target standings.now.roles who target) targets.now }
+{
+    for i in 0..targets.len() {
+        if !standings.is_validator_at(marks[i], targets[i]) || targets[i] == who {
+            return true;
         }
     }
+    false
+}
 
-    /// Whether the account may nominate these targets.
-    fn check_targets(&self, who: AccountId, targets: &[AccountId]) -> Result<(), ListRefusal>
-        ensures { result ≡ answer_of (nominate_refusal self.now who targets.now) }
-    {
-        if targets.is_empty() {
-            return Err(ListRefusal::NoTargets);
-        }
-        if targets.len() > MOST_NOMINATIONS {
-            return Err(ListRefusal::TooManyTargets);
-        }
-        if repeats(targets) {
-            return Err(ListRefusal::RepeatedTarget);
-        }
-        if self.misses(who, targets) {
-            return Err(ListRefusal::NotValidator);
-        }
-        Ok(())
-    }
-
-    /// Whether a target is no validator, or is the nominator itself.
-    fn misses(&self, who: AccountId, targets: &[AccountId]) -> bool
-        ensures { result ≡ list_any (λ target. is_no_target self.now who target) targets.now }
-    {
-        targets
-            .iter()
-            .any(|target| !self.is_validator(*target) || *target == who)
+/// Whether some target stands twice, which their marks tell where all are known.
+fn repeats(marks: &[u32], targets: &[AccountId]) -> bool
+    requires { RepeatAlike marks.now targets.now }
+    ensures { result ≡ has_repeated_account targets.now }
+{
+    if marks.contains(&UNKNOWN) {
+        repeats_account(targets)
+    } else {
+        repeats_mark(marks)
     }
 }
 
 /// Whether some account stands twice. The accounts are few.
-fn repeats(accounts: &[AccountId]) -> bool
+fn repeats_account(accounts: &[AccountId]) -> bool
     ensures { result ≡ has_repeated_account accounts.now }
 {
     let mut rest = accounts;
+    while let Some((first, others)) = rest.split_first() {
+        if others.contains(first) {
+            return true;
+        }
+        rest = others;
+    }
+    false
+}
+
+/// Whether some mark stands twice. The marks are few.
+fn repeats_mark(marks: &[u32]) -> bool
+    ensures { result ≡ has_repeated_mark marks.now }
+{
+    let mut rest = marks;
     while let Some((first, others)) = rest.split_first() {
         if others.contains(first) {
             return true;

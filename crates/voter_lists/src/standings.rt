@@ -1,51 +1,68 @@
 //! What is kept of each account that has a role.
-ghost use Rattle.std.specs.Prelude.{◌≡◌, [], false, OnOk, OnErr, is_some};
+ghost use Rattle.std.specs.Prelude.{◌≡◌, ◌<◌, [], false, Some, None, IfOk, IfNone, OnOk, OnErr, is_some, length, slice_get};
 ghost use Rattle.std.specs.Option.{option_copied};
-ghost use Rattle.voter_lists.specs.Roles.{standing_of, with_standing, without_role};
+ghost use Rattle.npos_base.specs.declared.account.AccountId.{AccountId};
+ghost use Rattle.account_places.specs.Places.{place_in, by_account, Stand};
+ghost use Rattle.voter_lists.specs.Marks.{IsMark, AreMarks, KeepPlaces, RepeatAlike};
+ghost use Rattle.voter_lists.specs.Roles.{standing_of, targets_in, is_validator, nominated, validating, with_standing, without_role};
+ghost use Rattle.voter_lists.specs.Standings.{IsMarked};
 
+use crate::row::{Row, UNKNOWN, mark_of};
 use crate::standing::Standing;
 use account_places::Places;
-use npos_base::{AccountId, NoMemory};
+use npos_base::{AccountId, List, NoMemory};
 use std::alloc::Global;
 use std::marker::Model;
 
-/// The standings of accounts. An account that ever had one keeps its place for good. Contracts see
-/// the list of accounts with their standings, by rising account.
+/// The standings of accounts. An account that ever had one, or that a nominator ever named, keeps
+/// its place for good. Contracts see the list of accounts with their standings, by rising account,
+/// and the accounts in the order of their places.
 #[derive(Drop)]
 pub(crate) struct Standings {
+    alloc: Global,
     places: Places,
-    standings: Vec<Option<Standing>>,
+    rows: Vec<Row>,
 }
 
 impl Model for Standings {
-    ghost use Rattle.voter_lists.specs.Roles.{RoleList};
     ghost use Rattle.account_places.specs.Places.{by_account};
-    ghost use Rattle.voter_lists.specs.Standings.{standings_placed, AreBeside};
+    ghost use Rattle.voter_lists.specs.Standings.{PlacedRoles, standings_in, standings_placed, AreBeside};
 
-    ghost Value = { RoleList };
+    ghost Value = { PlacedRoles };
 
-    ghost view = { λ s. standings_placed s.standings.items (by_account s.places) };
+    ghost view = { λ s. record {
+      roles = standings_placed (standings_in s.rows.items) (by_account s.places);
+      accounts = s.places;
+    } };
 
-    ghost invariant = { λ s. AreBeside s.standings.items s.places };
+    ghost invariant = { λ s. AreBeside s.rows.items s.places };
 }
 
 impl Standings {
     /// Nobody has a standing. It takes no memory.
     pub(crate) fn new(alloc: Global) -> Standings
-        ensures { result ≡ [] }
+        ensures { result ≡ record { roles = []; accounts = [] } }
     {
         Standings {
+            alloc,
             places: Places::new(alloc),
-            standings: Vec::new(alloc),
+            rows: Vec::new(alloc),
         }
+    }
+
+    /// How many accounts have a place.
+    pub(crate) fn count(&self) -> usize
+        ensures { result ≡ length self.now.accounts }
+    {
+        self.places.count()
     }
 
     /// The standing of an account.
     pub(crate) fn get(&self, who: AccountId) -> Option<&Standing>
-        ensures { option_copied result ≡ standing_of self.now who }
+        ensures { option_copied result ≡ standing_of self.now.roles who }
     {
         match self.places.find(who) {
-            Some(place) => self.standings[place].as_ref(),
+            Some(place) => self.rows[place].standing.as_ref(),
             None => None,
         }
     }
@@ -53,45 +70,196 @@ impl Standings {
     /// The standing of an account, which may be the one at the guess. The next guess is the
     /// standing behind it.
     pub(crate) fn get_from(&self, guess: &mut usize, who: AccountId) -> Option<&Standing>
-        ensures { option_copied result ≡ standing_of self.now who }
+        ensures { option_copied result ≡ standing_of self.now.roles who }
     {
         match self.places.find_from(*guess, who) {
             Some(place) => {
                 *guess = place.wrapping_add(1);
-                self.standings[place].as_ref()
+                self.rows[place].standing.as_ref()
             }
             None => None,
         }
     }
 
-    /// The account has this standing in place of any that it had.
-    pub(crate) fn put(&mut self, who: AccountId, standing: Standing) -> Result<(), NoMemory>
-        ensures ok { OnOk result (self.new ≡ with_standing self.old who standing) }
-        ensures err { OnErr result (self.new ≡ self.old) }
+    /// The place of an account.
+    pub(crate) fn place_of(&self, who: AccountId) -> Option<usize>
+        ensures place { result ≡ place_in (by_account self.now.accounts) who }
+        ensures stand { Stand self.now.accounts (by_account self.now.accounts) }
+    {
+        self.places.find(who)
+    }
+
+    /// The place of an account, which may be the one that is guessed.
+    pub(crate) fn place_from(&self, guess: usize, who: AccountId) -> Option<usize>
+        ensures place { result ≡ place_in (by_account self.now.accounts) who }
+        ensures stand { Stand self.now.accounts (by_account self.now.accounts) }
+        ensures absent { IfNone result (standing_of self.now.roles who ≡ None) }
+    {
+        self.places.find_from(guess, who)
+    }
+
+    /// What is kept at the place of an account.
+    pub(crate) fn row(&self, place: usize) -> &Row
+        requires { place < length self.now.accounts }
+        ensures standing { (who : AccountId) → slice_get self.now.accounts place ≡ Some who
+            → result.now.standing ≡ standing_of self.now.roles who }
+        ensures marked { IsMarked self.now.accounts result.now }
+    {
+        &self.rows[place]
+    }
+
+    /// Whether the account is a validator.
+    pub(crate) fn is_validator(&self, who: AccountId) -> bool
+        ensures { result ≡ is_validator self.now.roles who }
+    {
+        match self.get(who) {
+            Some(Standing::Validator { .. }) => true,
+            _ => false,
+        }
+    }
+
+    /// Whether the account is a validator, which need not be found where its place is known.
+    pub(crate) fn is_validator_at(&self, mark: u32, who: AccountId) -> bool
+        requires { IsMark self.now.accounts mark who }
+        ensures { result ≡ is_validator self.now.roles who }
+    {
+        if mark == UNKNOWN {
+            return self.is_validator(who);
+        }
+        self.row(mark as usize).is_validator()
+    }
+
+    /// The mark of an account.
+    fn mark(&self, who: AccountId) -> u32
+        ensures { IsMark self.now.accounts result who }
+    {
+        match self.places.find(who) {
+            Some(place) => mark_of(place),
+            None => UNKNOWN,
+        }
+    }
+
+    /// The marks of these accounts. Each is found once.
+    pub(crate) fn marks_of(&self, targets: &[AccountId]) -> Result<List<u32>, NoMemory>
+        ensures marks { IfOk result (λ marks. AreMarks self.now.accounts marks targets.now) }
+        ensures alike { IfOk result (λ marks. RepeatAlike marks targets.now) }
+    {
+        let mut marks = Vec::with_capacity(self.alloc, targets.len())?;
+        for target in targets {
+            marks.push(self.mark(*target))?;
+        }
+        Ok(List::from_vec(marks))
+    }
+
+    /// The place of an account, which has one from now on. It has no standing for that.
+    fn place_for(&mut self, who: AccountId) -> Result<usize, NoMemory>
+        ensures place { OnOk result (IfOk result (λ place.
+            place_in (by_account self.new.accounts) who ≡ Some place)) }
+        ensures kept { KeepPlaces self.old.accounts self.new.accounts }
+        ensures roles { self.new.roles ≡ self.old.roles }
     {
         if let Some(place) = self.places.find(who) {
-            self.standings[place] = Some(standing);
-            return Ok(());
+            return Ok(place);
         }
-        self.standings.reserve(1)?;
+        let place = self.places.count();
+        self.rows.reserve(1)?;
         self.places.put(who)?;
-        match self.standings.push(Some(standing)) {
-            Ok(()) => Ok(()),
+        let row = Row {
+            standing: None,
+            marks: List::new(self.alloc),
+        };
+        match self.rows.push(row) {
+            Ok(()) => Ok(place),
             Err(_) => unreachable!(),
         }
     }
 
+    /// Each of these accounts has a place from now on.
+    fn give_places(&mut self, targets: &[AccountId]) -> Result<(), NoMemory>
+        ensures { self.new.roles ≡ self.old.roles }
+    {
+        for target in targets {
+            self.place_for(*target)?;
+        }
+        Ok(())
+    }
+
+    /// The marks of these accounts, each of which has a place from now on.
+    pub(crate) fn marks_for(&mut self, targets: &[AccountId]) -> Result<List<u32>, NoMemory>
+        ensures marks { OnOk result (IfOk result (λ marks.
+            AreMarks self.new.accounts marks targets.now)) }
+        ensures roles { self.new.roles ≡ self.old.roles }
+    {
+        let marks = self.marks_of(targets)?;
+        if !marks.as_slice().contains(&UNKNOWN) {
+            return Ok(marks);
+        }
+        self.give_places(targets)?;
+        self.marks_of(targets)
+    }
+
+    /// The account has this standing in place of any that it had. It tells whether the account was
+    /// a validator.
+    fn put(
+        &mut self,
+        who: AccountId,
+        standing: Standing,
+        marks: List<u32>,
+    ) -> Result<bool, NoMemory>
+        requires { AreMarks self.old.accounts marks (targets_in (Some standing)) }
+        ensures was { IfOk result (λ was. was ≡ is_validator self.old.roles who) }
+        ensures ok { OnOk result (self.new.roles ≡ with_standing self.old.roles who standing) }
+        ensures err { OnErr result (self.new.roles ≡ self.old.roles) }
+    {
+        let place = self.place_for(who)?;
+        let was = self.rows[place].is_validator();
+        self.rows[place] = Row {
+            standing: Some(standing),
+            marks,
+        };
+        Ok(was)
+    }
+
+    /// The account is a nominator of these targets, which have these marks. It tells whether the
+    /// account was a validator.
+    pub(crate) fn put_nominator(
+        &mut self,
+        who: AccountId,
+        targets: List<AccountId>,
+        marks: List<u32>,
+    ) -> Result<bool, NoMemory>
+        requires { AreMarks self.old.accounts marks targets }
+        ensures was { IfOk result (λ was. was ≡ is_validator self.old.roles who) }
+        ensures ok { OnOk result (self.new.roles ≡ nominated self.old.roles who targets) }
+        ensures err { OnErr result (self.new.roles ≡ self.old.roles) }
+    {
+        self.put(who, Standing::Nominator(targets), marks)
+    }
+
+    /// The account is a validator with this commission.
+    pub(crate) fn put_validator(&mut self, who: AccountId, commission: u32) -> Result<(), NoMemory>
+        ensures ok { OnOk result (self.new.roles ≡ validating self.old.roles who commission) }
+        ensures err { OnErr result (self.new.roles ≡ self.old.roles) }
+    {
+        let marks = List::new(self.alloc);
+        self.put(who, Standing::Validator { commission }, marks)?;
+        Ok(())
+    }
+
     /// The account has no standing any more. It tells whether it had one, and takes no memory.
     pub(crate) fn remove(&mut self, who: AccountId) -> bool
-        ensures had { result ≡ is_some (standing_of self.old who) }
-        ensures gone { self.new ≡ without_role self.old who }
-        ensures kept { result ≡ false → self.new ≡ self.old }
+        ensures had { result ≡ is_some (standing_of self.old.roles who) }
+        ensures gone { self.new.roles ≡ without_role self.old.roles who }
+        ensures kept { result ≡ false → self.new.roles ≡ self.old.roles }
     {
         let Some(place) = self.places.find(who) else {
             return false;
         };
-        let had = self.standings[place].is_some();
-        self.standings[place] = None;
+        let had = self.rows[place].standing.is_some();
+        self.rows[place] = Row {
+            standing: None,
+            marks: List::new(self.alloc),
+        };
         had
     }
 }

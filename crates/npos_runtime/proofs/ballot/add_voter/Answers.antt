@@ -1,5 +1,6 @@
 use Rattle.std.proofs.Common.{rules, ◌≡◌, ◌<◌, length}
-use Rattle.npos_runtime.specs.Ballots.{active_of, votes_of}
+use Rattle.voter_lists.specs.Votes.{votes_of}
+use Rattle.npos_runtime.specs.Ballots.{active_of}
 use Rattle.npos_runtime.proofs.VoterLemmas.{no_fault}
 use Rattle.npos_runtime.proofs.ballot.add_voter.Goals as goal
 

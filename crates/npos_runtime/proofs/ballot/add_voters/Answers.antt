@@ -8,6 +8,7 @@ use Rattle.npos_runtime.proofs.ballot.add_voters.Goals.{else-loop-voters-test, t
 pub loop-voters-init : goal.loop-voters-init
 loop-voters-init c = record {
   polled = polled_first c.args.chain.now c.args.parts.now c.walk-walk.result c.requires.live c.requires.empty c.walk-walk.ensures.accounts;
+  roles = c.in_ok-electorate.ensures;
   counted = sym (ap (λ (draft : Draft). length draft.voters) c.requires.empty);
 }
 
@@ -16,6 +17,7 @@ loop-voters-preserved-then-branch c = record {
   polled = polled_next c.args.chain.now c.loop-voters.parts c.in-Some.who c.next.new.self
       (subst (λ ahead. IsPolled c.args.chain.now c.loop-voters.parts ahead) c.in-Some.ensures.steps c.loop-voters.invariant.polled)
       (omega (arith, c.loop-voters-test.true, c.loop-voters.invariant.counted)) c.add_voter.new.parts c.in_ok-add_voter.ensures.ok;
+  roles = c.in_ok-add_voter.ensures.kept ∙ c.loop-voters.invariant.roles;
   counted = ap (λ n. n + 1) c.loop-voters.invariant.counted
       ∙ sym (one_more c.args.chain.now c.loop-voters.parts c.add_voter.new.parts c.in-Some.who (sym c.in_ok-add_voter.ensures.answer ∙ c.if-branch.true) c.in_ok-add_voter.ensures.ok);
 }
@@ -25,6 +27,7 @@ loop-voters-preserved c = record {
   polled = polled_next c.args.chain.now c.loop-voters.parts c.in-Some.who c.next.new.self
       (subst (λ ahead. IsPolled c.args.chain.now c.loop-voters.parts ahead) c.in-Some.ensures.steps c.loop-voters.invariant.polled)
       (omega (arith, c.loop-voters-test.true, c.loop-voters.invariant.counted)) c.add_voter.new.parts c.in_ok-add_voter.ensures.ok;
+  roles = c.in_ok-add_voter.ensures.kept ∙ c.loop-voters.invariant.roles;
   counted = c.loop-voters.invariant.counted
       ∙ sym (no_more c.args.chain.now c.loop-voters.parts c.add_voter.new.parts c.in-Some.who (sym c.in_ok-add_voter.ensures.answer ∙ c.if-branch.false) c.in_ok-add_voter.ensures.ok);
 }

@@ -9,5 +9,6 @@ decreases-loop-voters l = length l.walk
 abbrev pub invariant-loop-voters : goal.invariant-loop-voters
 invariant-loop-voters l = record {
   polled : IsPolled l.chain l.parts l.walk;
+  roles : l.electorate ≡ l.chain.roles;
   counted : l.voters ≡ length l.parts.voters;
 }

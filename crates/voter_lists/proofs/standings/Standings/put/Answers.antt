@@ -1,19 +1,38 @@
--- The standing stands at the place of the account, or behind the others.
-use Rattle.std.proofs.Common.{rules, ◌≡◌, ◌<◌, ◌∙◌, ◌++◌, ◌∷◌, [], length, Some, sym}
-use Rattle.voter_lists.proofs.StandingLemmas.{place_within, placed_set, placed_push}
+-- The standing stands at the place of the account.
+use Rattle.std.proofs.Common.{rules, ◌≡◌, ◌<◌, ◌∙◌, length, Some, ap}
+use Rattle.account_places.specs.Places.{place_in, by_account}
+use Rattle.voter_lists.specs.Marks.{AreMarks}
+use Rattle.voter_lists.specs.Roles.{targets_in, is_validator, is_validator_in, with_standing}
+use Rattle.voter_lists.specs.Standings.{PlacedRoles}
+use Rattle.voter_lists.proofs.MarkLemmas.{kept_marks, beside_set, row_within, row_standing, row_set}
 use Rattle.voter_lists.proofs.standings.Standings.put.Goals as goal
 
 pub index_mut-requires : goal.index_mut-requires
 index_mut-requires c =
-    let within : c.in-Some.place < length c.self.inside.standings.items = place_within _ c.self.inside.places c.args.who _ c.find.ensures.stand c.self.invariant (sym c.find.ensures.place ∙ c.in-Some.is) in
+    let there : place_in (by_account c.self.inside.places) c.args.who ≡ Some c.in_ok-place.place = rw (← c.self.view_is) at c.in_ok-place.ensures.place in
+    let within : c.in_ok-place.place < length c.self.inside.rows.items = row_within _ c.self.inside.places c.args.who _ c.self.invariant there in
     search rules
 
-pub returns-in-Some-clause-ok : goal.returns-in-Some-clause-ok
-returns-in-Some-clause-ok c =
-    rw (← c.self.view_is) (placed_set c.self.inside.standings.items c.self.inside.places c.args.who c.in-Some.place c.find.ensures.stand c.self.invariant (sym c.find.ensures.place ∙ c.in-Some.is) c.args.standing)
+pub invariant_of-self : goal.invariant_of-self
+invariant_of-self c =
+    let marks : AreMarks c.place_for.new.self.accounts c.args.marks (targets_in (Some c.args.standing)) = kept_marks _ _ _ _ c.place_for.ensures.kept c.requires in
+    beside_set c.self.inside.rows.items c.self.inside.places c.in_ok-place.place _ c.self.invariant (rw (← c.self.view_is) at marks)
 
 pub returns-clause-ok : goal.returns-clause-ok
 returns-clause-ok c =
-    let items : c.push.new.self.items ≡ c.self.inside.standings.items ++ Some c.args.standing ∷ [] = search rules in
-    rw (← c.self.view_is, items)
-    (placed_push c.self.inside.standings.items c.self.inside.places c.args.who (sym c.find.ensures.place ∙ c.in_default.is) c.put.new.self c.args.standing c.find.ensures.stand c.self.invariant c.in_ok-put.ensures.places)
+    let there : place_in (by_account c.self.inside.places) c.args.who ≡ Some c.in_ok-place.place = rw (← c.self.view_is) at c.in_ok-place.ensures.place in
+    row_set c.self.inside.rows.items c.self.inside.places c.args.who c.in_ok-place.place c.self.invariant there c.args.standing c.args.marks
+    ∙ ap (λ roles. with_standing roles c.args.who c.args.standing) (ap (λ (p : PlacedRoles). p.roles) c.self.view_is ∙ c.place_for.ensures.roles)
+
+pub index-requires : goal.index-requires
+index-requires c =
+    let there : place_in (by_account c.self.inside.places) c.args.who ≡ Some c.in_ok-place.place = rw (← c.self.view_is) at c.in_ok-place.ensures.place in
+    let within : c.in_ok-place.place < length c.self.inside.rows.items = row_within _ c.self.inside.places c.args.who _ c.self.invariant there in
+    search rules
+
+pub returns-clause-was : goal.returns-clause-was
+returns-clause-was c =
+    let there : place_in (by_account c.self.inside.places) c.args.who ≡ Some c.in_ok-place.place = rw (← c.self.view_is) at c.in_ok-place.ensures.place in
+    c.is_validator-was.ensures
+    ∙ ap is_validator_in (row_standing c.self.inside.rows.items c.self.inside.places c.args.who c.in_ok-place.place c.self.invariant there c.index.result.now c.index.ensures)
+    ∙ ap (λ roles. is_validator roles c.args.who) (ap (λ (p : PlacedRoles). p.roles) c.self.view_is ∙ c.place_for.ensures.roles)

@@ -1,6 +1,6 @@
 use Rattle.std.proofs.Common.{◌≡◌, length}
 use Rattle.voter_lists.specs.Roles.{has_repeated_account}
-use Rattle.voter_lists.proofs.roles.repeats.Given as goal
+use Rattle.voter_lists.proofs.roles.repeats_account.Given as goal
 
 abbrev pub invariant-loop-first : goal.invariant-loop-first
 invariant-loop-first l = has_repeated_account l.rest ≡ has_repeated_account l.fn.accounts

@@ -1,0 +1,146 @@
+-- Marks stay right while accounts get places.
+use Rattle.std.proofs.Common.{◌≡◌, ◌∙◌, ℕ, zero, suc, ◌<◌, Bool, true, false, nat_eq, ◌||◌, List, [], ◌∷◌, ◌++◌, length, get_or, slice_get, slice_set, Option, Some, None, IfNone, refl, ap, ap₂, sym, subst, true≢false, arith, length-append}
+use Rattle.std.specs.List.{list_any}
+use Rattle.std.proofs.lemmas.Bool.{or_parts, false_from_ne_true}
+use Rattle.std.proofs.lemmas.List.{get_or-map, length-map, length-set, map-set}
+use Rattle.std.proofs.lemmas.Option.{none-some, same_Some, slice_get_within, slice_get-get_or}
+use Rattle.npos_base.specs.declared.account.AccountId.{AccountId}
+use Rattle.npos_base.specs.Account.{same_account}
+use Rattle.npos_base.proofs.AccountOrder.{same_itself, same_exact}
+use Rattle.npos_base.proofs.NumberTests.{number_same, number_tie}
+use Rattle.account_places.specs.Index.{StandOnce}
+use Rattle.account_places.specs.Places.{place_in, by_account}
+use Rattle.account_places.proofs.StandLemmas.{slice_left, slice_cases, stand_more}
+use Rattle.voter_lists.specs.declared.row.Row.{Row}
+use Rattle.voter_lists.specs.declared.standing.Standing.{Standing}
+use Rattle.voter_lists.specs.Marks.{unknown, IsMark, AreMarks, KeepPlaces, RepeatAlike}
+use Rattle.voter_lists.specs.Roles.{standing_of, targets_in, with_standing, without_role}
+use Rattle.voter_lists.specs.Standings.{AreBeside, IsMarked, standings_in, standings_placed}
+use Rattle.voter_lists.proofs.StandingLemmas.{placed_set, placed_unset, placed_more, standing_there, standing_nowhere}
+
+-- where nobody is named there are no marks
+pub no_marks : (accounts : List AccountId) → AreMarks accounts [] []
+no_marks accounts = record { count = refl; each = λ i mark target there named. absurd (none-some mark there) }
+
+pub kept_marks : (old new : List AccountId) (marks : List ℕ) (targets : List AccountId) → KeepPlaces old new → AreMarks old marks targets → AreMarks new marks targets
+kept_marks old new marks targets kept are = record {
+  count = are.count;
+  each = λ i mark target there named known. kept mark target (are.each i mark target there named known);
+}
+
+pub kept_more : (accounts : List AccountId) (who : AccountId) → KeepPlaces accounts (accounts ++ who ∷ [])
+kept_more accounts who place account there = slice_left accounts who place account there
+
+-- the mark of each target by its number
+pub marked_at : (accounts : List AccountId) (marks : List ℕ) (targets : List AccountId) (i d : ℕ) (e : AccountId) → AreMarks accounts marks targets → i < length targets
+    → IsMark accounts (get_or marks i d) (get_or targets i e)
+marked_at accounts marks targets i d e are below =
+    are.each i (get_or marks i d) (get_or targets i e) (slice_get-get_or marks i d (omega (arith, are.count, below))) (slice_get-get_or targets i e below)
+
+-- known marks are the same exactly where their accounts are
+module _ (accounts : List AccountId) (once : StandOnce accounts) where
+  known_test : (mark other : ℕ) (who account : AccountId) → slice_get accounts mark ≡ Some who → slice_get accounts other ≡ Some account → nat_eq other mark ≡ same_account account who
+  known_test mark other who account here there = at (nat_eq other mark) refl where
+    at : (b : Bool) → nat_eq other mark ≡ b → b ≡ same_account account who
+    at true e =
+        let one : account ≡ who = same_Some account who (sym there ∙ ap (slice_get accounts) (number_tie other mark e) ∙ here) in
+        sym (ap (λ a. same_account a who) one ∙ same_itself who)
+    at false e = sym (false_from_ne_true (same_account account who) (λ same.
+        let place : other ≡ mark = once who other mark (there ∙ ap (λ a. Some a) (same_exact account who same)) here in
+        true≢false (sym (number_same mark) ∙ ap (λ n. nat_eq n mark) (sym place) ∙ e)))
+
+  head_known : (mark : ℕ) (marks : List ℕ) (target : AccountId) (targets : List AccountId) → AreMarks accounts (mark ∷ marks) (target ∷ targets) → nat_eq mark unknown ≡ false → slice_get accounts mark ≡ Some target
+  head_known mark marks target targets are known = are.each 0 mark target refl refl (λ same. true≢false (sym (number_same unknown) ∙ ap (λ n. nat_eq n unknown) (sym same) ∙ known))
+
+  later_marks : (mark : ℕ) (marks : List ℕ) (target : AccountId) (targets : List AccountId) → AreMarks accounts (mark ∷ marks) (target ∷ targets) → AreMarks accounts marks targets
+  later_marks mark marks target targets are = record { count = omega (arith, are.count); each = λ i other account there named. are.each (suc i) other account there named }
+
+  same_any : (mark : ℕ) (who : AccountId) → slice_get accounts mark ≡ Some who → (marks : List ℕ) (targets : List AccountId) → AreMarks accounts marks targets → list_any (λ m. nat_eq m unknown) marks ≡ false
+      → list_any (λ other. nat_eq other mark) marks ≡ list_any (λ other. same_account other who) targets
+  same_any mark who here [] [] are known = refl
+  same_any mark who here [] (target ∷ targets) are known = absurd (omega (arith, are.count))
+  same_any mark who here (other ∷ marks) [] are known = absurd (omega (arith, are.count))
+  same_any mark who here (other ∷ marks) (target ∷ targets) are known =
+      let parts = or_parts (nat_eq other unknown) (list_any (λ m. nat_eq m unknown) marks) known in
+      ap₂ (λ a b. a || b) (known_test mark other who target here (head_known other marks target targets are parts.0)) (same_any mark who here marks targets (later_marks other marks target targets are) parts.1)
+
+  pub repeat_alike : (marks : List ℕ) (targets : List AccountId) → AreMarks accounts marks targets → RepeatAlike marks targets
+  repeat_alike [] [] are known = refl
+  repeat_alike [] (target ∷ targets) are known = absurd (omega (arith, are.count))
+  repeat_alike (mark ∷ marks) [] are known = absurd (omega (arith, are.count))
+  repeat_alike (mark ∷ marks) (target ∷ targets) are known =
+      let parts = or_parts (nat_eq mark unknown) (list_any (λ m. nat_eq m unknown) marks) known in
+      let later = later_marks mark marks target targets are in
+      ap₂ (λ a b. a || b) (same_any mark target (head_known mark marks target targets are parts.0) marks targets later parts.1) (repeat_alike marks targets later parts.1)
+
+-- a row that is set at a place, or comes behind the others
+set_cases : (rows : List Row) (place at : ℕ) (row other : Row) → slice_get (slice_set rows place row) at ≡ Some other → (P : Type 0) → (other ≡ row → P) → (slice_get rows at ≡ Some other → P) → P
+set_cases [] place at row other there P here before = before there
+set_cases (r ∷ rows) zero zero row other there P here before = here (same_Some other row (sym there))
+set_cases (r ∷ rows) zero (suc at) row other there P here before = before there
+set_cases (r ∷ rows) (suc place) zero row other there P here before = before there
+set_cases (r ∷ rows) (suc place) (suc at) row other there P here before = set_cases rows place at row other there P here before
+
+pub beside_set : (rows : List Row) (accounts : List AccountId) (place : ℕ) (row : Row) → AreBeside rows accounts → IsMarked accounts row → AreBeside (slice_set rows place row) accounts
+beside_set rows accounts place row beside marked = record {
+  stand = beside.stand;
+  count = length-set rows place row ∙ beside.count;
+  marked = λ at other there. set_cases rows place at row other there (IsMarked accounts other) (λ same. subst (IsMarked accounts) (sym same) marked) (λ before. beside.marked at other before);
+}
+
+pub beside_more : (rows : List Row) (accounts : List AccountId) (who : AccountId) (row : Row) → AreBeside rows accounts → place_in (by_account accounts) who ≡ None → IsMarked accounts row
+    → AreBeside (rows ++ row ∷ []) (accounts ++ who ∷ [])
+beside_more rows accounts who row beside nowhere marked = record {
+  stand = stand_more accounts who beside.stand nowhere;
+  count = omega (arith, length-append rows (row ∷ []), length-append accounts (who ∷ []), beside.count);
+  marked = λ place other there. kept_marks accounts (accounts ++ who ∷ []) other.marks (targets_in other.standing) (kept_more accounts who)
+      (slice_cases rows row place other there (IsMarked accounts other) (λ before. beside.marked place other before) (λ same last. subst (IsMarked accounts) (sym same) marked));
+}
+
+pub beside_none : AreBeside [] []
+beside_none = record {
+  stand = record { count = refl; standing = λ who place there. absurd (none-some place there); placed = λ who place there. absurd (none-some who there) };
+  count = refl;
+  marked = λ place row there. absurd (none-some row there);
+}
+
+standings_more : (rows : List Row) (row : Row) → standings_in (rows ++ row ∷ []) ≡ standings_in rows ++ row.standing ∷ []
+standings_more [] row = refl
+standings_more (r ∷ rows) row = ap (λ (ss : List (Option Standing)). r.standing ∷ ss) (standings_more rows row)
+
+counted : (rows : List Row) (accounts : List AccountId) → AreBeside rows accounts → length (standings_in rows) ≡ length accounts
+counted rows accounts beside = length-map rows (λ (row : Row). row.standing) ∙ beside.count
+
+-- who has a place has the row that stands there
+module _ (rows : List Row) (accounts : List AccountId) (who : AccountId) (place : ℕ) (beside : AreBeside rows accounts) (there : place_in (by_account accounts) who ≡ Some place) where
+  pub row_within : place < length rows
+  row_within = omega (arith, beside.count, slice_get_within accounts place who (beside.stand.standing who place there))
+
+  pub row_standing : (row : Row) → row ≡ get_or rows place row → row.standing ≡ standing_of (standings_placed (standings_in rows) (by_account accounts)) who
+  row_standing row is =
+      ap (λ (r : Row). r.standing) is ∙ sym (get_or-map (λ (r : Row). r.standing) rows place row None row_within)
+      ∙ sym (standing_there (standings_in rows) accounts who place beside.stand (counted rows accounts beside) there)
+
+  pub row_set : (standing : Standing) (marks : List ℕ)
+      → standings_placed (standings_in (slice_set rows place (record { standing = Some standing; marks = marks }))) (by_account accounts) ≡ with_standing (standings_placed (standings_in rows) (by_account accounts)) who standing
+  row_set standing marks =
+      ap (λ (ss : List (Option Standing)). standings_placed ss (by_account accounts)) (map-set (λ (r : Row). r.standing) rows place (record { standing = Some standing; marks = marks }))
+      ∙ placed_set (standings_in rows) accounts who place beside.stand (counted rows accounts beside) there standing
+
+  pub row_unset : (marks : List ℕ) → standings_placed (standings_in (slice_set rows place (record { standing = None; marks = marks }))) (by_account accounts) ≡ without_role (standings_placed (standings_in rows) (by_account accounts)) who
+  row_unset marks =
+      ap (λ (ss : List (Option Standing)). standings_placed ss (by_account accounts)) (map-set (λ (r : Row). r.standing) rows place (record { standing = None; marks = marks }))
+      ∙ placed_unset (standings_in rows) accounts who place beside.stand (counted rows accounts beside) there
+
+-- an account that gets a place has no standing for that
+pub row_more : (rows : List Row) (accounts : List AccountId) (who : AccountId) (marks : List ℕ) → AreBeside rows accounts → place_in (by_account accounts) who ≡ None
+    → standings_placed (standings_in (rows ++ record { standing = None; marks = marks } ∷ [])) (by_account (accounts ++ who ∷ [])) ≡ standings_placed (standings_in rows) (by_account accounts)
+row_more rows accounts who marks beside nowhere =
+    ap (λ (ss : List (Option Standing)). standings_placed ss (by_account (accounts ++ who ∷ []))) (standings_more rows (record { standing = None; marks = marks }))
+    ∙ placed_more (standings_in rows) accounts who nowhere beside.stand (counted rows accounts beside)
+
+-- who has no place has no standing
+pub nowhere_standing : (rows : List Row) (accounts : List AccountId) (who : AccountId) (found : Option ℕ) → found ≡ place_in (by_account accounts) who
+    → IfNone found (standing_of (standings_placed (standings_in rows) (by_account accounts)) who ≡ None)
+nowhere_standing rows accounts who None is = standing_nowhere (standings_in rows) accounts who (sym is)
+nowhere_standing rows accounts who (Some place) is = tt
