@@ -11,8 +11,10 @@ pub mod PoolLemmas
 pub mod PutLemmas
 pub mod RoundLemmas
 pub mod RowLemmas
+pub mod RunLemmas
 pub mod ScanLemmas
 pub mod SlotLemmas
+pub mod SpanLemmas
 pub mod SpendLemmas
 pub mod SplitLemmas
 pub mod SquareLemmas

@@ -15,7 +15,8 @@ use Rattle.support_balance.specs.Rows.{at, IsRow, AreAlike, AreMoved, IsEven, am
 use Rattle.support_balance.specs.Laid.{targets_of, Covers, AreKept}
 use Rattle.support_balance.proofs.HandLemmas.{differs_self, alike_self}
 use Rattle.support_balance.proofs.AlikeLemmas.{alike_between, alike_trans, from_alike, rising_before, support-append, support_small, amount_counted, differs-append}
-use Rattle.support_balance.proofs.TurnLemmas.{from_between, made_turn}
+use Rattle.support_balance.specs.Spans.{IsSpan}
+use Rattle.support_balance.proofs.TurnLemmas.{from_between, other_between, made_turn}
 
 pub record IsTurned (snapshot : Snapshot) (edges : List Edge) (supports : List ℕ) (now : List Edge) (table : List ℕ) (start : ℕ) (changed : Bool) (voter : ℕ) : Type 0 where
   pub within : start ≤ length now
@@ -76,7 +77,7 @@ module _ (snapshot : Snapshot) (edges : List Edge) (supports : List ℕ) (now : 
   long_front : length front ≡ start
   long_front = length-take-le start now so.within
 
-  long_row : length row ≡ end - start
+  pub long_row : length row ≡ end - start
   long_row = length-take-le (end - start) (drop start now) (omega (arith, inside, length-drop start now))
 
   row_at : (k : ℕ) (d : Edge) → k < length row → get_or row k d ≡ get_or now (start + k) d
@@ -137,6 +138,15 @@ module _ (snapshot : Snapshot) (edges : List Edge) (supports : List ℕ) (now : 
       ap (λ (e : Edge). at table e.target) (row_at k d h),
     );
     small = small_support;
+  }
+
+  pub span_here : start < end → IsSpan now (record { voter = voter; start = start; end = end })
+  span_here some = record {
+    some = some;
+    within = inside;
+    before = λ k d h. so.before k d h (omega (arith, h, so.within));
+    own = own;
+    behind = λ k d a b. omega (arith, later k d a b);
   }
 
   module _ (new : List Edge) (after : List ℕ) (told : Bool) (alike : AreAlike row new) (moved : AreMoved row new table after)
@@ -256,3 +266,19 @@ module _ (snapshot : Snapshot) (edges : List Edge) (supports : List ℕ) (now : 
     pub turned_next : IsTurned snapshot edges supports (put_mid start (end - start) now new) after end (changed || told) (voter + 1)
     turned_next = subst (λ es. IsTurned snapshot edges supports es after end (changed || told) (voter + 1))
         (sym (put_three start end now new ahead inside (alike.count ∙ long_row))) next_turned
+
+    pub laid_is : put_mid start (end - start) now new ≡ laid
+    laid_is = put_three start end now new ahead inside (alike.count ∙ long_row)
+
+    pub alike_next : AreAlike now (put_mid start (end - start) now new)
+    alike_next = subst (AreAlike now) (sym laid_is) laid_alike
+
+    of_new : All (λ (e : Edge). e.voter ≡ voter) new
+    of_new k d h = alike.voters k d (omega (arith, h, alike.count)) ∙ of_row k d (omega (arith, h, alike.count))
+
+    pub own_next : edges_from (put_mid start (end - start) now new) voter ≡ new
+    own_next = ap (λ es. edges_from es voter) laid_is ∙ from_between voter front new back of_front of_new of_back
+
+    pub others_next : (other : ℕ) → other ≢ voter → edges_from (put_mid start (end - start) now new) other ≡ edges_from now other
+    others_next other ne = ap (λ es. edges_from es other) laid_is ∙ other_between voter other front new back of_new ne
+        ∙ sym (other_between voter other front row back of_row ne) ∙ ap (λ es. edges_from es other) now_is

@@ -9,6 +9,7 @@ use Rattle.weight_book.specs.Weights.{edges_from, edges_to, amount_sum, support}
 use Rattle.support_balance.specs.Turns.{given, edges_but, backs, LiesLow, IsTurn}
 use Rattle.support_balance.specs.Rows.{at, AreAlike, IsEven}
 use Rattle.support_balance.specs.Laid.{targets_of}
+use Rattle.support_balance.specs.Spans.{IsIdle}
 use Rattle.support_balance.proofs.RowLemmas.{IsRising, own_amount, rising_alike}
 
 pub filter_all : {X : Type 0} (p : X → Bool) (xs : List X) → All (λ x. p x ≡ true) xs → filter p xs ≡ xs
@@ -31,6 +32,17 @@ from_between voter front row back f r b =
   where
     own : Edge → Bool
     own edge = nat_eq edge.voter voter
+
+-- the edges of another voter, whatever that row is
+pub other_between : (voter other : ℕ) (front row back : List Edge) → All (λ (e : Edge). e.voter ≡ voter) row → other ≢ voter
+    → edges_from (front ++ (row ++ back)) other ≡ edges_from front other ++ edges_from back other
+other_between voter other front row back r ne =
+    filter-append own front (row ++ back)
+    ∙ ap (λ ys. filter own front ++ ys)
+    (filter-append own row back ∙ ap (λ ys. ys ++ filter own back) (filter_none own row (λ k d h. ne_eqb (get_or row k d).voter other (λ e. ne (sym e ∙ r k d h)))))
+  where
+    own : Edge → Bool
+    own edge = nat_eq edge.voter other
 
 but_between : (voter : ℕ) (front row back : List Edge) → All (λ (e : Edge). e.voter ≢ voter) front → All (λ (e : Edge). e.voter ≡ voter) row
     → All (λ (e : Edge). e.voter ≢ voter) back → edges_but (front ++ (row ++ back)) voter ≡ front ++ back
@@ -69,15 +81,21 @@ targets_alike (old ∷ olds) (new ∷ news) alike = ap₂ (λ n ns. n ∷ ns) (a
   targets = λ k d h. alike.targets (suc k) d (omega (arith, h));
 }))
 
--- the turn of a voter that has no edge
-pub idle_turn : (snapshot : Snapshot) (committee : List ℕ) (voter : ℕ) (edges : List Edge) → edges_from edges voter ≡ []
-    → ((target : ℕ) → has [] target ≡ backs snapshot committee voter target) → IsTurn snapshot committee voter edges edges
-idle_turn snapshot committee voter edges none covers = record {
+-- the turn of a voter that has no edge, or a single one that is given the whole stake
+pub idle_turn : (snapshot : Snapshot) (committee : List ℕ) (voter : ℕ) (edges : List Edge) → IsIdle (stake_of snapshot voter) (edges_from edges voter)
+    → ((target : ℕ) → has (targets_of (edges_from edges voter)) target ≡ backs snapshot committee voter target) → IsTurn snapshot committee voter edges edges
+idle_turn snapshot committee voter edges idle covers = record {
   others = refl;
-  to_backed = λ target _. ap (λ es. amount_sum (edges_to es target)) none;
-  whole = λ target some. absurd (true≢false (sym some ∙ sym (covers target)));
-  level = λ one other some _ _ _. absurd (true≢false (sym some ∙ sym (covers one)));
-}
+  to_backed = λ target out. none_to (edges_from edges voter) target (covers target ∙ out);
+  whole = λ target some. idle.whole (omega (arith, (place_of (edges_from edges voter) target (covers target ∙ some)).1));
+  level = λ one other p q ne _.
+      let (i, below, is) = place_of (edges_from edges voter) one (covers one ∙ p) in
+      let (j, below', is') = place_of (edges_from edges voter) other (covers other ∙ q) in
+      let same : i ≡ j = omega (arith, below, below', idle.few) in
+      absurd (ne (sym (is none) ∙ ap (λ n. (get_or (edges_from edges voter) n none).target) same ∙ is' none));
+} where
+  none : Edge
+  none = record { voter = 0; target = 0; amount = 0 }
 
 module _ (snapshot : Snapshot) (committee : List ℕ) (voter : ℕ) (front row now back : List Edge) (table : List ℕ) (alike : AreAlike row now) (rising : IsRising row)
     (even : 1 ≤ length row → IsEven (stake_of snapshot voter) now table)

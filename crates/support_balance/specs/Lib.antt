@@ -5,4 +5,5 @@ pub mod Levels
 pub mod Rounds
 pub mod Rows
 pub mod Slots
+pub mod Spans
 pub mod Turns

@@ -1,15 +1,17 @@
 //! A committee whose voters hand out their stake, kept so that turns are fast.
 ghost use Rattle.std.specs.Prelude.{◌≡◌, ◌<◌, ◌≤◌, ◌++◌, ◌∷◌, [], ℕ, false, IsFalse, length, slice_index_or, IfOk, OnOk, OnErr, vec_len};
+ghost use Rattle.std.specs.List.{AllPairs};
 ghost use Rattle.std.specs.Vec.{vec_capacity};
 ghost use Rattle.election_snapshot.specs.Snapshot.{has, stake_of};
 ghost use Rattle.weight_book.specs.Weights.{no_weights, Follows, support, spent};
 ghost use Rattle.weight_book.specs.Room.{KeepsRoom};
-ghost use Rattle.support_balance.specs.Rounds.{GiveSame, IsBalanced, AreListed};
+ghost use Rattle.support_balance.specs.Rounds.{GiveSame, IsBalanced, IsBefore, AreListed};
 ghost use Rattle.support_balance.specs.Backing.{above_zero, IsKept};
 ghost use Rattle.support_balance.specs.Slots.{AreSlots};
 
 use crate::laying::{all_slots, in_order, join, lay, mark, supports_of};
 use crate::rounds::rounds;
+use crate::spans::Span;
 use election_snapshot::Snapshot;
 use npos_base::{Edge, NoMemory};
 use std::alloc::Global;
@@ -32,9 +34,13 @@ pub struct Backing<'a> {
     edges: Vec<Edge>,
     /// By target, what the edges to it sum to.
     supports: Vec<u128>,
+    /// What the last balancing noted of its voters. Only the room for all of them is of use.
+    spans: Vec<Span>,
 }
 
 impl<'a> Model for Backing<'a> {
+    ghost use Rattle.std.specs.Prelude.{length, ◌≤◌};
+    ghost use Rattle.std.specs.Vec.{vec_capacity};
     ghost use Rattle.support_balance.specs.Backing.{Backing, IsKept};
 
     ghost Value = { Backing };
@@ -45,12 +51,12 @@ impl<'a> Model for Backing<'a> {
     } };
 
     ghost invariant = { λ b. IsKept b.snapshot.now b.slots.items b.members.items b.is_member.items
-        b.edges.items b.supports.items };
+        b.edges.items b.supports.items × (length b.snapshot.now.voters ≤ vec_capacity b.spans) };
 }
 
 impl<'a> Backing<'a> {
     /// No member yet, and so no edge. The error is want of memory alone; then nothing is kept. It
-    /// takes room for an edge along each nomination of the snapshot.
+    /// takes room for an edge along each nomination of the snapshot, and for a span of each voter.
     pub fn new(alloc: Global, snapshot: &'a Snapshot) -> Result<Backing<'a>, NoMemory>
         ensures { IfOk result (λ backing. backing
             ≡ record { snapshot = snapshot.now; weights = no_weights }) }
@@ -58,6 +64,7 @@ impl<'a> Backing<'a> {
         let slots = all_slots(alloc, snapshot)?;
         let is_member = vec![in alloc; false; snapshot.target_count()]?;
         let supports = vec![in alloc; 0; snapshot.target_count()]?;
+        let spans = Vec::with_capacity(alloc, snapshot.voter_count())?;
         Ok(Backing {
             alloc,
             snapshot,
@@ -66,6 +73,7 @@ impl<'a> Backing<'a> {
             is_member,
             edges: Vec::new(alloc),
             supports,
+            spans,
         })
     }
 
@@ -89,6 +97,7 @@ impl<'a> Backing<'a> {
         let mut is_member = vec![in alloc; false; snapshot.target_count()]?;
         mark(&members, &mut is_member);
         let (edges, supports) = lay_weights(alloc, snapshot, &slots, &is_member, weights)?;
+        let spans = Vec::with_capacity(alloc, snapshot.voter_count())?;
         Ok(Backing {
             alloc,
             snapshot,
@@ -97,6 +106,7 @@ impl<'a> Backing<'a> {
             is_member,
             edges,
             supports,
+            spans,
         })
     }
 
@@ -145,7 +155,13 @@ impl<'a> Backing<'a> {
         ensures spends { 1 ≤ asked → (voter : ℕ) → voter < length self.new.snapshot.voters
             → spent self.new.weights.edges voter ≤ stake_of self.new.snapshot voter }
     {
-        rounds(asked, self.snapshot, &mut self.edges, &mut self.supports)
+        rounds(
+            asked,
+            self.snapshot,
+            &mut self.edges,
+            &mut self.supports,
+            &mut self.spans,
+        )
     }
 
     /// The edges, by rising voter, then rising target, those of amount 0 among them. They lead
@@ -153,6 +169,7 @@ impl<'a> Backing<'a> {
     pub fn edges(&self) -> &[Edge]
         ensures edges { result.now ≡ self.now.weights.edges }
         ensures follows { Follows self.now.snapshot self.now.weights }
+        ensures rising { AllPairs IsBefore result.now }
     {
         self.edges.as_slice()
     }

@@ -7,6 +7,7 @@ mod balancing;
 pub mod laws;
 mod laying;
 mod rounds;
+mod spans;
 mod turn;
 
 pub use backing::Backing;

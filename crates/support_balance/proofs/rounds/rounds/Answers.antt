@@ -1,34 +1,50 @@
-use Rattle.std.proofs.Common.{arith, ◌≡◌, ◌+◌, suc, inr, sym, subst, refl, ◌∙◌}
-use Rattle.support_balance.specs.Rounds.{GiveSame, AreRounds}
+use Rattle.std.proofs.Common.{arith, sym, refl, ◌∙◌}
 use Rattle.support_balance.proofs.AlikeLemmas.{alike_trans, covers_alike}
-use Rattle.support_balance.proofs.GivenLemmas.{same_edges, not_same, same_given}
+use Rattle.support_balance.proofs.PutLemmas.{none_balanced}
+use Rattle.support_balance.proofs.RunLemmas.{more_rounds, settled}
 use Rattle.support_balance.proofs.rounds.rounds.Goals as goal
 
-pub returns-then-not-round-clause-balanced : goal.returns-then-not-round-clause-balanced
-returns-then-not-round-clause-balanced c = λ committee covers.
-    let (kept, count, alike, most, rounds) = c.loop-made.invariant in
+pub returns-then-asked-eq0-clause-balanced : goal.returns-then-asked-eq0-clause-balanced
+returns-then-asked-eq0-clause-balanced c = λ committee _. rw c.if-asked-eq0.true (none_balanced c.args.snapshot.now committee c.args.edges.now)
+
+pub returns-then-not-first_round-clause-balanced : goal.returns-then-not-first_round-clause-balanced
+returns-then-not-first_round-clause-balanced c = λ committee covers. settled c.args.snapshot.now committee 0 c.args.edges.now c.args.edges.now c.first_round.new.edges
+    (λ voter target. refl) c.first_round.ensures.alike (c.first_round.ensures.round committee covers) c.args.asked (omega (arith, c.if-asked-eq0.false))
+    (sym c.first_round.ensures.changed ∙ c.if-not-first_round.true)
+
+pub loop-made-init : goal.loop-made-init
+loop-made-init c = (
+  c.first_round.ensures.kept,
+  c.first_round.ensures.count,
+  c.first_round.ensures.alike,
+  omega (arith, c.if-asked-eq0.false),
+  λ committee covers. more_rounds c.args.snapshot.now committee 0 c.args.edges.now c.args.edges.now c.first_round.new.edges (λ voter target. refl)
+      c.first_round.ensures.alike (c.first_round.ensures.round committee covers) c.requires.kept.rising c.first_round.ensures.kept.rising
+      (sym c.first_round.ensures.changed ∙ c.if-not-first_round.false),
+  c.first_round.ensures.spans,
+  c.first_round.ensures.room,
+)
+
+pub returns-then-not-next_round-clause-balanced : goal.returns-then-not-next_round-clause-balanced
+returns-then-not-next_round-clause-balanced c = λ committee covers.
+    let (kept, count, alike, most, rounds, spans, room) = c.loop-made.invariant in
     let still = covers_alike c.args.snapshot.now committee c.args.edges.now c.loop-made.edges alike covers in
-    let same = same_edges c.loop-made.edges c.round.new.edges c.round.ensures.alike (sym c.round.ensures.changed ∙ c.if-not-round.true) in
-    record {
-      after = c.round.new.edges;
-      same = λ voter target. refl;
-      no_more = omega (arith, c.loop-made-test.true);
-      rounds = inr (c.loop-made.made, c.loop-made.edges, refl, rounds committee covers, c.round.ensures.round committee still, same_given c.loop-made.edges c.round.new.edges same);
-    }
+    settled c.args.snapshot.now committee c.loop-made.made c.args.edges.now c.loop-made.edges c.next_round.new.edges
+    (rounds committee covers) c.next_round.ensures.alike (c.next_round.ensures.round committee still) c.args.asked (omega (arith, c.loop-made-test.true))
+    (sym c.next_round.ensures.changed ∙ c.if-not-next_round.true)
 
 pub loop-made-preserved : goal.loop-made-preserved
 loop-made-preserved c =
-    let (kept, count, alike, most, rounds) = c.loop-made.invariant in (
-      c.round.ensures.kept,
-      c.round.ensures.count ∙ count,
-      alike_trans c.args.edges.now c.loop-made.edges c.round.new.edges alike c.round.ensures.alike,
+    let (kept, count, alike, most, rounds, spans, room) = c.loop-made.invariant in (
+      c.next_round.ensures.kept,
+      c.next_round.ensures.count ∙ count,
+      alike_trans c.args.edges.now c.loop-made.edges c.next_round.new.edges alike c.next_round.ensures.alike,
       omega (arith, c.loop-made-test.true),
       λ committee covers.
           let still = covers_alike c.args.snapshot.now committee c.args.edges.now c.loop-made.edges alike covers in
-          let apart : GiveSame c.loop-made.edges c.round.new.edges → ⊥ =
-          not_same c.loop-made.edges c.round.new.edges c.round.ensures.alike kept.rising c.round.ensures.kept.rising (sym c.round.ensures.changed ∙ c.if-not-round.false) in
-          let made : AreRounds c.args.snapshot.now committee (suc c.loop-made.made) c.args.edges.now c.round.new.edges =
-          (c.loop-made.edges, rounds committee covers, c.round.ensures.round committee still, apart) in
-          let one : suc c.loop-made.made ≡ c.loop-made.made + 1 = omega arith in
-          subst (λ n. AreRounds c.args.snapshot.now committee n c.args.edges.now c.round.new.edges) one made,
+          more_rounds c.args.snapshot.now committee c.loop-made.made c.args.edges.now c.loop-made.edges c.next_round.new.edges (rounds committee covers)
+          c.next_round.ensures.alike (c.next_round.ensures.round committee still) kept.rising c.next_round.ensures.kept.rising
+          (sym c.next_round.ensures.changed ∙ c.if-not-next_round.false),
+      rw (sym c.deref.ensures.value) c.next_round.ensures.spans,
+      room,
     )

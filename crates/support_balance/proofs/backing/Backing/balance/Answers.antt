@@ -6,7 +6,7 @@ use Rattle.support_balance.proofs.backing.Backing.balance.Goals as goal
 
 pub returns-clause-balanced : goal.returns-clause-balanced
 returns-clause-balanced c =
-    let covers = kept_covers _ _ _ _ _ _ c.self.invariant in
+    let covers = kept_covers _ _ _ _ _ _ c.self.invariant.0 in
     let value = c.deref_mut.ensures.value in
     let balanced = c.rounds.ensures.balanced c.self.inside.members.items (rw (sym value) at covers) in
     let count : length c.rounds.new.edges ≡ length c.self.inside.edges.items = rw value at c.rounds.ensures.alike.count in
@@ -15,7 +15,7 @@ returns-clause-balanced c =
 
 pub returns-clause-spends : goal.returns-clause-spends
 returns-clause-spends c =
-    let covers = kept_covers _ _ _ _ _ _ c.self.invariant in
+    let covers = kept_covers _ _ _ _ _ _ c.self.invariant.0 in
     let value = c.deref_mut.ensures.value in
     let balanced = rw value at (c.rounds.ensures.balanced c.self.inside.members.items (rw (sym value) at covers)) in
     let alike = rw value at c.rounds.ensures.alike in
