@@ -5,3 +5,4 @@ pub mod ScoreLemmas
 pub mod SameLemmas
 pub mod OneLemmas
 pub mod AnyLemmas
+pub mod FewLemmas

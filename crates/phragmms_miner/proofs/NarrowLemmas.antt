@@ -169,20 +169,20 @@ filter_same p q (x ∷ xs) all =
       | inr t ↦ rw (here ∙ t, t) rest
     ]
 
--- the same by a table of the values at the price
+-- the same by a table of the values at the price of those that are left
 module _ (outs : List ℕ) (value : ℕ → ℕ → ℕ) (total : ℕ) (falls : (target a b : ℕ) → a ≤ b → value b target ≤ value a target)
-    (targets low top pick : ℕ) (alive : List ℕ) (so : IsNarrowed outs value total falls low top pick alive) (price : ℕ) (above : low < price) (within : price ≤ top) (most : top ≤ total)
-    (up : AreRising targets alive) (table : List ℕ) (fills : (target : ℕ) → target < targets → get_or table target 0 ≡ value price target) where
+    (low top pick : ℕ) (alive : List ℕ) (so : IsNarrowed outs value total falls low top pick alive) (price : ℕ) (above : low < price) (within : price ≤ top) (most : top ≤ total)
+    (table : List ℕ) (fills : All (λ target. get_or table target 0 ≡ value price target) alive) where
   agrees : (other : ℕ) → has alive other ≡ true → get_or table other 0 ≡ value price other
   agrees other there =
       let (k, l, same) = has_place alive other there in
-      fills other (omega (arith, up.in_range k 0 l, same 0))
+      ap (λ n. get_or table n 0) (sym (same 0)) ∙ fills k 0 l ∙ ap (value price) (same 0)
 
   pub table_found : (found : ℕ) → has alive found ≡ true → price ≤ get_or table found 0
       → ((other : ℕ) → has alive other ≡ true → price ≤ get_or table other 0 → found ≤ other)
       → IsNarrowed outs value total falls price top found (filter (λ target. nat_lt price (get_or table target 0)) alive)
   table_found found there reaches first = rw (filter_same (λ target. nat_lt price (get_or table target 0)) (λ target. nat_lt price (value price target)) alive
-      (λ k d h. ap (nat_lt price) (fills (get_or alive k d) (up.in_range k d h))))
+      (λ k d h. ap (nat_lt price) (fills k d h)))
       (narrow_found outs value total falls low top pick alive so price above within most found there (omega (arith, reaches, agrees found there))
       (λ other t r. first other t (omega (arith, r, agrees other t))))
 

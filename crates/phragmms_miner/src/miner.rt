@@ -9,8 +9,8 @@ ghost use Rattle.phragmms_miner.specs.Run.{IsRun, IsNext};
 
 use crate::search::best_outside;
 use election_snapshot::Snapshot;
-use npos_base::NoMemory;
-use seat_race::fill_sums;
+use npos_base::{List, NoMemory};
+use seat_race::{fill_sums, nominators_of};
 use std::alloc::Global;
 use support_balance::Backing;
 use weight_book::Weights;
@@ -22,12 +22,14 @@ pub(crate) struct Tables {
     rates: Vec<u64>,
     /// By voter, what it has left.
     left: Vec<u64>,
-    /// By target, what its nominators have left.
+    /// By target, what its nominators had left in its last test, and before it what they have in all.
     prescores: Vec<u64>,
     /// The targets that may still be picked, in front.
     outside: Vec<u16>,
     /// By target, what its nominators have in all.
     approvals: Vec<u64>,
+    /// By target, who nominates it.
+    nominators: Vec<List<u32>>,
     /// About where the next greatest score lies.
     pub(crate) hint: u64,
 }
@@ -56,20 +58,22 @@ impl Tables {
     pub(crate) fn new(alloc: Global, snapshot: &Snapshot) -> Result<Tables, NoMemory>
         ensures { IfOk result (λ tables. AreTables snapshot.now
             tables.rates.items tables.left.items tables.prescores.items tables.outside.items
-            tables.approvals.items) }
+            tables.approvals.items tables.nominators.items) }
     {
         let rates = vec![in alloc; 0; snapshot.target_count()]?;
         let left = vec![in alloc; 0; snapshot.voter_count()]?;
-        let prescores = vec![in alloc; 0; snapshot.target_count()]?;
         let outside = vec![in alloc; 0; snapshot.target_count()]?;
         let mut approvals = vec![in alloc; 0; snapshot.target_count()]?;
         fill_sums(snapshot, snapshot.stakes(), &mut approvals);
+        let prescores = Vec::from_slice(alloc, &approvals)?;
+        let nominators = nominators_of(alloc, snapshot)?;
         Ok(Tables {
             rates,
             left,
             prescores,
             outside,
             approvals,
+            nominators,
             hint: snapshot.total(),
         })
     }
@@ -90,7 +94,7 @@ pub(crate) fn seat_one(
     requires tables { AreTables snapshot.now
         tables.old.rates.items tables.old.left.items tables.old.prescores.items
         tables.old.outside.items
-        tables.old.approvals.items }
+        tables.old.approvals.items tables.old.nominators.items }
     ensures snapshot { backing.new.snapshot ≡ snapshot.now }
     ensures next { OnOk result
         (IsNext snapshot.now rounds backing.old.weights backing.new.weights) }
@@ -99,12 +103,13 @@ pub(crate) fn seat_one(
     ensures tables { AreTables snapshot.now
         tables.new.rates.items tables.new.left.items tables.new.prescores.items
         tables.new.outside.items
-        tables.new.approvals.items }
+        tables.new.approvals.items tables.new.nominators.items }
 {
     let pick = pick_next(
         snapshot,
         backing,
         &tables.approvals,
+        &tables.nominators,
         &mut tables.outside,
         &mut tables.rates,
         &mut tables.left,
@@ -121,6 +126,7 @@ fn pick_next(
     snapshot: &Snapshot,
     backing: &Backing<'_>,
     approvals: &[u64],
+    nominators: &[List<u32>],
     outside: &mut [u16],
     rates: &mut [u64],
     left: &mut [u64],
@@ -132,7 +138,7 @@ fn pick_next(
     requires within { (voter : ℕ) → voter < length snapshot.now.voters
         → spent backing.now.weights.edges voter ≤ stake_of snapshot.now voter }
     requires tables { AreTables snapshot.now rates.old left.old prescores.old outside.old
-        approvals.now }
+        approvals.now nominators.now }
     ensures best { IsBest snapshot.now backing.now.weights.committee backing.now.weights.edges
         result }
     ensures hint { hint.new ≡ score snapshot.now backing.now.weights.edges result }
@@ -145,6 +151,7 @@ fn pick_next(
         edges,
         backing.supports(),
         approvals,
+        nominators,
         &mut outside[..count],
         rates,
         left,

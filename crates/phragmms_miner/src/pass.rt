@@ -1,8 +1,8 @@
 //! Prescores of all targets at one price of a seat: one pass over the edges and one over the votes.
-//! There is one division for each target, and none for the edges.
+//! There is one division for each target, by which rates are made, and none for the edges.
 ghost use Rattle.std.specs.Prelude.{◌≡◌, ◌<◌, ◌≤◌, ◌*◌, ◌/◌, ℕ, min, length, slice_index_or};
 ghost use Rattle.weight_book.specs.Passing.{slack, prescore};
-ghost use Rattle.phragmms_miner.specs.Passes.{AreSpare, IsRate};
+ghost use Rattle.phragmms_miner.specs.Passes.{AreSpare, AreRates, IsRate};
 
 use election_snapshot::Snapshot;
 use npos_base::Edge;
@@ -17,28 +17,25 @@ pub(crate) fn fill_prescores(
     snapshot: &Snapshot,
     edges: &[Edge],
     supports: &[u128],
-    rates: &mut [u64],
+    rates: &[u64],
     left: &mut [u64],
     prescores: &mut [u64],
 )
     requires spare { AreSpare snapshot.now edges.now supports.now }
-    requires rates { length rates.old ≡ length supports.now }
+    requires rates { AreRates price supports.now rates.now }
     requires stakes { length left.old ≡ length snapshot.now.voters }
     requires targets { length prescores.old ≡ length snapshot.now.targets }
     ensures { (target : ℕ) → target < length snapshot.now.targets
         → slice_index_or prescores.new target 0 ≡ prescore price snapshot.now edges.now target }
 {
-    fill_rates(price, supports, rates);
     fill_slacks(price, snapshot, edges, supports, rates, left);
     fill_sums(snapshot, left, prescores);
 }
 
 /// By target, what part of its support is paid.
-fn fill_rates(price: u64, supports: &[u128], rates: &mut [u64])
+pub(crate) fn fill_rates(price: u64, supports: &[u128], rates: &mut [u64])
     requires { length rates.old ≡ length supports.now }
-    ensures count { length rates.new ≡ length supports.now }
-    ensures rates { (target : ℕ) → target < length supports.now
-        → IsRate price (slice_index_or supports.now target 0) (slice_index_or rates.new target 0) }
+    ensures { AreRates price supports.now rates.new }
 {
     for target in 0..supports.len() {
         rates[target] = rate_of(price, supports[target]);
@@ -66,9 +63,7 @@ fn fill_slacks(
     left: &mut [u64],
 )
     requires spare { AreSpare snapshot.now edges.now supports.now }
-    requires places { length rates.now ≡ length supports.now }
-    requires rates { (target : ℕ) → target < length supports.now
-        → IsRate price (slice_index_or supports.now target 0) (slice_index_or rates.now target 0) }
+    requires rates { AreRates price supports.now rates.now }
     requires stakes { length left.old ≡ length snapshot.now.voters }
     ensures { (voter : ℕ) → voter < length snapshot.now.voters
         → slice_index_or left.new voter 0 ≡ slack price snapshot.now edges.now voter }
@@ -82,7 +77,7 @@ fn fill_slacks(
 
 /// The part of the price of a seat that falls to the amount, rounded down. By the rate it is found
 /// or missed by one unit.
-fn pay(price: u64, amount: u64, support: u128, rate: u64) -> u64
+pub(crate) fn pay(price: u64, amount: u64, support: u128, rate: u64) -> u64
     requires within { amount ≤ support }
     requires rate { IsRate price support rate }
     ensures { result ≡ amount * min price support / support }

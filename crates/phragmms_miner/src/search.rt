@@ -1,25 +1,28 @@
 //! The search for the target outside with the greatest score.
 ghost use Rattle.std.specs.Prelude.{◌≡◌, ◌<◌, ◌≤◌, ◌+◌, ◌-◌, ◌/◌, ℕ, true, nat_lt, length, take, filter, slice_index_or, All, IfSome, IfNone};
 ghost use Rattle.election_snapshot.specs.Snapshot.{has};
+ghost use Rattle.seat_race.specs.Tables.{AreNominators};
 ghost use Rattle.phragmms_miner.specs.Passes.{AreSpare};
 ghost use Rattle.phragmms_miner.specs.Scores.{score};
 ghost use Rattle.phragmms_miner.specs.Search.{IsBestOf, AreRising};
 
-use crate::pass::fill_prescores;
+use crate::few::{are_few, test_price};
 use election_snapshot::Snapshot;
-use npos_base::Edge;
+use npos_base::{Edge, List};
 
 /// So many tests of a search go where the prescores point, before one halves what is left.
 const POINTED_TESTS: u8 = 4;
 
-/// The lowest of the targets outside with the greatest score. All of them are tested at one price
-/// in one pass. One whose prescore is not above a price that another reaches cannot be picked any
-/// more. The first price is the hint, and the score of the pick is left there as the next one.
+/// The lowest of the targets outside with the greatest score. The score of the one that looked best
+/// in the last tests is found first, by its nominators alone where they are few. The greatest is
+/// seldom far above it, so that a first test of all there leaves few. The score of the pick is left
+/// as the hint.
 pub(crate) fn best_outside(
     snapshot: &Snapshot,
     edges: &[Edge],
     supports: &[u128],
     approvals: &[u64],
+    nominators: &[List<u32>],
     outside: &mut [u16],
     rates: &mut [u64],
     left: &mut [u64],
@@ -31,6 +34,55 @@ pub(crate) fn best_outside(
     requires stakes { length left.old ≡ length snapshot.now.voters }
     requires targets { length prescores.old ≡ length snapshot.now.targets }
     requires approvals { length approvals.now ≡ length snapshot.now.targets }
+    requires nominated { length nominators.now ≡ length snapshot.now.targets }
+    requires nominators { AreNominators snapshot.now nominators.now }
+    requires some { 1 ≤ length outside.old }
+    requires rising { AreRising (length snapshot.now.targets) outside.old }
+    ensures best { IsBestOf (score snapshot.now edges.now) outside.old result }
+    ensures hint { hint.new ≡ score snapshot.now edges.now result }
+{
+    let mut likely = [highest(outside, prescores)];
+    if are_few(snapshot.voter_count(), nominators, &likely) {
+        best_of(
+            snapshot,
+            edges,
+            supports,
+            approvals,
+            nominators,
+            &mut likely,
+            rates,
+            left,
+            prescores,
+            hint,
+        );
+    }
+    best_of(
+        snapshot, edges, supports, approvals, nominators, outside, rates, left, prescores, hint,
+    )
+}
+
+/// The lowest of the targets with the greatest score. All that are left are tested at one price at a
+/// time. One whose prescore is not above a price that another reaches cannot be picked any more. The
+/// first price is the hint, and the score of the pick is left there.
+fn best_of(
+    snapshot: &Snapshot,
+    edges: &[Edge],
+    supports: &[u128],
+    approvals: &[u64],
+    nominators: &[List<u32>],
+    outside: &mut [u16],
+    rates: &mut [u64],
+    left: &mut [u64],
+    prescores: &mut [u64],
+    hint: &mut u64,
+) -> u16
+    requires spare { AreSpare snapshot.now edges.now supports.now }
+    requires rates { length rates.old ≡ length supports.now }
+    requires stakes { length left.old ≡ length snapshot.now.voters }
+    requires targets { length prescores.old ≡ length snapshot.now.targets }
+    requires approvals { length approvals.now ≡ length snapshot.now.targets }
+    requires nominated { length nominators.now ≡ length snapshot.now.targets }
+    requires nominators { AreNominators snapshot.now nominators.now }
     requires some { 1 ≤ length outside.old }
     requires rising { AreRising (length snapshot.now.targets) outside.old }
     ensures best { IsBestOf (score snapshot.now edges.now) outside.old result }
@@ -43,7 +95,17 @@ pub(crate) fn best_outside(
     let mut pointed = 0;
     while low < top && count > 0 {
         let test = next_test(low, top, *hint, &mut pointed);
-        fill_prescores(test, snapshot, edges, supports, rates, left, prescores);
+        test_price(
+            test,
+            snapshot,
+            edges,
+            supports,
+            nominators,
+            &outside[..count],
+            rates,
+            left,
+            prescores,
+        );
         *hint = pointed_price(test, &outside[..count], approvals, prescores);
         match lowest_reaching(test, &outside[..count], prescores) {
             Some(target) => {
@@ -79,20 +141,28 @@ fn next_test(low: u64, top: u64, hint: u64, pointed: &mut u8) -> u64
 
 /// The price at which the target with the highest prescore is expected to meet it.
 fn pointed_price(test: u64, alive: &[u16], approvals: &[u64], prescores: &[u64]) -> u64
-    requires some { 0 < test }
+    requires above { 0 < test }
+    requires some { 1 ≤ length alive.now }
     requires prescores { All (λ target. target < length prescores.now) alive.now }
-    requires approvals { All (λ target. target < length approvals.now) alive.now }
+    requires approvals { length approvals.now ≡ length prescores.now }
 {
-    let mut highest = 0;
-    let mut approval = 0;
-    for target in alive {
-        let prescore = prescores[usize::from(*target)];
-        if prescore > highest {
-            highest = prescore;
-            approval = approvals[usize::from(*target)];
+    let target = usize::from(highest(alive, prescores));
+    meeting_price(test, approvals[target], prescores[target])
+}
+
+/// A target with the highest prescore. Another one would cost time alone.
+fn highest(targets: &[u16], prescores: &[u64]) -> u16
+    requires some { 1 ≤ length targets.now }
+    requires prescores { All (λ target. target < length prescores.now) targets.now }
+    ensures { result < length prescores.now }
+{
+    let mut best = targets[0];
+    for target in targets {
+        if prescores[usize::from(*target)] > prescores[usize::from(best)] {
+            best = *target;
         }
     }
-    meeting_price(test, approval, highest)
+    best
 }
 
 /// Where a prescore meets the price, if it falls evenly from the approval at price 0 to what it is

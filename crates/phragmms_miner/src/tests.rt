@@ -21,9 +21,10 @@ struct Case {
     edges: &'static [Given],
 }
 
-/// The first case is a row of the reference program. The other two, two targets with equal scores
-/// and runs of one round alone, were worked by a plain miner in Python, apart from this program.
-const CASES: [Case; 3] = [
+/// The first case is a row of the reference program. The next two, two targets with equal scores and
+/// runs of one round alone, were worked by a plain miner in Python, apart from this program. The
+/// last, where the targets with the greatest scores have few nominators, was worked by hand.
+const CASES: [Case; 4] = [
     Case {
         targets: 3,
         seats: 2,
@@ -47,6 +48,31 @@ const CASES: [Case; 3] = [
         voters: &[(60, &[0, 1]), (40, &[0])],
         picks: &[0, 1],
         edges: &[(0, 0, 10), (0, 1, 50), (1, 0, 40)],
+    },
+    Case {
+        targets: 4,
+        seats: 2,
+        rounds: 8,
+        voters: &[
+            (30, &[1, 3]),
+            (10, &[3]),
+            (1, &[0]),
+            (1, &[0]),
+            (1, &[0]),
+            (1, &[0]),
+            (1, &[0]),
+            (1, &[0]),
+            (1, &[0]),
+            (1, &[0]),
+            (1, &[0]),
+            (1, &[0]),
+            (1, &[0]),
+            (1, &[0]),
+            (1, &[0]),
+            (1, &[0]),
+        ],
+        picks: &[3, 1],
+        edges: &[(0, 1, 20), (0, 3, 10), (1, 3, 10)],
     },
 ];
 
@@ -121,5 +147,6 @@ fn runs_are_the_worked_ones(rt: HostRuntime) -> Result<(), Fail> {
         assert!(rt; mine(rt.alloc(), case)?);
     }
     assert_eq!(rt; scores(rt.alloc(), &CASES[0])?, [100, 38]);
+    assert_eq!(rt; scores(rt.alloc(), &CASES[3])?, [40, 17]);
     Ok(())
 }

@@ -9,6 +9,7 @@ best_outside-requires-clause-spare c =
     let follows : Follows c.args.snapshot.now c.args.backing.now.weights = rw c.requires.snapshot at c.edges-edges.ensures.follows in
     let count : length c.supports.result.now ≡ length c.args.snapshot.now.targets = rw c.requires.snapshot at c.supports.ensures.count in
     rw c.edges-edges.ensures.edges (record {
+      rising = rw c.edges-edges.ensures.edges at c.edges-edges.ensures.rising;
       voters = follows.voters_in_range;
       targets = λ k d h. all_has (λ target. target < length c.supports.result.now) c.args.backing.now.weights.committee
           (get_or c.args.backing.now.weights.edges k d).target (λ i e l. omega (arith, follows.members_in_range i e l, count)) (follows.to_members k d h);

@@ -20,7 +20,7 @@ pay-requires-clause-within c =
 pub pay-requires-clause-rate : goal.pay-requires-clause-rate
 pay-requires-clause-rate c =
     let h : c.loop-edge.edge-index < length c.args.edges.now = search rules in
-    c.requires.rates c.from-place.result (rw c.from-place.ensures (c.requires.spare.targets c.loop-edge.edge-index none h))
+    c.requires.rates.rate c.from-place.result (rw c.from-place.ensures (c.requires.spare.targets c.loop-edge.edge-index none h))
 
 pub overflow_sub-left : goal.overflow_sub-left
 overflow_sub-left c =

@@ -4,7 +4,7 @@ use Rattle.weight_book.specs.Passing.{prescore}
 use Rattle.phragmms_miner.specs.Search.{AreRising}
 use Rattle.phragmms_miner.proofs.NarrowLemmas.{IsNarrowed}
 use Rattle.phragmms_miner.proofs.ScoreLemmas.{prescore_falls}
-use Rattle.phragmms_miner.proofs.search.best_outside.Given as goal
+use Rattle.phragmms_miner.proofs.search.best_of.Given as goal
 
 -- the greatest score lies between the two prices, and who may have it among those in front
 abbrev pub invariant-loop-low : goal.invariant-loop-low

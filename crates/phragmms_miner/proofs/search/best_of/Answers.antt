@@ -4,7 +4,7 @@ use Rattle.election_snapshot.specs.Snapshot.{total_stake}
 use Rattle.weight_book.specs.Passing.{prescore}
 use Rattle.phragmms_miner.proofs.ScoreLemmas.{prescore_falls}
 use Rattle.phragmms_miner.proofs.NarrowLemmas.{narrow_start, table_found, table_none, least_first, rising_filter}
-use Rattle.phragmms_miner.proofs.search.best_outside.Goals as goal
+use Rattle.phragmms_miner.proofs.search.best_of.Goals as goal
 
 pub loop-low-init : goal.loop-low-init
 loop-low-init c =
@@ -21,9 +21,9 @@ loop-low-preserved-in-Some c =
     let (narrow, most, count, long, up, rates, stakes, targets) = c.loop-low.invariant in
     let (there, reaches, first) = c.in-Some.ensures.found in
     let found = table_found c.args.outside.now (λ price target. prescore price c.args.snapshot.now c.args.edges.now target) (total_stake c.args.snapshot.now)
-    (prescore_falls c.args.snapshot.now c.args.edges.now) (length c.args.snapshot.now.targets) c.loop-low.low c.loop-low.top c.loop-low.pick
-    (take c.loop-low.count c.loop-low.outside) narrow c.next_test-test.result c.next_test-test.ensures.above c.next_test-test.ensures.within most up
-    c.fill_prescores.new.prescores c.fill_prescores.ensures c.in-Some.target there reaches first in
+    (prescore_falls c.args.snapshot.now c.args.edges.now) c.loop-low.low c.loop-low.top c.loop-low.pick
+    (take c.loop-low.count c.loop-low.outside) narrow c.next_test-test.result c.next_test-test.ensures.above c.next_test-test.ensures.within most
+    c.test_price.new.prescores c.test_price.ensures c.in-Some.target there reaches first in
     let new = c.keep_above-count.new.alive in
     let rest = drop c.loop-low.count c.loop-low.outside in
     let taken = length-take-le c.loop-low.count c.loop-low.outside count in
@@ -36,7 +36,7 @@ loop-low-preserved-in-Some c =
       most,
       omega (arith, length-append new rest, fewer, size),
       whole,
-      rising_filter (length c.args.snapshot.now.targets) (λ target. nat_lt c.next_test-test.result (get_or c.fill_prescores.new.prescores target 0))
+      rising_filter (length c.args.snapshot.now.targets) (λ target. nat_lt c.next_test-test.result (get_or c.test_price.new.prescores target 0))
           (take c.loop-low.count c.loop-low.outside) up,
       search rules,
       search rules,
@@ -47,7 +47,7 @@ pub loop-low-preserved : goal.loop-low-preserved
 loop-low-preserved c =
     let (narrow, most, count, long, up, rates, stakes, targets) = c.loop-low.invariant in
     let none = table_none c.args.outside.now (λ price target. prescore price c.args.snapshot.now c.args.edges.now target) (total_stake c.args.snapshot.now)
-    (prescore_falls c.args.snapshot.now c.args.edges.now) (length c.args.snapshot.now.targets) c.loop-low.low c.loop-low.top c.loop-low.pick
-    (take c.loop-low.count c.loop-low.outside) narrow c.next_test-test.result c.next_test-test.ensures.above c.next_test-test.ensures.within most up
-    c.fill_prescores.new.prescores c.fill_prescores.ensures c.in-None.ensures.none in
+    (prescore_falls c.args.snapshot.now c.args.edges.now) c.loop-low.low c.loop-low.top c.loop-low.pick
+    (take c.loop-low.count c.loop-low.outside) narrow c.next_test-test.result c.next_test-test.ensures.above c.next_test-test.ensures.within most
+    c.test_price.new.prescores c.test_price.ensures c.in-None.ensures.none in
     (none, omega (arith, c.next_test-test.ensures.within, most), count, long, up, search rules, search rules, search rules)
