@@ -16,9 +16,6 @@ use Rattle.npos_cli.proofs.ReplayLaws.{shorter}
 use Rattle.block_wire.proofs.StreamLemmas.{read_grows}
 use Rattle.npos_cli.proofs.GrowLaws.{bad_grows}
 
-pub told_from : (empty text : List ℕ) (told : List ℕ) → empty ≡ [] → text ≡ empty ++ told → text ≡ told
-told_from empty text told none is = is ∙ ap (λ front. front ++ told) none
-
 -- an input that has ended is nearer its end than one that may go on
 abbrev pub one_if_open : Bool → ℕ
 one_if_open true = 0

@@ -1,6 +1,7 @@
 -- Turns of a replay whose lines are written.
-use Rattle.std.proofs.Common.{◌≡◌, ◌+◌, ◌-◌, ℕ, Bool, true, List, [], ◌++◌, take, drop, Option, Some, Ok, Err, refl, sym, ◌∙◌, ap, subst, append_assoc}
+use Rattle.std.proofs.Common.{◌≡◌, ◌+◌, ◌-◌, ℕ, Bool, true, List, [], ◌++◌, length, take, drop, Option, Some, Ok, Err, refl, sym, ◌∙◌, ap, subst, append_assoc}
 use Rattle.std.proofs.lemmas.List.{take-append-drop}
+use Rattle.std.proofs.Math.Seq.{take-append_seam, drop-append_seam}
 use Rattle.npos_base.specs.Outside.{Told, Appends}
 use Rattle.npos_base.proofs.Appended.{appends_none, appends_both}
 use Rattle.scale_wire.specs.Reading.{Place, IsRead}
@@ -22,7 +23,7 @@ use Rattle.npos_cli.specs.Turning.{spot, grown, IsCutHere, TakesTurn, WritesOn}
 use Rattle.npos_cli.proofs.ReplayLaws.{reaches_itself, reaches_more}
 use Rattle.npos_cli.proofs.ChainLaws.{genesis_laws, turn_laws}
 use Rattle.block_wire.proofs.StreamLemmas.{read_grows}
-use Rattle.npos_cli.proofs.TurnLaws.{told_from}
+use Rattle.npos_cli.proofs.TurnLaws.{reaches_join}
 
 module _ (output : Output) where
   pub number_turn : (old here : Place) (q : Spot Chain) (life life' : Life) (ended : Bool) (before told : List ℕ) (block : Block) (at due found : ℕ) → IsRead (turn (machine_of output)) old (Some block) here
@@ -45,53 +46,77 @@ module _ (output : Output) where
   pub writ_none : (p : Spot Chain) (told : Option Told) → HasWrit p p told told
   writ_none p told = ([], reaches_itself (machine_of output) genesis_laws turn_laws p, appends_none told)
 
-  -- a block more was taken, and its lines were written
-  pub writ_more : (p q r : Spot Chain) (ended : Bool) (old mid new : Option Told) (empty text : List ℕ) → HasWrit p q old mid → empty ≡ [] → TakesTurn (machine_of output) ended q r empty text Taken
-      → Appends mid new text → HasWrit p r old new
-  writ_more p q r ended old mid new empty text writ none turns puts =
+  -- blocks were taken behind those, and what they write is held
+  abbrev pub IsHeld : Spot Chain → Spot Chain → Option Told → Option Told → List ℕ → Type 0
+  IsHeld p q old new text = (r : Spot Chain) × HasWrit p r old new × Reaches (machine_of output) r q text
+
+  pub held_none : (p : Spot Chain) (told : Option Told) (empty : List ℕ) → empty ≡ [] → IsHeld p p told told empty
+  held_none p told empty none =
+      (p, writ_none p told, subst (λ (t : List ℕ). Reaches (machine_of output) p p t) (sym none) (reaches_itself (machine_of output) genesis_laws turn_laws p))
+
+  -- a block more was taken
+  pub held_more : (p q r : Spot Chain) (ended : Bool) (old new : Option Told) (before text : List ℕ) → IsHeld p q old new before → TakesTurn (machine_of output) ended q r before text Taken
+      → IsHeld p r old new text
+  held_more p q r ended old new before text held turns =
       let is = turns.2 in
-      let lines : text ≡ (machine_of output).lines q.state is.0 = told_from empty text turns.0 none turns.1 ∙ is.3 in (
-        writ.0 ++ (machine_of output).lines q.state is.0,
-        subst (λ (s : Spot Chain). Reaches (machine_of output) p s (writ.0 ++ (machine_of output).lines q.state is.0)) (sym is.2)
-            (reaches_more (machine_of output) genesis_laws turn_laws p q writ.0 is.0 r.rest writ.1 is.1),
-        appends_both old mid new writ.0 ((machine_of output).lines q.state is.0) writ.2 (subst (λ (t : List ℕ). Appends mid new t) lines puts),
+      let lines : text ≡ before ++ (machine_of output).lines q.state is.0 = turns.1 ∙ ap (λ (told : List ℕ). before ++ told) is.3 in (
+        held.0,
+        held.1,
+        subst (λ (s : Spot Chain). Reaches (machine_of output) held.0 s text) (sym is.2)
+            (subst (λ (t : List ℕ). Reaches (machine_of output) held.0 (behind (machine_of output) q is.0 r.rest) t) (sym lines)
+            (reaches_more (machine_of output) genesis_laws turn_laws held.0 q before is.0 r.rest held.2 is.1)),
       )
 
-  -- a write failed within the lines of a block
-  pub writ_cut : (p q r s : Spot Chain) (ended : Bool) (old mid new : Option Told) (empty text line : List ℕ) (halt : Halt) → HasWrit p q old mid → empty ≡ [] → TakesTurn (machine_of output) ended q r empty text Taken
-      → Puts mid new text (Err halt) → WritesOn (machine_of output) ended p s old new line (Err halt)
-  writ_cut p q r s ended old mid new empty text line halts.WriteFault writ none turns puts =
-      let is = turns.2 in
-      let lines : text ≡ (machine_of output).lines q.state is.0 = told_from empty text turns.0 none turns.1 ∙ is.3 in
-      let all = (machine_of output).lines q.state is.0 in
-      let put : Appends mid new (take puts.0 all) = subst (λ (t : List ℕ). Appends mid new (take puts.0 t)) lines puts.1 in (
-        behind (machine_of output) q is.0 r.rest,
-        writ.0 ++ all,
-        writ.0 ++ take puts.0 all,
-        reaches_more (machine_of output) genesis_laws turn_laws p q writ.0 is.0 r.rest writ.1 is.1,
-        (drop puts.0 all, ap (λ back. writ.0 ++ back) (sym (take-append-drop puts.0 all)) ∙ sym (append_assoc writ.0 (take puts.0 all) (drop puts.0 all))),
-        appends_both old mid new writ.0 (take puts.0 all) writ.2 put,
-      )
-  writ_cut p q r s ended old mid new empty text line halts.ReadFault writ none turns puts = absurd puts
-  writ_cut p q r s ended old mid new empty text line halts.NoMemory writ none turns puts = absurd puts
+  -- what was held was written
+  writ_held : (p q : Spot Chain) (old mid new : Option Told) (text : List ℕ) → IsHeld p q old mid text → Appends mid new text → HasWrit p q old new
+  writ_held p q old mid new text held puts = (
+    held.1.0 ++ text,
+    reaches_join (machine_of output) genesis_laws turn_laws p held.0 q held.1.0 text held.1.1 held.2,
+    appends_both old mid new held.1.0 text held.1.2 puts,
+  )
+
+  pub held_put : (p q : Spot Chain) (old mid new : Option Told) (text empty : List ℕ) → IsHeld p q old mid text → Appends mid new text → empty ≡ [] → IsHeld p q old new empty
+  held_put p q old mid new text empty held puts none =
+      (q, writ_held p q old mid new text held puts, subst (λ (t : List ℕ). Reaches (machine_of output) q q t) (sym none) (reaches_itself (machine_of output) genesis_laws turn_laws q))
+
+  -- a write failed within what was held
+  pub held_cut : (p q s : Spot Chain) (ended : Bool) (old mid new : Option Told) (text line : List ℕ) (halt : Halt) → IsHeld p q old mid text → Puts mid new text (Err halt)
+      → WritesOn (machine_of output) ended p s old new line (Err halt)
+  held_cut p q s ended old mid new text line halts.WriteFault held puts = (
+    q,
+    held.1.0 ++ text,
+    held.1.0 ++ take puts.0 text,
+    reaches_join (machine_of output) genesis_laws turn_laws p held.0 q held.1.0 text held.1.1 held.2,
+    (drop puts.0 text, ap (λ back. held.1.0 ++ back) (sym (take-append-drop puts.0 text)) ∙ sym (append_assoc held.1.0 (take puts.0 text) (drop puts.0 text))),
+    appends_both old mid new held.1.0 (take puts.0 text) held.1.2 puts.1,
+  )
+  held_cut p q s ended old mid new text line halts.ReadFault held puts = absurd puts
+  held_cut p q s ended old mid new text line halts.NoMemory held puts = absurd puts
 
   -- memory ran out
-  pub writ_starved : (p q s : Spot Chain) (ended : Bool) (old new : Option Told) (line : List ℕ) → HasWrit p q old new → WritesOn (machine_of output) ended p s old new line (Err halts.NoMemory)
-  writ_starved p q s ended old new line writ = (q, writ.0, writ.1, writ.2)
+  pub held_starved : (p q s : Spot Chain) (ended : Bool) (old new : Option Told) (text line : List ℕ) → IsHeld p q old new text → WritesOn (machine_of output) ended p s old new line (Err halts.NoMemory)
+  held_starved p q s ended old new text line held = (held.0, held.1.0, held.1.1, held.1.2)
 
-  -- the turns stop
-  pub writ_stop : (p q r : Spot Chain) (ended : Bool) (old new : Option Told) (empty text : List ℕ) (stop : Stop) → HasWrit p q old new → empty ≡ []
-      → TakesTurn (machine_of output) ended q r empty text (Stopped stop) → WritesOn (machine_of output) ended p r old new text (Ok stop)
-  writ_stop p q r ended old new empty text More writ none turns = (
-    turns.2.0,
-    subst (λ (s : Spot Chain). IsCutHere (machine_of output) s) (sym turns.2.2) turns.2.1,
-    subst (λ (s : Spot Chain). HasWrit p s old new) (sym turns.2.2) writ,
-  )
-  writ_stop p q r ended old new empty text (Last faulty) writ none turns = (
-    q,
-    writ.0,
-    writ.1,
-    (λ more follow. subst (λ (line : List ℕ). Stops (machine_of output) (grown more q) line faulty) (sym (told_from empty text turns.0 none turns.1)) (turns.2.0 more follow)),
-    turns.2.1,
-    writ.2,
-  )
+  -- the turns stop, and what was held before the last of them was written
+  pub held_stop : (p q r : Spot Chain) (ended : Bool) (old mid new : Option Told) (before text : List ℕ) (stop : Stop) → IsHeld p q old mid before
+      → TakesTurn (machine_of output) ended q r before text (Stopped stop) → Appends mid new (take (length before) text)
+      → WritesOn (machine_of output) ended p r old new (drop (length before) text) (Ok stop)
+  held_stop p q r ended old mid new before text stop held turns puts = at stop turns where
+    writ : (told : List ℕ) → text ≡ before ++ told → HasWrit p q old new
+    writ told is = writ_held p q old mid new before held (subst (λ (t : List ℕ). Appends mid new t) (ap (take (length before)) is ∙ take-append_seam before told) puts)
+
+    at : (stop : Stop) → TakesTurn (machine_of output) ended q r before text (Stopped stop) → WritesOn (machine_of output) ended p r old new (drop (length before) text) (Ok stop)
+    at More (told, is, turn) = (
+      turn.0,
+      subst (λ (s : Spot Chain). IsCutHere (machine_of output) s) (sym turn.2) turn.1,
+      subst (λ (s : Spot Chain). HasWrit p s old new) (sym turn.2) (writ told is),
+    )
+    at (Last faulty) (told, is, turn) =
+        let all = writ told is in (
+          q,
+          all.0,
+          all.1,
+          (λ more follow. subst (λ (line : List ℕ). Stops (machine_of output) (grown more q) line faulty) (sym (ap (drop (length before)) is ∙ drop-append_seam before told)) (turn.0 more follow)),
+          turn.1,
+          all.2,
+        )

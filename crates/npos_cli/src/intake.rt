@@ -8,7 +8,7 @@ ghost use Rattle.npos_cli.specs.Intake.{HoldsMore, StaysTimely, TakesOrWaits, no
 ghost use Rattle.npos_cli.specs.Owed.{Counts};
 
 use crate::halt::Halt;
-use crate::pieces::{PIECE, blank_piece, read_more};
+use crate::pieces::{PIECE, blank_piece, read_more, remove_front};
 use npos_base::{NoMemory, Source};
 use scale_wire::fault::{ReadFault, Why};
 use scale_wire::{Cursor, Wire};
@@ -121,8 +121,7 @@ impl Intake {
         ensures ended { self.new.ended ≡ self.old.ended }
     {
         let taken = self.bytes.len() - left;
-        self.bytes.copy_within(taken.., 0);
-        self.bytes.truncate(left);
+        remove_front(&mut self.bytes, taken);
         self.at += taken as u64;
     }
 

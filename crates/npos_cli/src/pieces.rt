@@ -1,5 +1,5 @@
 //! An input that is read by pieces.
-ghost use Rattle.std.specs.Prelude.{◌≡◌, ◌≢◌, ◌+◌, ◌<◌, ◌≤◌, ◌^◌, false, length, vec_len, IfOk, IfErr};
+ghost use Rattle.std.specs.Prelude.{◌≡◌, ◌≢◌, ◌+◌, ◌<◌, ◌≤◌, ◌^◌, false, length, drop, vec_len, IfOk, IfErr};
 ghost use Rattle.npos_cli.specs.declared.halt.Halt.TheVariants as halts;
 ghost use Rattle.npos_cli.specs.Owed.{Counts, TakesMore, TakesAtMost, AsksOnce};
 ghost use Rattle.npos_cli.specs.Ahead.{FeedsMore};
@@ -18,6 +18,16 @@ pub fn blank_piece(alloc: Global, size: usize) -> Result<Vec<u8>, NoMemory>
 {
     let piece = Vec::from_elem(alloc, 0, size)?;
     Ok(piece)
+}
+
+/// Lets go of the first bytes.
+pub fn remove_front(bytes: &mut Vec<u8>, count: usize)
+    requires { count ≤ vec_len bytes.old }
+    ensures { bytes.new.items ≡ drop count bytes.old.items }
+{
+    let left = bytes.len() - count;
+    bytes.copy_within(count.., 0);
+    bytes.truncate(left);
 }
 
 /// Appends what one read gives, and answers whether the input has ended.

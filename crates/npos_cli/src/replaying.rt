@@ -17,7 +17,7 @@ use crate::Status;
 use crate::edges::{flush, put, put_some};
 use crate::halt::Halt;
 use crate::output::{Output, tell_block, tell_chain};
-use crate::pieces::{PIECE, blank_piece, read_piece};
+use crate::pieces::{PIECE, blank_piece, read_piece, remove_front};
 use crate::telling::{tell_genesis_fault, tell_other_number};
 use crate::turn::{Stop, Turn};
 use block_wire::{Genesis, Next, StreamReader};
@@ -94,8 +94,9 @@ fn take_turn(
     }
 }
 
-/// Takes turns and writes what is told of each block, until bytes are missing or the replay ends
-/// with the line that is then the text.
+/// Takes turns and writes what is told of the blocks, until bytes are missing or the replay ends
+/// with the line that is then the text. A call of a sink may cost as much as a block does, so lines
+/// are written once there is a piece of them, and where no more blocks are at hand.
 #[tactic(auto, using(crate::proofs::AskLaws::tries_nothing, crate::proofs::AskLaws::tries_last, crate::proofs::AskLaws::tries_so_far))]
 fn take_turns<K: Sink>(
     alloc: Global,
@@ -118,11 +119,21 @@ fn take_turns<K: Sink>(
 {
     // a law, which does nothing
     chains_can_be_saved();
+    text.clear();
     'turns: loop {
-        text.clear();
+        let told = text.len();
         match take_turn(alloc, output, ended, reader, runtime, text)? {
-            Turn::Taken => put_some(sink, text.as_slice())?,
-            Turn::Stopped(stop) => return Ok(stop),
+            Turn::Taken => {
+                if text.len() >= PIECE {
+                    put(sink, text.as_slice())?;
+                    text.clear();
+                }
+            }
+            Turn::Stopped(stop) => {
+                put_some(sink, &text.as_slice()[..told])?;
+                remove_front(text, told);
+                return Ok(stop);
+            }
         }
     }
 }

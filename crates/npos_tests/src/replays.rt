@@ -138,7 +138,7 @@ struct Failing {
     left: usize,
 }
 
-static FAILING: [Failing; 12] = [
+static FAILING: [Failing; 10] = [
     Failing {
         piece: 70,
         reads: &[0],
@@ -208,29 +208,13 @@ static FAILING: [Failing; 12] = [
         reads: &[],
         writes: &[1],
         status: 5,
-        text: FIRST_BLOCK,
-        left: 0,
-    },
-    Failing {
-        piece: 4096,
-        reads: &[],
-        writes: &[2],
-        status: 5,
-        text: SECOND_BLOCK,
-        left: 0,
-    },
-    Failing {
-        piece: 4096,
-        reads: &[],
-        writes: &[3],
-        status: 5,
         text: THIRD_BLOCK,
         left: 0,
     },
     Failing {
         piece: 4096,
         reads: &[],
-        writes: &[4],
+        writes: &[2],
         status: 5,
         text: WHOLE,
         left: 0,
@@ -239,8 +223,6 @@ static FAILING: [Failing; 12] = [
 
 // The lines up to a block, and all lines.
 const FIRST_BLOCK: &str = "block 1\ncall 0 ok\ncall 1 refused 1\n";
-
-const SECOND_BLOCK: &str = "block 1\ncall 0 ok\ncall 1 refused 1\nblock 2\n";
 
 const THIRD_BLOCK: &str = "block 1\ncall 0 ok\ncall 1 refused 1\nblock 2\nblock 3\n";
 
