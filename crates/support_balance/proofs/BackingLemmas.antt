@@ -1,35 +1,26 @@
 -- How a backing is kept.
-use Rattle.std.proofs.Common.{◌≡◌, ◌≢◌, ℕ, zero, suc, ◌^◌, ◌<◌, ◌≤◌, Bool, true, false, ◌&&◌, ◌||◌, nat_eq, List, [], ◌∷◌, ◌++◌, length, take, drop, append-nil, slice_index_or, replicate, filter, get_or, set, All, inl, inr, refl, ap, sym, subst, ◌∙◌, arith}
+use Rattle.std.proofs.Common.{◌≡◌, ◌≢◌, ℕ, zero, suc, ◌^◌, ◌<◌, Bool, true, false, ◌&&◌, ◌||◌, nat_eq, List, [], ◌∷◌, ◌++◌, length, take, drop, append-nil, slice_index_or, replicate, get_or, set, All, inl, inr, refl, ap, sym, subst, ◌∙◌, arith}
 use Rattle.std.specs.List.{AllPairs, IsDistinct}
 use Rattle.std.proofs.lemmas.List.{get_or-set_same, get_or-set_other, length-set, drop_all, take_all, get_or_past, get_or-replicate, length-replicate}
-use Rattle.support_balance.proofs.HandLemmas.{alike_self}
-use Rattle.std.proofs.lemmas.List.Elements.{All-append, All-cons, All-nil, All-filter, filter_passes, recursion_from_All}
-use Rattle.std.proofs.lemmas.List.Kept.{AllPairs-filter}
+use Rattle.std.proofs.lemmas.List.Elements.{All-append, All-cons, All-nil, recursion_from_All}
 use Rattle.std.proofs.lemmas.List.Quantifiers.{all_pairs_push}
 use Rattle.std.proofs.lemmas.List.Folds.{list_any-append, list_any_at}
 use Rattle.std.proofs.lemmas.Map.Made.{AllPairs-from_IsDistinct, IsDistinct-from_AllPairs}
-use Rattle.std.proofs.lemmas.Bool.{cases_Bool, cases_lt, cases_eq, ne_eqb, eq-eqb, eqb-true, true≢false}
+use Rattle.std.proofs.lemmas.Bool.{cases_Bool, cases_lt, cases_eq, ne_eqb, eq-eqb, eqb-true, and_parts, true≢false}
 use Rattle.std.proofs.lemmas.Bool.Decides.{Decides-eqb}
 use Rattle.npos_base.specs.declared.figures.Edge.{Edge}
 use Rattle.election_snapshot.specs.Snapshot.{Snapshot, IsWellFormed, has, nominates}
-use Rattle.weight_book.specs.Weights.{edges_from, same_pair, support, Follows}
+use Rattle.weight_book.specs.Weights.{edges_from, same_pair, Follows}
 use Rattle.support_balance.specs.Rounds.{IsBefore}
-use Rattle.support_balance.specs.Rows.{at, AreAlike}
+use Rattle.support_balance.specs.Rows.{AreAlike}
 use Rattle.support_balance.specs.Laid.{targets_of, Covers, AreKept}
-use Rattle.support_balance.specs.Slots.{AreSlots, marked, has_pair, AreLaid, IsJoined}
+use Rattle.support_balance.specs.Slots.{AreSlots, marked, IsJoined}
 use Rattle.support_balance.specs.Backing.{IsKept}
-use Rattle.support_balance.proofs.AlikeLemmas.{from_alike, rising_before}
-use Rattle.support_balance.proofs.LayLemmas.{place_pair}
+use Rattle.support_balance.proofs.AlikeLemmas.{from_alike, covers_alike}
 use Rattle.support_balance.proofs.SplitLemmas.{filter_swap}
-use Rattle.support_balance.proofs.JoinLemmas.{joined_laid}
-use Rattle.support_balance.proofs.TurnLemmas.{filter_none}
-
-pub filter_le : {X : Type 0} (p : X → Bool) (xs : List X) → length (filter p xs) ≤ length xs
-filter_le p [] = omega arith
-filter_le p (x ∷ xs) = elim (cases_Bool (p x)) [
-  | inl t ↦ rw t (omega (arith, filter_le p xs))
-  | inr t ↦ rw t (omega (arith, filter_le p xs))
-]
+use Rattle.support_balance.proofs.JoinLemmas.{joined_all, joined_covers}
+use Rattle.support_balance.proofs.CoverLemmas.{few_covering}
+use Rattle.support_balance.proofs.FallLemmas.{support_same}
 
 has_marked : (marks : ℕ → Bool) (row : List Edge) (target : ℕ) → has (targets_of (marked marks row)) target ≡ marks target && has (targets_of row) target
 has_marked marks [] target = elim (cases_Bool (marks target)) [
@@ -58,34 +49,6 @@ laid_covers snapshot members slots edges are alike voter target h =
     ∙ ap (λ es. has (targets_of es) target) (filter_swap (λ (e : Edge). nat_eq e.voter voter) (λ (e : Edge). has members e.target) slots)
     ∙ has_marked (has members) (edges_from slots voter) target
     ∙ ap (λ b. has members target && b) (are.pairs voter target h)
-
--- more marks, more slots
-more_marked : (fewer more : ℕ → Bool) → ((target : ℕ) → fewer target ≡ true → more target ≡ true) → (slots : List Edge) (edge : Edge)
-    → has_pair (marked fewer slots) edge ≡ true → has_pair (marked more slots) edge ≡ true
-more_marked fewer more grows [] edge some = some
-more_marked fewer more grows (slot ∷ slots) edge some = elim (cases_Bool (fewer slot.target)) [
-  | inl t ↦ elim (cases_Bool (same_pair slot edge)) [
-    | inl same ↦ rw (grows slot.target t, same) refl
-    | inr other ↦ rw (grows slot.target t, other) (more_marked fewer more grows slots edge (rw (t, other) at some))
-  ]
-  | inr t ↦
-      let rest = more_marked fewer more grows slots edge (rw t at some) in
-      elim (cases_Bool (more slot.target)) [
-        | inl u ↦ elim (cases_Bool (same_pair slot edge)) [
-          | inl same ↦ rw (u, same) refl
-          | inr other ↦ rw (u, other) rest
-        ]
-        | inr u ↦ rw u rest
-      ]
-]
-
--- edges that were laid lead along the slots of more members
-pub still_along : (fewer more : ℕ → Bool) → ((target : ℕ) → fewer target ≡ true → more target ≡ true) → (slots edges : List Edge)
-    → AreAlike (marked fewer slots) edges → All (λ (e : Edge). has_pair (marked more slots) e ≡ true) edges
-still_along fewer more grows slots edges alike k d h =
-    let l : k < length (marked fewer slots) = omega (arith, h, alike.count) in
-    more_marked fewer more grows slots (get_or edges k d)
-    (place_pair (marked fewer slots) (get_or edges k d) k d l (sym (alike.voters k d l)) (sym (alike.targets k d l)))
 
 -- edges in order are of different pairs
 pub distinct_before : (edges : List Edge) → AllPairs IsBefore edges → IsDistinct same_pair edges
@@ -121,35 +84,38 @@ laid_all P xs ys alike all k d h =
     let l : k < length xs = omega (arith, h, alike.count) in
     subst (λ n. P n (get_or ys k d).target) (sym (alike.voters k d l)) (subst (P (get_or xs k d).voter) (sym (alike.targets k d l)) (all k d l))
 
-module _ (snapshot : Snapshot) (slots : List Edge) (members : List ℕ) (is_member : List Bool) (edges : List Edge) (supports : List ℕ)
-    (so : IsKept snapshot slots members is_member edges supports) where
-  pub kept_follows : Follows snapshot (record { committee = members; edges = edges })
-  kept_follows = record {
-    members_in_range = so.in_range;
-    members_distinct = so.distinct;
-    pairs_distinct = distinct_before edges so.kept.rising;
-    voters_in_range = laid_all (λ v t. v < length snapshot.voters) (marked (has members) slots) edges so.laid
-        (All-filter (λ (e : Edge). has members e.target) (λ (e : Edge). e.voter < length snapshot.voters) slots so.slots_are.voters_in_range);
-    to_members = laid_all (λ v t. has members t ≡ true) (marked (has members) slots) edges so.laid (filter_passes (λ (e : Edge). has members e.target) slots);
-    nominated = laid_all (λ v t. nominates snapshot v t ≡ true) (marked (has members) slots) edges so.laid
-        (All-filter (λ (e : Edge). has members e.target) (λ (e : Edge). nominates snapshot e.voter e.target ≡ true) slots
-        (λ k d h. sym (so.slots_are.pairs (get_or slots k d).voter (get_or slots k d).target (so.slots_are.voters_in_range k d h)) ∙ stands_own slots k d h));
-  }
+-- the edges of what is kept follow
+pub kept_follows : (snapshot : Snapshot) (members : List ℕ) (is_member : List Bool) (edges : List Edge) (supports : List ℕ)
+    → IsKept snapshot members is_member edges supports → Follows snapshot (record { committee = members; edges = edges })
+kept_follows snapshot members is_member edges supports so = record {
+  members_in_range = so.in_range;
+  members_distinct = so.distinct;
+  pairs_distinct = distinct_before edges so.kept.rising;
+  voters_in_range = so.voters_in_range;
+  to_members = λ k d h. (backed k d h).0;
+  nominated = λ k d h. (backed k d h).1;
+} where
+  backed : (k : ℕ) (d : Edge) → k < length edges
+      → (has members (get_or edges k d).target ≡ true) × (nominates snapshot (get_or edges k d).voter (get_or edges k d).target ≡ true)
+  backed k d h =
+      let edge = get_or edges k d in
+      and_parts (has members edge.target) (nominates snapshot edge.voter edge.target)
+      (sym (so.covers edge.voter edge.target (so.voters_in_range k d h)) ∙ stands_own edges k d h)
 
-  pub kept_covers : Covers snapshot members edges
-  kept_covers = laid_covers snapshot members slots edges so.slots_are so.laid
-
--- what laying leaves
-pub laid_kept : (snapshot : Snapshot) (slots : List Edge) (marks : ℕ → Bool) (edges laid : List Edge) (supports : List ℕ) → IsWellFormed snapshot
-    → AreSlots snapshot (length snapshot.voters) slots → length supports ≡ length snapshot.targets → AreLaid marks slots edges laid
-    → ((target : ℕ) → at supports target ≡ support edges target) → AreKept supports laid
-laid_kept snapshot slots marks edges laid supports formed are count so table = record {
-  rising = rising_before (marked marks slots) laid so.alike (AllPairs-filter IsBefore (λ (e : Edge). marks e.target) slots are.rising);
-  few = omega (arith, so.alike.count, filter_le (λ (e : Edge). marks e.target) slots, are.few, formed.voters.voters_few);
-  small = so.small;
-  in_range = laid_all (λ v t. t < length supports) (marked marks slots) laid so.alike
-      (All-filter (λ (e : Edge). marks e.target) (λ (e : Edge). e.target < length supports) slots (λ k d h. omega (arith, are.targets_in_range k d h, count)));
-  table = λ target. table target ∙ sym (so.sums target);
+-- other amounts along the same edges are kept too
+pub kept_alike : (snapshot : Snapshot) (members : List ℕ) (is_member : List Bool) (edges : List Edge) (supports : List ℕ)
+    → IsKept snapshot members is_member edges supports → (new : List Edge) (after : List ℕ) → AreAlike edges new → AreKept after new → length after ≡ length supports
+    → IsKept snapshot members is_member new after
+kept_alike snapshot members is_member edges supports so new after alike kept count = record {
+  formed = so.formed;
+  in_range = so.in_range;
+  distinct = so.distinct;
+  marks = so.marks;
+  marks_count = so.marks_count;
+  covers = covers_alike snapshot members edges new alike so.covers;
+  voters_in_range = laid_all (λ v t. v < length snapshot.voters) edges new alike so.voters_in_range;
+  kept = kept;
+  count = count ∙ so.count;
 }
 
 -- all of a list is written over
@@ -157,8 +123,8 @@ pub written : {X : Type 0} (count : ℕ) (new old : List X) → count ≡ length
 written count new old c same = ap (λ ys. take count (new ++ ys)) (drop_all (length new) old (omega (arith, same))) ∙ ap (take count) (append-nil new) ∙ take_all count new (omega (arith, c, same))
 
 -- a member more
-module _ (snapshot : Snapshot) (slots : List Edge) (members : List ℕ) (is_member : List Bool) (edges : List Edge) (supports : List ℕ)
-    (so : IsKept snapshot slots members is_member edges supports) (target : ℕ) (in_range : target < length snapshot.targets) (outside : has members target ≡ false) where
+module _ (snapshot : Snapshot) (members : List ℕ) (is_member : List Bool) (edges : List Edge) (supports : List ℕ)
+    (so : IsKept snapshot members is_member edges supports) (target : ℕ) (in_range : target < length snapshot.targets) (outside : has members target ≡ false) where
   abbrev after : List Bool
   after = set is_member target true
 
@@ -183,34 +149,35 @@ module _ (snapshot : Snapshot) (slots : List Edge) (members : List ℕ) (is_memb
     or_false true = refl
     or_false false = refl
 
-  grows : (other : ℕ) → has members other ≡ true → slice_index_or after other false ≡ true
-  grows other t = marks_more other ∙ has_more other ∙ ap (λ b. b || (nat_eq target other || false)) t
-
-  along_more : All (λ (e : Edge). has_pair (marked (λ t. slice_index_or after t false) slots) e ≡ true) edges
-  along_more = still_along (has members) (λ t. slice_index_or after t false) grows slots edges so.laid
-
-  pub joined_more : (joined : List Edge) → IsJoined snapshot target edges joined → AreLaid (λ t. slice_index_or after t false) slots edges joined
-  joined_more joined joins = joined_laid snapshot slots edges joined target (λ t. slice_index_or after t false) (has members) so.slots_are (λ other. marks_more other ∙ has_more other)
-      (kept_covers snapshot slots members is_member edges supports so) so.slots_are.voters_in_range
-      (λ k d h. sym (so.slots_are.pairs (get_or slots k d).voter (get_or slots k d).target (so.slots_are.voters_in_range k d h)) ∙ stands_own slots k d h) along_more joins
-
   -- no edge leads to the target yet
   pub fresh_edges : All (λ (e : Edge). e.target ≢ target) edges
-  fresh_edges k d h same = true≢false (sym ((kept_follows snapshot slots members is_member edges supports so).to_members k d h) ∙ ap (has members) same ∙ outside)
+  fresh_edges k d h same = true≢false (sym ((kept_follows snapshot members is_member edges supports so).to_members k d h) ∙ ap (has members) same ∙ outside)
 
-  pub kept_more : (laid : List Edge) → AreLaid (λ t. slice_index_or after t false) slots edges laid → IsKept snapshot slots more after laid supports
-  kept_more laid lays = record {
+  pub kept_more : (joined : List Edge) → IsJoined snapshot target edges joined → IsKept snapshot more after joined supports
+  kept_more joined joins = record {
     formed = so.formed;
-    slots_are = so.slots_are;
     in_range = All-append (λ member. member < length snapshot.targets) members (target ∷ []) so.in_range
         (All-cons (λ member. member < length snapshot.targets) target [] in_range (All-nil (λ member. member < length snapshot.targets)));
     distinct = IsDistinct-from_AllPairs Decides-eqb more (all_pairs_push (λ x y. x ≢ y) members target (AllPairs-from_IsDistinct Decides-eqb members so.distinct) apart);
     marks = marks_more;
     marks_count = length-set is_member target true ∙ so.marks_count;
-    laid = subst (λ (marks : ℕ → Bool). AreAlike (marked marks slots) laid) (λ i t. marks_more t i) lays.alike;
-    kept = laid_kept snapshot slots (λ t. slice_index_or after t false) edges laid supports so.formed so.slots_are so.count lays so.kept.table;
+    covers = covers';
+    voters_in_range = voters';
+    kept = record {
+      rising = joins.rising;
+      few = few_covering snapshot more joined so.formed joins.rising voters' covers';
+      small = joins.small;
+      in_range = joined_all snapshot members more target has_more edges joined so.covers joins (λ v t. t < length supports) so.kept.in_range (λ v h. omega (arith, in_range, so.count));
+      table = λ other. so.kept.table other ∙ sym (support_same edges joined joins.same other);
+    };
     count = so.count;
   } where
+    covers' : Covers snapshot more joined
+    covers' = joined_covers snapshot members more target has_more edges joined so.covers joins
+
+    voters' : All (λ (e : Edge). e.voter < length snapshot.voters) joined
+    voters' = joined_all snapshot members more target has_more edges joined so.covers joins (λ v t. v < length snapshot.voters) so.voters_in_range (λ v h. h)
+
     apart : (k d : ℕ) → k < length members → get_or members k d ≡ target → ⊥
     apart k d h same = true≢false (sym (list_any_at (λ n. nat_eq n target) members k d h (eq-eqb (get_or members k d) target same)) ∙ outside)
 
@@ -221,16 +188,16 @@ replicated count x k = elim (cases_lt k count) [
 ]
 
 -- no member yet
-pub kept_none : (snapshot : Snapshot) (slots : List Edge) → IsWellFormed snapshot → AreSlots snapshot (length snapshot.voters) slots
-    → IsKept snapshot slots [] (replicate (length snapshot.targets) false) [] (replicate (length snapshot.targets) 0)
-kept_none snapshot slots formed are = record {
+pub kept_none : (snapshot : Snapshot) → IsWellFormed snapshot
+    → IsKept snapshot [] (replicate (length snapshot.targets) false) [] (replicate (length snapshot.targets) 0)
+kept_none snapshot formed = record {
   formed = formed;
-  slots_are = are;
   in_range = All-nil (λ member. member < length snapshot.targets);
   distinct = IsDistinct-from_AllPairs Decides-eqb [] (λ i j d a b. absurd (omega (arith, b)));
   marks = λ target. replicated (length snapshot.targets) false target;
   marks_count = length-replicate (length snapshot.targets) false;
-  laid = subst (λ es. AreAlike es []) (sym (filter_none (λ (e : Edge). has [] e.target) slots (λ k d h. refl))) (alike_self []);
+  covers = λ voter target h. refl;
+  voters_in_range = All-nil (λ (e : Edge). e.voter < length snapshot.voters);
   kept = record {
     rising = λ i j d a b. absurd (omega (arith, b));
     few = omega arith;

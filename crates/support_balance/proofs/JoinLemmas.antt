@@ -1,80 +1,23 @@
 -- A member's slots join the edges.
-use Rattle.std.proofs.Common.{◌≡◌, ◌≢◌, ℕ, zero, suc, ◌+◌, ◌-◌, ◌^◌, ◌<◌, ◌≤◌, Bool, true, false, ◌&&◌, ◌||◌, nat_eq, List, [], ◌∷◌, ◌++◌, length, take, drop, get_or, All, inl, inr, refl, ap, sym, subst, ◌∙◌, arith}
+use Rattle.std.proofs.Common.{◌≡◌, ◌≢◌, ℕ, zero, suc, ◌+◌, ◌-◌, ◌^◌, ◌<◌, ◌≤◌, true, false, ◌&&◌, ◌||◌, nat_eq, List, [], ◌∷◌, ◌++◌, length, take, drop, get_or, All, inl, inr, refl, ap, ap₂, sym, subst, ◌∙◌, arith}
 use Rattle.std.specs.List.{AllPairs}
 use Rattle.std.proofs.lemmas.List.{get_or-drop, get_or-take, length-drop, length-take-le, take-append-drop, take_all, get_or_default}
 use Rattle.std.proofs.Math.Seq.{take-append-add}
 use Rattle.std.proofs.lemmas.List.Sums.{sum_by-append, sum_by-cons}
-use Rattle.std.proofs.lemmas.List.Elements.{All-append, All-cons, All-nil, All-filter, filter_passes}
-use Rattle.std.proofs.lemmas.List.Kept.{AllPairs-filter}
+use Rattle.std.proofs.lemmas.List.Elements.{All-append, All-cons, All-nil}
 use Rattle.std.proofs.lemmas.List.Folds.{list_any-append}
-use Rattle.std.proofs.lemmas.Bool.{cases_Bool, cases_lt, cases_eq, eq-eqb, eqb-true, ne_eqb, or_left, or_right, true≢false}
+use Rattle.std.proofs.lemmas.Bool.{cases_Bool, cases_lt, cases_eq, eq-eqb, ne_eqb, or_left, or_right, and_parts, true≢false}
 use Rattle.npos_base.specs.declared.figures.Edge.{Edge}
 use Rattle.election_snapshot.specs.Snapshot.{Snapshot, has, nominates}
-use Rattle.weight_book.specs.Weights.{edges_from, same_pair}
-use Rattle.support_balance.specs.Turns.{given}
+use Rattle.weight_book.specs.Weights.{same_pair}
+use Rattle.support_balance.specs.Turns.{given, backs}
 use Rattle.support_balance.specs.Rounds.{IsBefore}
-use Rattle.support_balance.specs.Rows.{AreAlike}
-use Rattle.support_balance.specs.Laid.{targets_of}
-use Rattle.support_balance.specs.Slots.{AreSlots, marked, has_pair, AreLaid, slot_of, IsOldOrNew, IsJoined}
+use Rattle.support_balance.specs.Laid.{Covers}
+use Rattle.support_balance.specs.Slots.{has_pair, slot_of, IsOldOrNew, IsJoined}
 use Rattle.support_balance.proofs.GivenLemmas.{pair_weight, given_weight, none_weight}
-use Rattle.support_balance.proofs.LayLemmas.{pair_is, pair_place, place_pair, same_pair_true, not_both, moved_before}
+use Rattle.support_balance.proofs.LayLemmas.{pair_place, place_pair, same_pair_true}
 use Rattle.support_balance.proofs.SlotLemmas.{pairs_append}
-use Rattle.support_balance.proofs.HandLemmas.{alike_self}
-use Rattle.support_balance.proofs.FallLemmas.{support_same}
-
--- ---- two lists in order that lead along the same pairs
-abbrev Leads : List Edge → Edge → Type 0
-Leads edges edge = has_pair edges edge ≡ true
-
-heads : (x y : Edge) (xs ys : List Edge) → AllPairs IsBefore (x ∷ xs) → AllPairs IsBefore (y ∷ ys) → Leads (y ∷ ys) x → Leads (x ∷ xs) y
-    → (y.voter ≡ x.voter) × (y.target ≡ x.target)
-heads x y xs ys up vp first second = elim (cases_Bool (same_pair y x)) [
-  | inl t ↦ pair_is y x t
-  | inr f ↦ elim (cases_Bool (same_pair x y)) [
-    | inl t ↦ let e = pair_is x y t in (sym e.0, sym e.1)
-    | inr g ↦
-        let (i, h, v, t) = pair_place ys x (rw f at first) in
-        let (j, l, w, u) = pair_place xs y (rw g at second) in
-        let after : IsBefore y x = moved_before y (get_or ys i x) y x (vp 0 (suc i) x (omega arith) (omega (arith, h))) refl refl (v x) (t x) in
-        let before : IsBefore x y = moved_before x (get_or xs j y) x y (up 0 (suc j) y (omega arith) (omega (arith, l))) refl refl (w y) (u y) in
-        absurd (not_both x y before after)
-  ]
-]
-
--- an edge behind the first one leads along one behind the first one
-behind : (x y : Edge) (ys : List Edge) (edge : Edge) → IsBefore x edge → y.voter ≡ x.voter → y.target ≡ x.target → Leads (y ∷ ys) edge → Leads ys edge
-behind x y ys edge before v t leads = elim (cases_Bool (same_pair y edge)) [
-  | inr f ↦ rw f at leads
-  | inl same ↦
-      let e = pair_is y edge same in
-      absurd (not_both x edge before (moved_before x edge edge x before (omega (arith, v, e.0)) (omega (arith, t, e.1)) (omega (arith, v, e.0)) (omega (arith, t, e.1))))
-]
-
-alike_cons : (x y : Edge) (xs ys : List Edge) → y.voter ≡ x.voter → y.target ≡ x.target → AreAlike xs ys → AreAlike (x ∷ xs) (y ∷ ys)
-alike_cons x y xs ys v t alike = record {
-  count = omega (arith, alike.count);
-  voters = at_voter;
-  targets = at_target;
-} where
-  at_voter : (k : ℕ) (d : Edge) → k < length (x ∷ xs) → (get_or (y ∷ ys) k d).voter ≡ (get_or (x ∷ xs) k d).voter
-  at_voter zero d h = v
-  at_voter (suc k) d h = alike.voters k d (omega (arith, h))
-
-  at_target : (k : ℕ) (d : Edge) → k < length (x ∷ xs) → (get_or (y ∷ ys) k d).target ≡ (get_or (x ∷ xs) k d).target
-  at_target zero d h = t
-  at_target (suc k) d h = alike.targets k d (omega (arith, h))
-
-alike_both : (xs ys : List Edge) → AllPairs IsBefore xs → AllPairs IsBefore ys → All (Leads ys) xs → All (Leads xs) ys → AreAlike xs ys
-alike_both [] [] up vp there back = alike_self []
-alike_both [] (y ∷ ys) up vp there back = absurd (true≢false (sym (back 0 y (omega arith))))
-alike_both (x ∷ xs) [] up vp there back = absurd (true≢false (sym (there 0 x (omega arith))))
-alike_both (x ∷ xs) (y ∷ ys) up vp there back =
-    let (v, t) = heads x y xs ys up vp (there 0 x (omega arith)) (back 0 y (omega arith)) in
-    alike_cons x y xs ys v t (alike_both xs ys
-    (λ i j d a b. up (suc i) (suc j) d (omega (arith, a)) (omega (arith, b)))
-    (λ i j d a b. vp (suc i) (suc j) d (omega (arith, a)) (omega (arith, b)))
-    (λ k d h. behind x y ys (get_or xs k d) (up 0 (suc k) d (omega arith) (omega (arith, h))) v t (there (suc k) d (omega (arith, h))))
-    (λ k d h. behind y x xs (get_or ys k d) (vp 0 (suc k) d (omega arith) (omega (arith, h))) (sym v) (sym t) (back (suc k) d (omega (arith, h)))))
+use Rattle.support_balance.proofs.CoverLemmas.{from_pair}
 
 -- ---- the edges up to a place, with the slots of the voters so far
 pub record IsJoining (snapshot : Snapshot) (target : ℕ) (edges : List Edge) (voter done : ℕ) (joined : List Edge) : Type 0 where
@@ -304,82 +247,61 @@ end_joined snapshot target edges up fits voter done joined enough so =
       small = is.small;
     }
 
--- ---- what joined stands along the slots of one member more
+-- ---- what joined covers the nominations of one member more
 leads_same : (edges : List Edge) (one other : Edge) → one.voter ≡ other.voter → one.target ≡ other.target → has_pair edges one ≡ true → has_pair edges other ≡ true
 leads_same edges one other v t leads =
     let (k, h, w, u) = pair_place edges one leads in
     place_pair edges other k one h (w one ∙ v) (u one ∙ t)
 
-from_pair : (edges : List Edge) (edge : Edge) → has (targets_of (edges_from edges edge.voter)) edge.target ≡ true → has_pair edges edge ≡ true
-from_pair [] edge there = absurd (true≢false (sym there))
-from_pair (x ∷ xs) edge there = elim (cases_Bool (same_pair x edge)) [
-  | inl same ↦ rw same refl
-  | inr other ↦ rw other (from_pair xs edge (elim (cases_Bool (nat_eq x.voter edge.voter)) [
-    | inr f ↦ rw f at there
-    | inl t ↦ elim (cases_Bool (nat_eq x.target edge.target)) [
-      | inl u ↦ absurd (true≢false (sym (same_pair_true x edge (eqb-true x.voter edge.voter t) (eqb-true x.target edge.target u)) ∙ other))
-      | inr g ↦ rw g at (rw t at there)
-    ]
-  ]))
-]
-
-marked_pair : (marks : ℕ → Bool) (slots : List Edge) (edge : Edge) → has_pair slots edge ≡ true → marks edge.target ≡ true → has_pair (marked marks slots) edge ≡ true
-marked_pair marks [] edge leads m = leads
-marked_pair marks (slot ∷ slots) edge leads m = elim (cases_Bool (same_pair slot edge)) [
-  | inl same ↦
-      let here : marks slot.target ≡ true = ap marks (pair_is slot edge same).1 ∙ m in
-      rw (here, same) refl
-  | inr other ↦
-      let rest = marked_pair marks slots edge (rw other at leads) m in
-      elim (cases_Bool (marks slot.target)) [
-        | inl t ↦ rw (t, other) rest
-        | inr t ↦ rw t rest
-      ]
-]
-
-pub joined_laid : (snapshot : Snapshot) (slots edges joined : List Edge) (target : ℕ) (marks members : ℕ → Bool) → AreSlots snapshot (length snapshot.voters) slots
-    → ((other : ℕ) → marks other ≡ members other || (nat_eq target other || false))
-    → ((voter other : ℕ) → voter < length snapshot.voters → has (targets_of (edges_from edges voter)) other ≡ members other && nominates snapshot voter other)
-    → All (λ (e : Edge). e.voter < length snapshot.voters) slots
-    → All (λ (e : Edge). nominates snapshot e.voter e.target ≡ true) slots
-    → All (λ (e : Edge). has_pair (marked marks slots) e ≡ true) edges
-    → IsJoined snapshot target edges joined → AreLaid marks slots edges joined
-joined_laid snapshot slots edges joined target marks members are more covers in_range voted along so = record {
-  alike = alike_both (marked marks slots) joined (AllPairs-filter IsBefore (λ (e : Edge). marks e.target) slots are.rising) so.rising forth back;
-  same = so.same;
-  sums = support_same edges joined so.same;
-  small = so.small;
-} where
-  forth : All (Leads joined) (marked marks slots)
-  forth k d h =
-      let edge = get_or (marked marks slots) k d in
-      let p = λ (e : Edge). marks e.target in
-      let range : edge.voter < length snapshot.voters = All-filter p (λ (e : Edge). e.voter < length snapshot.voters) slots in_range k d h in
-      let votes : nominates snapshot edge.voter edge.target ≡ true = All-filter p (λ (e : Edge). nominates snapshot e.voter e.target ≡ true) slots voted k d h in
-      let mark : marks edge.target ≡ true = filter_passes p slots k d h in
-      elim (cases_Bool (members edge.target)) [
-        | inl member ↦
-            let here : has (targets_of (edges_from edges edge.voter)) edge.target ≡ true = covers edge.voter edge.target range ∙ ap (λ b. b && nominates snapshot edge.voter edge.target) member ∙ votes in
-            let (i, l, v, t) = pair_place edges edge (from_pair edges edge here) in
-            leads_same joined (get_or edges i d) edge (v d) (t d) (so.all i d l)
-        | inr apart ↦ elim (cases_eq target edge.target) [
-          | inl same ↦ leads_same joined (slot_of edge.voter target) edge refl same
-              (so.new edge.voter range (subst (λ n. nominates snapshot edge.voter n ≡ true) (sym same) votes))
-          | inr differ ↦ absurd (true≢false (sym mark ∙ more edge.target
-              ∙ ap (λ b. b || (nat_eq target edge.target || false)) apart ∙ ap (λ b. b || false) (ne_eqb target edge.target differ)))
-        ]
-      ]
-
-  back : All (Leads (marked marks slots)) joined
-  back k d h =
+module _ (snapshot : Snapshot) (members more : List ℕ) (target : ℕ) (grown : (other : ℕ) → has more other ≡ has members other || (nat_eq target other || false))
+    (edges joined : List Edge) (covers : Covers snapshot members edges) (joins : IsJoined snapshot target edges joined) where
+  -- what holds of the edges and of the new ones holds of all
+  pub joined_all : (P : ℕ → ℕ → Type 0) → All (λ (e : Edge). P e.voter e.target) edges → ((voter : ℕ) → voter < length snapshot.voters → P voter target)
+      → All (λ (e : Edge). P e.voter e.target) joined
+  joined_all P old new k d h =
       let edge = get_or joined k d in
-      elim (so.only k d h) [
-        | inl old ↦
-            let (i, l, v, t) = pair_place edges edge old in
-            leads_same (marked marks slots) (get_or edges i d) edge (v d) (t d) (along i d l)
-        | inr (range, votes, same) ↦
-            let vote : nominates snapshot edge.voter edge.target ≡ true = ap (nominates snapshot edge.voter) same ∙ votes in
-            let mark : marks edge.target ≡ true = more edge.target
-            ∙ or_right (members edge.target) (nat_eq target edge.target || false) (or_left (nat_eq target edge.target) false (eq-eqb target edge.target (sym same))) in
-            marked_pair marks slots edge (from_pair slots edge (are.pairs edge.voter edge.target range ∙ vote)) mark
+      elim (joins.only k d h) [
+        | inl there ↦
+            let (i, l, v, t) = pair_place edges edge there in
+            subst (λ n. P n edge.target) (v d) (subst (P (get_or edges i d).voter) (t d) (old i d l))
+        | inr (range, votes, same) ↦ subst (P edge.voter) (sym same) (new edge.voter range)
       ]
+
+  pub joined_covers : Covers snapshot more joined
+  joined_covers voter other h = from_pair joined slot ∙ elim (cases_Bool (backs snapshot more voter other)) [
+    | inl t ↦ leads t ∙ sym t
+    | inr f ↦ elim (cases_Bool (has_pair joined slot)) [
+      | inl t ↦ absurd (true≢false (sym (backed t) ∙ f))
+      | inr g ↦ g ∙ sym f
+    ]
+  ] where
+    slot : Edge
+    slot = slot_of voter other
+
+    leads : backs snapshot more voter other ≡ true → has_pair joined slot ≡ true
+    leads backs_it =
+        let (member, votes) = and_parts (has more other) (nominates snapshot voter other) backs_it in
+        elim (cases_Bool (has members other)) [
+          | inl old ↦
+              let (i, l, v, t) = pair_place edges slot (sym (from_pair edges slot) ∙ covers voter other h ∙ ap₂ (λ a b. a && b) old votes) in
+              leads_same joined (get_or edges i slot) slot (v slot) (t slot) (joins.all i slot l)
+          | inr apart ↦ elim (cases_eq target other) [
+            | inl same ↦ leads_same joined (slot_of voter target) slot refl same (joins.new voter h (subst (λ n. nominates snapshot voter n ≡ true) (sym same) votes))
+            | inr differ ↦ absurd (true≢false (sym member ∙ grown other ∙ ap₂ (λ a b. a || (b || false)) apart (ne_eqb target other differ)))
+          ]
+        ]
+
+    backed : has_pair joined slot ≡ true → backs snapshot more voter other ≡ true
+    backed there =
+        let (k, l, v, t) = pair_place joined slot there in
+        elim (joins.only k slot l) [
+          | inl old ↦
+              let (member, votes) = and_parts (has members other) (nominates snapshot voter other)
+              (sym (covers voter other h) ∙ from_pair edges slot ∙ leads_same edges (get_or joined k slot) slot (v slot) (t slot) old) in
+              ap₂ (λ a b. a && b) (grown other ∙ or_left (has members other) (nat_eq target other || false) member) votes
+          | inr (range, votes, same) ↦
+              let is : target ≡ other = sym same ∙ t slot in
+              ap₂ (λ a b. a && b)
+              (grown other ∙ or_right (has members other) (nat_eq target other || false) (or_left (nat_eq target other) false (eq-eqb target other is)))
+              (ap₂ (λ a b. nominates snapshot a b) (sym (v slot)) (sym is) ∙ votes)
+        ]

@@ -1,5 +1,6 @@
 pub mod AlikeLemmas
 pub mod BackingLemmas
+pub mod CoverLemmas
 pub mod FallLemmas
 pub mod GivenLemmas
 pub mod HandLemmas

@@ -1,5 +1,5 @@
 -- Weights that follow, laid along the slots of their members.
-use Rattle.std.proofs.Common.{◌≡◌, ℕ, ◌^◌, ◌<◌, ◌≤◌, Bool, true, false, nat_eq, slice_index_or, List, [], ◌∷◌, length, get_or, All, IsPermutation, inl, inr, refl, ap, sym, subst, ◌∙◌, arith}
+use Rattle.std.proofs.Common.{◌≡◌, ℕ, ◌^◌, ◌<◌, ◌≤◌, Bool, true, false, slice_index_or, List, [], ◌∷◌, length, get_or, All, IsPermutation, inl, inr, refl, ap, sym, subst, ◌∙◌, arith}
 use Rattle.std.specs.List.{AllPairs, IsDistinct}
 use Rattle.std.specs.List.Sorted.{IsNonDecreasingBy}
 use Rattle.std.proofs.lemmas.List.Elements.{All-from_recursion, All-filter}
@@ -10,18 +10,19 @@ use Rattle.std.proofs.lemmas.Bool.{cases_Bool, cases_lt, true≢false}
 use Rattle.npos_base.specs.declared.figures.Edge.{Edge}
 use Rattle.election_snapshot.specs.Snapshot.{Snapshot, IsWellFormed, has}
 use Rattle.election_snapshot.proofs.HasLemmas.{all_has}
-use Rattle.weight_book.specs.Weights.{Weights, edges_from, same_pair, support, Follows}
+use Rattle.weight_book.specs.Weights.{Weights, same_pair, support, Follows}
 use Rattle.weight_book.proofs.SumLemmas.{eqb_turned}
 use Rattle.support_balance.specs.Rounds.{IsBefore, GiveSame}
 use Rattle.support_balance.specs.Rows.{at, AreAlike}
-use Rattle.support_balance.specs.Laid.{targets_of}
+use Rattle.support_balance.specs.Laid.{Covers}
 use Rattle.support_balance.specs.Slots.{AreSlots, marked, has_pair, AreLaid}
 use Rattle.npos_base.specs.Edge.{place_of}
 use Rattle.support_balance.specs.Backing.{IsKept}
 use Rattle.support_balance.proofs.AlikeLemmas.{rising_before}
 use Rattle.support_balance.proofs.LayLemmas.{same_pair_true, pair_is}
 use Rattle.support_balance.proofs.GivenLemmas.{pair_weight, given_weight}
-use Rattle.support_balance.proofs.BackingLemmas.{filter_le, laid_all}
+use Rattle.support_balance.proofs.BackingLemmas.{laid_all, laid_covers}
+use Rattle.support_balance.proofs.CoverLemmas.{from_pair, few_covering}
 
 pair_turned : (one other : Edge) → same_pair one other ≡ same_pair other one
 pair_turned one other = rw (eqb_turned one.voter other.voter, eqb_turned one.target other.target) refl
@@ -53,17 +54,6 @@ sorted_before edges sorted distinct moved up small i j d a b =
           ]
     ]
 
--- what a voter's edges lead to
-from_has : (edges : List Edge) (edge : Edge) → has (targets_of (edges_from edges edge.voter)) edge.target ≡ true → has_pair edges edge ≡ true
-from_has [] edge some = some
-from_has (other ∷ edges) edge some = elim (cases_Bool (nat_eq other.voter edge.voter)) [
-  | inl v ↦ elim (cases_Bool (nat_eq other.target edge.target)) [
-    | inl t ↦ rw (v, t) refl
-    | inr t ↦ rw (v, t) (from_has edges edge (rw t at (rw v at some)))
-  ]
-  | inr v ↦ rw v (from_has edges edge (rw v at some))
-]
-
 marked_has : (marks : ℕ → Bool) (slots : List Edge) (edge : Edge) → marks edge.target ≡ true → has_pair slots edge ≡ true → has_pair (marked marks slots) edge ≡ true
 marked_has marks [] edge mark some = some
 marked_has marks (slot ∷ slots) edge mark some = elim (cases_Bool (same_pair slot edge)) [
@@ -91,14 +81,28 @@ module _ (snapshot : Snapshot) (formed : IsWellFormed snapshot) (weights : Weigh
       (λ k d h.
       let edge = get_or weights.edges k d in
       marked_has (λ t. slice_index_or is_member t false) slots edge (marks edge.target ∙ follows.to_members k d h)
-      (from_has slots edge (are.pairs edge.voter edge.target (follows.voters_in_range k d h) ∙ follows.nominated k d h)))
+      (sym (from_pair slots edge) ∙ are.pairs edge.voter edge.target (follows.voters_in_range k d h) ∙ follows.nominated k d h))
 
   pub slots_in_table : All (λ (e : Edge). e.target < length is_member) slots
   slots_in_table k d h = omega (arith, are.targets_in_range k d h, marks_count)
 
   module _ (laid : List Edge) (lays : AreLaid (λ t. slice_index_or is_member t false) slots sorted laid) where
+    alike_members : AreAlike (marked (has weights.committee) slots) laid
+    alike_members = subst (λ (m : ℕ → Bool). AreAlike (marked m slots) laid) (λ i t. marks t i) lays.alike
+
+    rising_laid : AllPairs IsBefore laid
+    rising_laid = rising_before (marked (λ t. slice_index_or is_member t false) slots) laid lays.alike
+        (AllPairs-filter IsBefore (λ (e : Edge). slice_index_or is_member e.target false) slots are.rising)
+
+    voters_laid : All (λ (e : Edge). e.voter < length snapshot.voters) laid
+    voters_laid = laid_all (λ v t. v < length snapshot.voters) (marked (λ t. slice_index_or is_member t false) slots) laid lays.alike
+        (All-filter (λ (e : Edge). slice_index_or is_member e.target false) (λ (e : Edge). e.voter < length snapshot.voters) slots are.voters_in_range)
+
+    covers_laid : Covers snapshot weights.committee laid
+    covers_laid = laid_covers snapshot weights.committee slots laid are alike_members
+
     pub few_laid : length laid ≤ 2 ^ 20
-    few_laid = omega (arith, lays.alike.count, filter_le (λ (e : Edge). slice_index_or is_member e.target false) slots, are.few, formed.voters.voters_few)
+    few_laid = few_covering snapshot weights.committee laid formed rising_laid voters_laid covers_laid
 
     pub laid_in_range : All (λ (e : Edge). e.target < length snapshot.targets) laid
     laid_in_range = laid_all (λ v t. t < length snapshot.targets) (marked (λ t. slice_index_or is_member t false) slots) laid lays.alike
@@ -109,18 +113,17 @@ module _ (snapshot : Snapshot) (formed : IsWellFormed snapshot) (weights : Weigh
         ∙ sum_by-IsPermutation (pair_weight voter target) weights.edges sorted moved ∙ sym (given_weight weights.edges voter target)
 
     pub kept_over : (supports : List ℕ) → length supports ≡ length snapshot.targets → ((target : ℕ) → at supports target ≡ support laid target)
-        → IsKept snapshot slots weights.committee is_member laid supports
+        → IsKept snapshot weights.committee is_member laid supports
     kept_over supports count table = record {
       formed = formed;
-      slots_are = are;
       in_range = follows.members_in_range;
       distinct = follows.members_distinct;
       marks = marks;
       marks_count = marks_count;
-      laid = subst (λ (m : ℕ → Bool). AreAlike (marked m slots) laid) (λ i t. marks t i) lays.alike;
+      covers = covers_laid;
+      voters_in_range = voters_laid;
       kept = record {
-        rising = rising_before (marked (λ t. slice_index_or is_member t false) slots) laid lays.alike
-            (AllPairs-filter IsBefore (λ (e : Edge). slice_index_or is_member e.target false) slots are.rising);
+        rising = rising_laid;
         few = few_laid;
         small = lays.small;
         in_range = λ k d h. omega (arith, laid_in_range k d h, count);

@@ -2,10 +2,10 @@
 use Rattle.std.proofs.Common.{◌≡◌, ℕ, suc, ◌+◌, ◌<◌, nat_eq, List, [], ◌∷◌, ◌++◌, length, map, get_or, All, IsPermutation, inl, inr, refl, ap, ap₂, sym, ◌∙◌, arith, append-nil}
 use Rattle.std.specs.List.{AllPairs}
 use Rattle.std.specs.List.Sorted.{IsNonDecreasing}
-use Rattle.std.proofs.lemmas.List.{length-map, get_or-map, length-append}
+use Rattle.std.proofs.lemmas.List.{length-map, get_or-map}
 use Rattle.std.proofs.lemmas.List.Elements.{All-append, All-map, filter-append}
 use Rattle.std.proofs.lemmas.List.Kept.{AllPairs-from_increasing, AllPairs-cons}
-use Rattle.std.proofs.lemmas.List.Sorted.{All-permutation, length_permutation}
+use Rattle.std.proofs.lemmas.List.Sorted.{All-permutation}
 use Rattle.std.proofs.lemmas.Map.Keys.{IsDistinct-IsPermutation}
 use Rattle.std.proofs.lemmas.Bool.{cases_eq, ne_eqb, eq-eqb}
 use Rattle.npos_base.specs.declared.figures.Edge.{Edge}
@@ -54,7 +54,6 @@ module _ (snapshot : Snapshot) (voter : ℕ) (slots : List Edge) (so : AreSlots 
   pub slots_next : AreSlots snapshot (voter + 1) (slots ++ row)
   slots_next = record {
     rising = pairs_append IsBefore slots row so.rising row_rising (λ i j d a b. inl (omega (arith, so.voters_in_range i d a, of_row j d b)));
-    few = omega (arith, so.few, length-append slots row, length-map sorted (slot_of voter), length_permutation (votes_of snapshot voter) sorted moved, sound.few_votes);
     voters_in_range = All-append (λ (e : Edge). e.voter < voter + 1) slots row (λ k d h. omega (arith, so.voters_in_range k d h)) (λ k d h. omega (arith, of_row k d h));
     targets_in_range = All-append (λ (e : Edge). e.target < length snapshot.targets) slots row so.targets_in_range
         (All-map (λ (e : Edge). e.target < length snapshot.targets) (slot_of voter) sorted
@@ -82,7 +81,6 @@ module _ (snapshot : Snapshot) (voter : ℕ) (slots : List Edge) (so : AreSlots 
 pub no_slots : (snapshot : Snapshot) → AreSlots snapshot 0 []
 no_slots snapshot = record {
   rising = λ i j d a b. absurd (omega (arith, b));
-  few = omega arith;
   voters_in_range = λ k d h. absurd (omega arith);
   targets_in_range = λ k d h. absurd (omega arith);
   pairs = λ voter target h. absurd (omega (arith, h));

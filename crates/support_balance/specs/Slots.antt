@@ -1,8 +1,7 @@
 -- An edge of amount 0 along each nomination, in order, and edges laid along those of members.
-use Rattle.std.specs.Prelude.{◌≡◌, ℕ, ◌*◌, ◌^◌, ◌<◌, ◌≤◌, ◌+◌, ◌⊎◌, Bool, true, false, List, length, filter, All, slice_index_or}
+use Rattle.std.specs.Prelude.{◌≡◌, ℕ, ◌^◌, ◌<◌, ◌+◌, ◌⊎◌, Bool, true, false, List, length, filter, All, slice_index_or}
 use Rattle.std.specs.List.{AllPairs, list_any}
 use Rattle.npos_base.specs.declared.figures.Edge.{Edge}
-use Rattle.npos_base.specs.declared.limits.TheConstants.{MOST_NOMINATIONS}
 use Rattle.npos_base.specs.Edge.{same_pair}
 use Rattle.election_snapshot.specs.Snapshot.{Snapshot, has, nominates}
 use Rattle.weight_book.specs.Weights.{edges_from, support}
@@ -13,7 +12,6 @@ use Rattle.support_balance.specs.Laid.{targets_of}
 -- the slots of the first voters
 pub record AreSlots (snapshot : Snapshot) (voters : ℕ) (slots : List Edge) : Type 0 where
   pub rising : AllPairs IsBefore slots
-  pub few : length slots ≤ voters * MOST_NOMINATIONS
   pub voters_in_range : All (λ slot. slot.voter < voters) slots
   pub targets_in_range : All (λ slot. slot.target < length snapshot.targets) slots
   pub pairs : (voter target : ℕ) → voter < voters

@@ -7,7 +7,6 @@ ghost use Rattle.weight_book.specs.Weights.{no_weights, Follows, support, spent}
 ghost use Rattle.weight_book.specs.Room.{KeepsRoom};
 ghost use Rattle.support_balance.specs.Rounds.{GiveSame, IsBalanced, IsBefore, AreListed};
 ghost use Rattle.support_balance.specs.Backing.{above_zero, IsKept};
-ghost use Rattle.support_balance.specs.Slots.{AreSlots};
 
 use crate::laying::{all_slots, in_order, join, lay, mark, supports_of};
 use crate::rounds::rounds;
@@ -16,6 +15,7 @@ use election_snapshot::Snapshot;
 use npos_base::{Edge, NoMemory};
 use std::alloc::Global;
 use std::marker::Model;
+use std::mem::swap;
 use weight_book::Weights;
 
 /// A committee of a snapshot with what each voter gives to each member that it nominates, in units
@@ -24,14 +24,14 @@ use weight_book::Weights;
 /// and should not read the edges anew each time.
 #[derive(Drop)]
 pub struct Backing<'a> {
-    alloc: Global,
     snapshot: &'a Snapshot,
-    /// An edge of amount 0 along each nomination, by rising voter, then rising target.
-    slots: Vec<Edge>,
     members: Vec<u16>,
     is_member: Vec<bool>,
-    /// The slots of members with their amounts.
+    /// An edge along each nomination of a member, be its amount 0, by rising voter, then rising target.
     edges: Vec<Edge>,
+    /// What a joining member's edges are written into; then it changes places with `edges`, so that
+    /// the same memory serves again and again. What stands in it in between is of no use.
+    spare: Vec<Edge>,
     /// By target, what the edges to it sum to.
     supports: Vec<u128>,
     /// What the last balancing noted of its voters. Only the room for all of them is of use.
@@ -50,28 +50,26 @@ impl<'a> Model for Backing<'a> {
       weights = record { committee = b.members.items; edges = b.edges.items };
     } };
 
-    ghost invariant = { λ b. IsKept b.snapshot.now b.slots.items b.members.items b.is_member.items
+    ghost invariant = { λ b. IsKept b.snapshot.now b.members.items b.is_member.items
         b.edges.items b.supports.items × (length b.snapshot.now.voters ≤ vec_capacity b.spans) };
 }
 
 impl<'a> Backing<'a> {
     /// No member yet, and so no edge. The error is want of memory alone; then nothing is kept. It
-    /// takes room for an edge along each nomination of the snapshot, and for a span of each voter.
+    /// takes room for a mark and a support of each target, and for a span of each voter.
     pub fn new(alloc: Global, snapshot: &'a Snapshot) -> Result<Backing<'a>, NoMemory>
         ensures { IfOk result (λ backing. backing
             ≡ record { snapshot = snapshot.now; weights = no_weights }) }
     {
-        let slots = all_slots(alloc, snapshot)?;
         let is_member = vec![in alloc; false; snapshot.target_count()]?;
         let supports = vec![in alloc; 0; snapshot.target_count()]?;
         let spans = Vec::with_capacity(alloc, snapshot.voter_count())?;
         Ok(Backing {
-            alloc,
             snapshot,
-            slots,
             members: Vec::new(alloc),
             is_member,
             edges: Vec::new(alloc),
+            spare: Vec::new(alloc),
             supports,
             spans,
         })
@@ -92,19 +90,17 @@ impl<'a> Backing<'a> {
         ensures same { IfOk result (λ backing.
             GiveSame weights.now.plain.edges backing.weights.edges) }
     {
-        let slots = all_slots(alloc, snapshot)?;
         let members = Vec::from_slice(alloc, weights.committee())?;
         let mut is_member = vec![in alloc; false; snapshot.target_count()]?;
         mark(&members, &mut is_member);
-        let (edges, supports) = lay_weights(alloc, snapshot, &slots, &is_member, weights)?;
+        let (edges, supports) = lay_weights(alloc, snapshot, &is_member, weights)?;
         let spans = Vec::with_capacity(alloc, snapshot.voter_count())?;
         Ok(Backing {
-            alloc,
             snapshot,
-            slots,
             members,
             is_member,
             edges,
+            spare: Vec::new(alloc),
             supports,
             spans,
         })
@@ -124,15 +120,9 @@ impl<'a> Backing<'a> {
     {
         self.members.reserve(1)?;
         self.is_member[usize::from(target)] = true;
-        match join(
-            self.alloc,
-            self.slots.len(),
-            self.snapshot,
-            target,
-            &self.edges,
-        ) {
-            Ok(joined) => {
-                self.edges = joined;
+        match join(self.snapshot, target, &self.edges, &mut self.spare) {
+            Ok(()) => {
+                swap(&mut self.edges, &mut self.spare);
                 push_within(&mut self.members, target);
                 Ok(())
             }
@@ -212,26 +202,26 @@ impl<'a> Backing<'a> {
     }
 }
 
-/// The edges of the weights, laid along the slots, and what the targets get.
+/// The edges of the weights, with one of amount 0 along each other nomination of a member, and what
+/// the targets get. The slots along which they are laid are needed here alone.
 fn lay_weights(
     alloc: Global,
     snapshot: &Snapshot,
-    slots: &[Edge],
     is_member: &[bool],
     weights: &Weights,
 ) -> Result<(Vec<Edge>, Vec<u128>), NoMemory>
     requires follows { Follows snapshot.now weights.now.plain }
-    requires slots { AreSlots snapshot.now (length snapshot.now.voters) slots.now }
     requires marks { (target : ℕ) → slice_index_or is_member.now target false
         ≡ has weights.now.plain.committee target }
     requires count { length is_member.now ≡ length snapshot.now.targets }
-    ensures kept { IfOk result (λ laid. IsKept snapshot.now slots.now weights.now.plain.committee
+    ensures kept { IfOk result (λ laid. IsKept snapshot.now weights.now.plain.committee
         is_member.now laid.0.items laid.1.items) }
     ensures same { IfOk result (λ laid. GiveSame weights.now.plain.edges laid.0.items) }
 {
     let targets = snapshot.target_count();
+    let slots = all_slots(alloc, snapshot)?;
     let sorted = in_order(alloc, weights.edges())?;
-    let laid = lay(alloc, slots, is_member, &sorted)?;
+    let laid = lay(alloc, &slots, is_member, &sorted)?;
     let supports = supports_of(alloc, targets, &laid)?;
     Ok((laid, supports))
 }

@@ -95,22 +95,24 @@ fn amount_along(slot: Edge, edges: &[Edge], at: &mut usize) -> u64
     }
 }
 
-/// Puts an edge of amount 0 into the row of each voter that nominates the target, to which no edge
-/// leads yet. Where the room is always the same, the same memory serves again and again.
+/// Writes the edges in place of what `joined` holds, with one of amount 0 in the row of each voter
+/// that nominates the target, to which no edge leads yet. It asks for all the room at once, as if
+/// each voter nominated the target, so that no edge is moved while they are written.
 pub(crate) fn join(
-    alloc: Global,
-    room: usize,
     snapshot: &Snapshot,
     target: u16,
     edges: &[Edge],
-) -> Result<Vec<Edge>, NoMemory>
+    joined: &mut Vec<Edge>,
+) -> Result<(), NoMemory>
+    requires few { length edges.now ≤ 2 ^ 20 }
     requires in_range { target < length snapshot.now.targets }
     requires rising { AllPairs IsBefore edges.now }
     requires fresh { All (λ edge. edge.target ≢ target) edges.now }
     requires small { All (λ edge. edge.amount < 2 ^ 64) edges.now }
-    ensures { IfOk result (λ joined. IsJoined snapshot.now target edges.now joined.items) }
+    ensures { OnOk result (IsJoined snapshot.now target edges.now joined.new.items) }
 {
-    let mut joined = Vec::with_capacity(alloc, room)?;
+    joined.clear();
+    joined.reserve(edges.len() + snapshot.voter_count())?;
     let mut done = 0;
     for voter in 0..snapshot.voter_count() {
         if snapshot.nominates(voter as u32, target) {
@@ -125,7 +127,7 @@ pub(crate) fn join(
         }
     }
     joined.extend_from_slice(&edges[done..edges.len()])?;
-    Ok(joined)
+    Ok(())
 }
 
 /// Where an edge from the voter to the target stands among the edges, at `start` or behind it.

@@ -9,4 +9,4 @@ invariant_of-result c =
     let marks : c.in_ok-is_member.is_member.items ≡ replicate targets false = search rules in
     let supports : c.in_ok-supports.supports.items ≡ replicate targets 0 = search rules in
     let room : length c.args.snapshot.now.voters ≤ vec_capacity c.in_ok-spans.spans = search rules in
-    rw (marks, supports, c.new.ensures.items, c.new-2.ensures.items) (kept_none c.args.snapshot.now c.in_ok-slots.slots.items c.target_count.ensures.well_formed c.in_ok-slots.ensures, room)
+    rw (marks, supports, c.new.ensures.items, c.new-2.ensures.items) (kept_none c.args.snapshot.now c.target_count.ensures.well_formed, room)

@@ -21,4 +21,4 @@ returns-clause-follows c =
     let plain : c.put_edges.new.weights.plain ≡ record { committee = c.self.inside.members.items; edges = above_zero c.self.inside.edges.items } =
     λ i. record { committee = members i; edges = edges i } in
     rw (sym c.self.view_is, plain)
-    (follows_above c.self.inside.snapshot.now c.self.inside.members.items c.self.inside.edges.items c.self.invariant.0.kept.rising (kept_follows _ _ _ _ _ _ c.self.invariant.0))
+    (follows_above c.self.inside.snapshot.now c.self.inside.members.items c.self.inside.edges.items c.self.invariant.0.kept.rising (kept_follows _ _ _ _ _ c.self.invariant.0))
