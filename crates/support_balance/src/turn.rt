@@ -1,6 +1,6 @@
 //! A turn at one voter: its whole stake is handed out anew over the members that it nominates, so
 //! that no unit could lie lower. Levels are raised by division, not unit by unit.
-ghost use Rattle.std.specs.Prelude.{◌≡◌, ◌+◌, ◌-◌, ◌*◌, ◌^◌, ◌<◌, ◌≤◌, min, cond, true, nat_le, length, sum, All};
+ghost use Rattle.std.specs.Prelude.{◌≡◌, ◌+◌, ◌-◌, ◌*◌, ◌/◌, ◌^◌, ◌<◌, ◌≤◌, min, cond, true, nat_le, length, sum, All};
 ghost use Rattle.support_balance.specs.Levels.{bases, low, IsLevel, filled};
 ghost use Rattle.support_balance.specs.Rows.{IsRow, AreAlike, AreMoved, IsEven, amounts, differs};
 
@@ -74,13 +74,25 @@ fn level_of(stake: u64, row: &[Edge], supports: &[u128]) -> Level
     ensures { IsLevel stake (bases supports.now row.now) result.height result.above }
 {
     let mut pool = pool_within(u128::MAX, row, supports);
-    let mut height = (u128::from(stake) + pool.sum) / pool.count;
+    let mut height = quotient(u128::from(stake) + pool.sum, pool.count);
     while height < pool.highest {
         pool = pool_within(height, row, supports);
-        height = (u128::from(stake) + pool.sum) / pool.count;
+        height = quotient(u128::from(stake) + pool.sum, pool.count);
     }
     let above = u128::from(stake) + pool.sum - height * pool.count;
     Level { height, above }
+}
+
+/// The whole part of the sum over the count. A division in 128 bits is a slow call, so it divides
+/// in 64 where both fit, as they do unless stakes are near 2^64.
+fn quotient(sum: u128, count: u128) -> u128
+    requires { 0 < count }
+    ensures { result ≡ sum / count }
+{
+    match (u64::try_from(sum), u64::try_from(count)) {
+        (Ok(sum), Ok(count)) => u128::from(sum / count),
+        _ => sum / count,
+    }
 }
 
 /// The pool of the members whose bases are at most `cap`.
