@@ -11,7 +11,8 @@ use Rattle.npos_base.specs.Account.{same_account}
 use Rattle.npos_base.proofs.AccountOrder.{same_turned}
 use Rattle.election_snapshot.specs.Snapshot.{Voter, no_account, nobody, stakes_of, total_of, IsVoterOf, AreVotersOf, has}
 use Rattle.election_snapshot.specs.Draft.{Draft, accounts_of, has_repeat, stands_in, target_fault, voter_fault, with_voter, first_seats_fault, finish_fault}
-use Rattle.election_snapshot.specs.Kept.{voters_of, AreKept}
+use Rattle.election_snapshot.specs.declared.voters.KeptVoters.{KeptVoters}
+use Rattle.election_snapshot.specs.Kept.{voters_of, AreKept, AreSame, HaveOneMore}
 
 pub kept_count : (accounts : List AccountId) (stakes : List ℕ) (votes : List (List ℕ)) → length stakes ≡ length accounts → length votes ≡ length accounts → length (voters_of accounts stakes votes) ≡ length accounts
 kept_count [] stakes votes p q = refl
@@ -227,7 +228,7 @@ kept_with targets accounts stakes votes total who stake voted now_accounts now_s
     })
 
 -- the stakes with one more have their sum within range
-pub kept_fits : (targets accounts : List AccountId) (stakes : List ℕ) (votes : List (List ℕ)) (total : ℕ) (who : AccountId) (stake : ℕ) (voted : List ℕ)
+kept_fits : (targets accounts : List AccountId) (stakes : List ℕ) (votes : List (List ℕ)) (total : ℕ) (who : AccountId) (stake : ℕ) (voted : List ℕ)
     → AreKept targets accounts stakes votes total → voter_fault (kept_draft targets accounts stakes votes) who stake voted ≡ None → total + stake < 2 ^ 64
 kept_fits targets accounts stakes votes total who stake voted h free =
     subst (λ n. n + stake < 2 ^ 64) (kept_total targets accounts stakes votes total h) (sound (kept_draft targets accounts stakes votes) who stake voted free).fits
@@ -238,13 +239,39 @@ pub kept_seats_fault : (targets accounts : List AccountId) (stakes : List ℕ) (
 kept_seats_fault targets accounts stakes votes total count seats h e =
     ap₂ (λ n t. first_seats_fault n t seats) e (sym (kept_total targets accounts stakes votes total h))
 
-pub voters_new : (targets accounts : List AccountId) (stakes : List ℕ) (votes : List (List ℕ)) (total : ℕ) (who : AccountId) (stake : ℕ) (voted : List ℕ)
+voters_new : (targets accounts : List AccountId) (stakes : List ℕ) (votes : List (List ℕ)) (total : ℕ) (who : AccountId) (stake : ℕ) (voted : List ℕ)
     (now_accounts : List AccountId) (now_stakes : List ℕ) (now_votes : List (List ℕ))
     → now_accounts ≡ accounts ++ who ∷ [] → now_stakes ≡ stakes ++ stake ∷ [] → now_votes ≡ votes ++ voted ∷ []
     → AreKept targets accounts stakes votes total
     → voters_of now_accounts now_stakes now_votes ≡ voters_of accounts stakes votes ++ record { account = who; stake = stake; votes = voted } ∷ []
 voters_new targets accounts stakes votes total who stake voted now_accounts now_stakes now_votes a s v h =
     rw (a, s, v) (kept_more accounts stakes votes who stake voted h.stakes_count h.votes_count)
+
+-- ## One voter more, in lists that were given room
+
+abbrev pub drafted : List AccountId → KeptVoters → Draft
+drafted targets voters = kept_draft targets voters.accounts.items voters.stakes.items voters.ballots.items
+
+module _ (targets : List AccountId) (old room : KeptVoters) (same : AreSame old room) (kept : AreKept targets old.accounts.items old.stakes.items old.ballots.items old.total)
+    (who : AccountId) (stake : ℕ) (voted : List ℕ) (free : voter_fault (drafted targets old) who stake voted ≡ None) where
+  pub room_fits : room.total + stake < 2 ^ 64
+  room_fits = rw same.total (kept_fits targets old.accounts.items old.stakes.items old.ballots.items old.total who stake voted kept free)
+
+  module _ (new : KeptVoters) (more : HaveOneMore room new who stake voted) where
+    accounts : new.accounts.items ≡ old.accounts.items ++ who ∷ []
+    accounts = more.accounts ∙ ap (λ xs. xs ++ who ∷ []) same.accounts
+
+    stakes : new.stakes.items ≡ old.stakes.items ++ stake ∷ []
+    stakes = more.stakes ∙ ap (λ xs. xs ++ stake ∷ []) same.stakes
+
+    votes : new.ballots.items ≡ old.ballots.items ++ voted ∷ []
+    votes = more.votes ∙ ap (λ xs. xs ++ voted ∷ []) same.votes
+
+    pub more_kept : AreKept targets new.accounts.items new.stakes.items new.ballots.items new.total
+    more_kept = rw (more.total, same.total) (kept_with targets old.accounts.items old.stakes.items old.ballots.items old.total who stake voted _ _ _ accounts stakes votes kept free)
+
+    pub more_drafted : drafted targets new ≡ with_voter (drafted targets old) who stake voted
+    more_drafted = ap (λ voters. record { targets = targets; voters = voters }) (voters_new targets old.accounts.items old.stakes.items old.ballots.items old.total who stake voted _ _ _ accounts stakes votes kept)
 
 pub stake_read : (voters : List Voter) (i : ℕ) → get_or (stakes_of voters) i 0 ≡ (get_or voters i nobody).stake
 stake_read [] i = refl

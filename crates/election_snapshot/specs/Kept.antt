@@ -1,11 +1,9 @@
 -- How the voters of a snapshot are kept: accounts, stakes and votes in three lists of one length.
-use Rattle.std.specs.Prelude.{◌≡◌, ℕ, List, [], ◌∷◌, length, sum, is_some}
-use Rattle.std.specs.BTreeMap.{is_at}
-use Rattle.std.specs.Map.{lookup}
+use Rattle.std.specs.Prelude.{◌≡◌, ℕ, ◌+◌, ◌<◌, List, [], ◌∷◌, ◌++◌, length, sum, vec_len}
+use Rattle.std.specs.Vec.{vec_capacity}
 use Rattle.npos_base.specs.declared.account.AccountId.{AccountId}
-use Rattle.npos_base.specs.Account.{account_cmp}
 use Rattle.election_snapshot.specs.Snapshot.{Voter, AreVotersOf}
-use Rattle.election_snapshot.specs.Draft.{stands_in, accounts_of}
+use Rattle.election_snapshot.specs.declared.voters.KeptVoters.{KeptVoters}
 
 abbrev pub voters_of : List AccountId → List ℕ → List (List ℕ) → List Voter
 voters_of [] stakes votes = []
@@ -21,8 +19,23 @@ pub record AreKept (targets accounts : List AccountId) (stakes : List ℕ) (vote
   pub total_is : total ≡ sum stakes
   pub voters : AreVotersOf targets (voters_of accounts stakes votes)
 
--- the accounts of the voters are those of the entries
-abbrev pub AreNoted : List (AccountId × Unit {0}) → List Voter → Type 0
-AreNoted entries voters =
-    (who : AccountId) → is_some (lookup (is_at (account_cmp who)) entries)
-    ≡ stands_in (accounts_of voters) who
+-- each of the lists takes one item more
+pub record HasRoom (voters : KeptVoters) : Type 0 where
+  pub accounts : vec_len voters.accounts < vec_capacity voters.accounts
+  pub stakes : vec_len voters.stakes < vec_capacity voters.stakes
+  pub votes : vec_len voters.ballots < vec_capacity voters.ballots
+
+-- the voters are as they were, whatever room there is
+pub record AreSame (old new : KeptVoters) : Type 0 where
+  pub accounts : new.accounts.items ≡ old.accounts.items
+  pub stakes : new.stakes.items ≡ old.stakes.items
+  pub votes : new.ballots.items ≡ old.ballots.items
+  pub total : new.total ≡ old.total
+
+-- one voter more stands behind the others
+pub record HaveOneMore (old new : KeptVoters) (who : AccountId) (stake : ℕ) (voted : List ℕ)
+    : Type 0 where
+  pub accounts : new.accounts.items ≡ old.accounts.items ++ who ∷ []
+  pub stakes : new.stakes.items ≡ old.stakes.items ++ stake ∷ []
+  pub votes : new.ballots.items ≡ old.ballots.items ++ voted ∷ []
+  pub total : new.total ≡ old.total + stake

@@ -1,36 +1,38 @@
 //! Building a snapshot, target by target and voter by voter.
-ghost use Rattle.std.specs.Prelude.{◌≡◌, ◌<◌, [], Some, None, Bool, IsTrue, false, length, nat_le, IfOk, IfErr, OnOk, OnErr};
+ghost use Rattle.std.specs.Prelude.{◌≡◌, ◌<◌, [], Some, None, Bool, IsTrue, false, nat_le, IfOk, IfErr, IfNone, OnOk, OnErr};
 ghost use Rattle.std.specs.List.{list_any};
 ghost use Rattle.std.specs.List.Sorted.{IsStrictlyIncreasing};
 ghost use Rattle.npos_base.specs.declared.limits.TheConstants.{MOST_VOTERS};
 ghost use Rattle.npos_base.specs.Refusal.{Meets};
+ghost use Rattle.account_places.specs.Places.{place_in, by_account};
 ghost use Rattle.election_snapshot.specs.declared.fault.SnapshotFault.TheVariants.{NoMemory as NoMemoryFault};
-ghost use Rattle.election_snapshot.specs.Draft.{accounts_of, stands_in, place_of, has_repeat, target_fault, with_target, voter_fault, voter_fault_by, with_voter, finish_fault, seated};
+ghost use Rattle.election_snapshot.specs.Draft.{accounts_of, place_of, has_repeat, target_fault, with_target, voter_fault, voter_fault_by, with_voter, finish_fault, seated};
 
 use crate::{Snapshot, SnapshotFault, SnapshotParts};
+use account_places::Places;
 use npos_base::{AccountId, MOST_NOMINATIONS, MOST_VOTERS, NoMemory};
 use std::alloc::Global;
-use std::collections::BTreeMap;
 use std::marker::Model;
 
 /// The targets and voters of a snapshot so far, each looked at before it is added. The accounts of
-/// the voters stand in an ordered map too, so that a repeated one is found in the logarithm of
-/// their number, whatever they are. Contracts see both lists in the order of their addition.
+/// the voters have places too: a repeated one is found by slots, and in order where accounts crowd
+/// the slots, so that no choice of accounts makes a look-up longer than the logarithm of their
+/// number. Contracts see both lists in the order of their addition.
 #[derive(Drop)]
 pub struct SnapshotBuilder {
     parts: SnapshotParts,
-    voters: BTreeMap<AccountId, ()>,
+    voters: Places,
 }
 
 impl Model for SnapshotBuilder {
-    ghost use Rattle.election_snapshot.specs.Draft.{Draft};
-    ghost use Rattle.election_snapshot.specs.Kept.{AreNoted};
+    ghost use Rattle.std.specs.Prelude.{◌≡◌};
+    ghost use Rattle.election_snapshot.specs.Draft.{Draft, accounts_of};
 
     ghost Value = { Draft };
 
     ghost view = { λ b. b.parts };
 
-    ghost invariant = { λ b. AreNoted b.voters.entries b.parts.voters };
+    ghost invariant = { λ b. b.voters ≡ accounts_of b.parts.voters };
 }
 
 impl SnapshotBuilder {
@@ -40,7 +42,7 @@ impl SnapshotBuilder {
     {
         SnapshotBuilder {
             parts: SnapshotParts::new(alloc),
-            voters: BTreeMap::new(alloc),
+            voters: Places::new(alloc),
         }
     }
 
@@ -78,21 +80,37 @@ impl SnapshotBuilder {
         ensures { Meets NoMemoryFault (voter_fault self.old who stake votes.now)
             (with_voter self.old who stake votes.now) self.old self.new result }
     {
+        if let Some(fault) = self.voter_fault(who, stake, votes) {
+            return Err(fault);
+        }
+        match self.parts.put_noted(&mut self.voters, who, stake, votes) {
+            Ok(()) => Ok(()),
+            Err(NoMemory) => Err(SnapshotFault::NoMemory),
+        }
+    }
+
+    /// The first fault of a voter. Where it has none, its account has no place.
+    #[tactic(auto, using(crate::proofs::PlaceLemmas::has_place))]
+    fn voter_fault(&self, who: AccountId, stake: u64, votes: &[u16]) -> Option<SnapshotFault>
+        ensures fault { result ≡ voter_fault self.now who stake votes.now }
+        ensures place { IfNone result
+            (place_in (by_account (accounts_of self.now.voters)) who ≡ None) }
+    {
         let voters = self.parts.voter_count();
         if voters >= MOST_VOTERS {
-            return Err(SnapshotFault::TooManyVoters);
+            return Some(SnapshotFault::TooManyVoters);
         }
-        // The account is noted where it is looked for, so that one search does both.
-        if self.voters.insert(who, ())?.is_some() {
-            return Err(SnapshotFault::RepeatedVoter(voters as u32));
+        let number = voters as u32;
+        if self.voters.find(who).is_some() {
+            return Some(SnapshotFault::RepeatedVoter(number));
         }
-        match add_new(&mut self.parts, who, stake, votes) {
-            Ok(()) => Ok(()),
-            Err(fault) => {
-                let _ = self.voters.remove(&who);
-                Err(fault)
-            }
-        }
+        new_fault(
+            self.parts.target_count(),
+            number,
+            self.parts.total(),
+            stake,
+            votes,
+        )
     }
 
     /// Takes the targets and voters as the snapshot of an election of this many seats, or hands
@@ -110,28 +128,6 @@ impl SnapshotBuilder {
                 Ok(Snapshot::new(parts, seats))
             }
         }
-    }
-}
-
-/// Adds a voter whose account does not stand behind those that stand.
-fn add_new(
-    parts: &mut SnapshotParts,
-    who: AccountId,
-    stake: u64,
-    votes: &[u16],
-) -> Result<(), SnapshotFault>
-    requires few { length parts.old.voters < MOST_VOTERS }
-    requires is_new { stands_in (accounts_of parts.old.voters) who ≡ false }
-    ensures { Meets NoMemoryFault (voter_fault parts.old who stake votes.now)
-        (with_voter parts.old who stake votes.now) parts.old parts.new result }
-{
-    let number = parts.voter_count() as u32;
-    if let Some(fault) = new_fault(parts.target_count(), number, parts.total(), stake, votes) {
-        return Err(fault);
-    }
-    match parts.put_voter(who, stake, votes) {
-        Ok(()) => Ok(()),
-        Err(NoMemory) => Err(SnapshotFault::NoMemory),
     }
 }
 

@@ -7,6 +7,7 @@ mod builder;
 mod fault;
 mod parts;
 mod snapshot;
+mod voters;
 
 pub use builder::SnapshotBuilder;
 pub use fault::SnapshotFault;

@@ -1,14 +1,15 @@
 //! The targets and voters of a snapshot, as lists that grow.
-ghost use Rattle.std.specs.Prelude.{◌≡◌, ◌<◌, ◌≤◌, [], ◌∷◌, ◌++◌, length, Some, None, IfOk, IfErr, OnOk, OnErr, slice_get, slice_index_or, vec_len};
-ghost use Rattle.std.specs.Vec.{vec_capacity};
+ghost use Rattle.std.specs.Prelude.{◌≡◌, ◌<◌, ◌≤◌, [], ◌∷◌, ◌++◌, length, Some, None, IfOk, IfErr, OnOk, OnErr, slice_get, slice_index_or};
 ghost use Rattle.npos_base.specs.declared.limits.TheConstants.{MOST_TARGETS};
 ghost use Rattle.npos_base.specs.Refusal.{Meets};
+ghost use Rattle.account_places.specs.Places.{place_in, by_account};
 ghost use Rattle.election_snapshot.specs.declared.fault.SnapshotFault.TheVariants.{NoMemory as NoMemoryFault};
 ghost use Rattle.election_snapshot.specs.Snapshot.{nobody, stakes_of, total_of, AreVotersOf};
 ghost use Rattle.election_snapshot.specs.Draft.{Draft, place_of, target_fault, with_target, voter_fault, with_voter, finish_fault, first_seats_fault, seated};
 
-use crate::ballot::Ballot;
+use crate::voters::KeptVoters;
 use crate::{Snapshot, SnapshotFault};
+use account_places::Places;
 use indexmap::IndexSet;
 use npos_base::{AccountId, MOST_SEATS, MOST_TARGETS, NoMemory};
 use std::alloc::Global;
@@ -19,10 +20,7 @@ use std::marker::Model;
 #[derive(Drop)]
 pub struct SnapshotParts {
     targets: IndexSet<AccountId>,
-    accounts: Vec<AccountId>,
-    stakes: Vec<u64>,
-    ballots: Vec<Ballot>,
-    total: u64,
+    voters: KeptVoters,
 }
 
 impl Model for SnapshotParts {
@@ -34,11 +32,11 @@ impl Model for SnapshotParts {
 
     ghost view = { λ b. record {
       targets = b.targets.keys;
-      voters = voters_of b.accounts.items b.stakes.items b.ballots.items;
+      voters = voters_of b.voters.accounts.items b.voters.stakes.items b.voters.ballots.items;
     } };
 
-    ghost invariant = { λ b. AreKept b.targets.keys b.accounts.items b.stakes.items b.ballots.items
-        b.total };
+    ghost invariant = { λ b. AreKept b.targets.keys b.voters.accounts.items b.voters.stakes.items
+        b.voters.ballots.items b.voters.total };
 }
 
 impl SnapshotParts {
@@ -48,10 +46,7 @@ impl SnapshotParts {
     {
         SnapshotParts {
             targets: IndexSet::new(alloc),
-            accounts: Vec::new(alloc),
-            stakes: Vec::new(alloc),
-            ballots: Vec::new(alloc),
-            total: 0,
+            voters: KeptVoters::new(alloc),
         }
     }
 
@@ -98,13 +93,30 @@ impl SnapshotParts {
         ensures ok { OnOk result (self.new ≡ with_voter self.old who stake votes.now) }
         ensures err { OnErr result (self.new ≡ self.old) }
     {
-        self.accounts.reserve(1)?;
-        self.stakes.reserve(1)?;
-        self.ballots.reserve(1)?;
-        push_within(&mut self.accounts, who);
-        push_within(&mut self.stakes, stake);
-        push_within(&mut self.ballots, Ballot::new(votes));
-        self.total += stake;
+        self.voters.take_room()?;
+        self.voters.push_within(who, stake, votes);
+        Ok(())
+    }
+
+    /// Adds a voter that has no fault behind those that stand, and its account behind those that
+    /// are noted: both, or neither.
+    pub(crate) fn put_noted(
+        &mut self,
+        noted: &mut Places,
+        who: AccountId,
+        stake: u64,
+        votes: &[u16],
+    ) -> Result<(), NoMemory>
+        requires fault { voter_fault self.old who stake votes.now ≡ None }
+        requires is_new { place_in (by_account noted.old) who ≡ None }
+        ensures voter { OnOk result (self.new ≡ with_voter self.old who stake votes.now) }
+        ensures account { OnOk result (noted.new ≡ noted.old ++ who ∷ []) }
+        ensures err { OnErr result ((self.new ≡ self.old) × (noted.new ≡ noted.old)) }
+    {
+        // The room comes first, since an account that is noted stays so.
+        self.voters.take_room()?;
+        noted.put(who)?;
+        self.voters.push_within(who, stake, votes);
         Ok(())
     }
 
@@ -125,7 +137,7 @@ impl SnapshotParts {
     pub(crate) fn seats_fault(&self, seats: u32) -> Option<SnapshotFault>
         ensures { result ≡ finish_fault self.now seats }
     {
-        seats_fault(self.targets.len(), self.total, seats)
+        seats_fault(self.targets.len(), self.voters.total, seats)
     }
 
     /// What holds of the targets and voters.
@@ -155,32 +167,32 @@ impl SnapshotParts {
         requires { i < length self.now.voters }
         ensures { result ≡ (slice_index_or self.now.voters i nobody).account }
     {
-        self.accounts[i]
+        self.voters.accounts[i]
     }
 
     pub(crate) fn voter_count(&self) -> usize
         ensures { result ≡ length self.now.voters }
     {
-        self.accounts.len()
+        self.voters.accounts.len()
     }
 
     pub(crate) fn stakes(&self) -> &[u64]
         ensures { result.now ≡ stakes_of self.now.voters }
     {
-        self.stakes.as_slice()
+        self.voters.stakes.as_slice()
     }
 
     pub(crate) fn votes(&self, i: usize) -> &[u16]
         requires { i < length self.now.voters }
         ensures { result.now ≡ (slice_index_or self.now.voters i nobody).votes }
     {
-        self.ballots[i].votes()
+        self.voters.ballots[i].votes()
     }
 
     pub(crate) fn total(&self) -> u64
         ensures { result ≡ total_of self.now.voters }
     {
-        self.total
+        self.voters.total
     }
 }
 
@@ -200,15 +212,4 @@ fn seats_fault(targets: usize, total: u64, seats: u32) -> Option<SnapshotFault>
         return Some(SnapshotFault::Poor { total, seats });
     }
     None
-}
-
-/// Appends an item to a vector with room.
-fn push_within<T>(items: &mut Vec<T>, item: T)
-    requires { vec_len items.old < vec_capacity items.old }
-    ensures { items.new.items ≡ items.old.items ++ item ∷ [] }
-{
-    match items.push(item) {
-        Ok(()) => {}
-        Err(_) => unreachable!(),
-    }
 }
