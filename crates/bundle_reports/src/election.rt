@@ -1,18 +1,18 @@
 //! The election of a bundle.
 ghost use Rattle.std.specs.Prelude.{◌≡◌, ◌≢◌, Ok, Err, OnOk, IfErr};
-ghost use Rattle.election_snapshot.specs.declared.fault.SnapshotFault.TheVariants.{NoMemory};
+ghost use Rattle.election_snapshot.specs.declared.fault.SnapshotFault.TheVariants.{NoMemory as NoMemoryFault};
 ghost use Rattle.npos_base.specs.Refusal.{Meets};
 ghost use Rattle.bundle_reports.specs.Elections.{with_targets, fault_of, draft_with, with_voters, snapshot_of, IsElection};
 
 use block_wire::{Bundle, BundleVoter};
 use election_snapshot::{Snapshot, SnapshotBuilder, SnapshotFault};
-use npos_base::AccountId;
+use npos_base::{AccountId, NoMemory};
 use std::alloc::Global;
 
 /// Adds the targets in order, up to the first fault.
 fn add_targets(builder: &mut SnapshotBuilder, targets: &[AccountId]) -> Result<(), SnapshotFault>
     ensures done { OnOk result (with_targets targets.now builder.old ≡ Ok builder.new) }
-    ensures fault { IfErr result (λ fault. fault ≢ NoMemory
+    ensures fault { IfErr result (λ fault. fault ≢ NoMemoryFault
         → with_targets targets.now builder.old ≡ Err fault) }
 {
     for who in targets {
@@ -23,7 +23,7 @@ fn add_targets(builder: &mut SnapshotBuilder, targets: &[AccountId]) -> Result<(
 
 /// Adds one voter.
 fn add_voter(builder: &mut SnapshotBuilder, voter: &BundleVoter) -> Result<(), SnapshotFault>
-    ensures { Meets NoMemory (fault_of builder.old voter.now)
+    ensures { Meets NoMemoryFault (fault_of builder.old voter.now)
         (draft_with builder.old voter.now) builder.old builder.new result }
 {
     builder.add_voter(voter.account, voter.stake, voter.votes.as_slice())
@@ -32,7 +32,7 @@ fn add_voter(builder: &mut SnapshotBuilder, voter: &BundleVoter) -> Result<(), S
 /// Adds the voters in order, up to the first fault.
 fn add_voters(builder: &mut SnapshotBuilder, voters: &[BundleVoter]) -> Result<(), SnapshotFault>
     ensures done { OnOk result (with_voters voters.now builder.old ≡ Ok builder.new) }
-    ensures fault { IfErr result (λ fault. fault ≢ NoMemory
+    ensures fault { IfErr result (λ fault. fault ≢ NoMemoryFault
         → with_voters voters.now builder.old ≡ Err fault) }
 {
     for voter in voters {
@@ -47,6 +47,10 @@ pub fn snapshot_of(alloc: Global, bundle: &Bundle) -> Result<Snapshot, SnapshotF
 {
     let mut builder = SnapshotBuilder::new(alloc);
     add_targets(&mut builder, bundle.targets.as_slice())?;
+    match builder.reserve(bundle.voters.len()) {
+        Ok(()) => {}
+        Err(NoMemory) => return Err(SnapshotFault::NoMemory),
+    }
     add_voters(&mut builder, bundle.voters.as_slice())?;
     match builder.finish(bundle.seats) {
         Ok(snapshot) => Ok(snapshot),

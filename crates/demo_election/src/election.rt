@@ -114,6 +114,7 @@ pub fn generated(alloc: Global, seed: u64, voters: u32, seats: u32) -> Result<Sn
 {
     let targets = TARGETS_A_SEAT * seats;
     let mut parts = with_targets(alloc, targets)?;
+    parts.reserve(voters as usize)?;
     add_voters(alloc, &mut parts, seed, targets, voters)?;
     match parts.finish(seats) {
         Ok(snapshot) => Ok(snapshot),

@@ -1,5 +1,5 @@
 -- How the voters of a snapshot are kept: accounts, stakes and votes in three lists of one length.
-use Rattle.std.specs.Prelude.{◌≡◌, ℕ, ◌+◌, ◌<◌, List, [], ◌∷◌, ◌++◌, length, sum, vec_len}
+use Rattle.std.specs.Prelude.{◌≡◌, ℕ, ◌+◌, ◌≤◌, List, [], ◌∷◌, ◌++◌, length, sum, vec_len}
 use Rattle.std.specs.Vec.{vec_capacity}
 use Rattle.npos_base.specs.declared.account.AccountId.{AccountId}
 use Rattle.election_snapshot.specs.Snapshot.{Voter, AreVotersOf}
@@ -19,11 +19,11 @@ pub record AreKept (targets accounts : List AccountId) (stakes : List ℕ) (vote
   pub total_is : total ≡ sum stakes
   pub voters : AreVotersOf targets (voters_of accounts stakes votes)
 
--- each of the lists takes one item more
-pub record HasRoom (voters : KeptVoters) : Type 0 where
-  pub accounts : vec_len voters.accounts < vec_capacity voters.accounts
-  pub stakes : vec_len voters.stakes < vec_capacity voters.stakes
-  pub votes : vec_len voters.ballots < vec_capacity voters.ballots
+-- each of the lists takes so many items more
+pub record HasRoom (voters : KeptVoters) (more : ℕ) : Type 0 where
+  pub accounts : vec_len voters.accounts + more ≤ vec_capacity voters.accounts
+  pub stakes : vec_len voters.stakes + more ≤ vec_capacity voters.stakes
+  pub votes : vec_len voters.ballots + more ≤ vec_capacity voters.ballots
 
 -- the voters are as they were, whatever room there is
 pub record AreSame (old new : KeptVoters) : Type 0 where

@@ -46,6 +46,15 @@ impl SnapshotBuilder {
         }
     }
 
+    /// Takes room for so many voters more than stand, so that adding them moves none; the places of
+    /// their accounts grow as they come. Contracts see no change, whatever the result. After
+    /// `NoMemory` voters are added one by one as before.
+    pub fn reserve(&mut self, voters: usize) -> Result<(), NoMemory>
+        ensures same { self.new ≡ self.old }
+    {
+        self.parts.reserve(voters)
+    }
+
     /// Adds a target behind those that stand.
     pub fn add_target(&mut self, who: AccountId) -> Result<(), SnapshotFault>
         ensures { Meets NoMemoryFault (target_fault self.old who)

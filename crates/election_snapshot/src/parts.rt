@@ -50,6 +50,14 @@ impl SnapshotParts {
         }
     }
 
+    /// Takes room for so many voters more than stand, so that adding them moves none. Contracts see
+    /// no change, whatever the result. After `NoMemory` voters are added one by one as before.
+    pub fn reserve(&mut self, voters: usize) -> Result<(), NoMemory>
+        ensures same { self.new ≡ self.old }
+    {
+        self.voters.reserve(voters)
+    }
+
     /// Adds a target behind those that stand, or tells its fault.
     pub fn add_target(&mut self, who: AccountId) -> Result<(), SnapshotFault>
         ensures { Meets NoMemoryFault (target_fault self.old who)
@@ -93,7 +101,7 @@ impl SnapshotParts {
         ensures ok { OnOk result (self.new ≡ with_voter self.old who stake votes.now) }
         ensures err { OnErr result (self.new ≡ self.old) }
     {
-        self.voters.take_room()?;
+        self.voters.reserve(1)?;
         self.voters.push_within(who, stake, votes);
         Ok(())
     }
@@ -114,7 +122,7 @@ impl SnapshotParts {
         ensures err { OnErr result ((self.new ≡ self.old) × (noted.new ≡ noted.old)) }
     {
         // The room comes first, since an account that is noted stays so.
-        self.voters.take_room()?;
+        self.voters.reserve(1)?;
         noted.put(who)?;
         self.voters.push_within(who, stake, votes);
         Ok(())

@@ -33,20 +33,20 @@ impl KeptVoters {
         }
     }
 
-    /// Takes room for one voter more in each list.
-    pub(crate) fn take_room(&mut self) -> Result<(), NoMemory>
-        ensures room { OnOk result (HasRoom self.new) }
+    /// Takes room for so many voters more in each list.
+    pub(crate) fn reserve(&mut self, voters: usize) -> Result<(), NoMemory>
+        ensures room { OnOk result (HasRoom self.new voters) }
         ensures same { AreSame self.old self.new }
     {
-        self.accounts.reserve(1)?;
-        self.stakes.reserve(1)?;
-        self.ballots.reserve(1)?;
+        self.accounts.reserve(voters)?;
+        self.stakes.reserve(voters)?;
+        self.ballots.reserve(voters)?;
         Ok(())
     }
 
     /// Appends a voter to lists with room.
     pub(crate) fn push_within(&mut self, who: AccountId, stake: u64, votes: &[u16])
-        requires room { HasRoom self.old }
+        requires room { HasRoom self.old 1 }
         requires few { length votes.now ≤ MOST_NOMINATIONS }
         requires fits { self.old.total + stake < 2 ^ 64 }
         ensures { HaveOneMore self.old self.new who stake votes.now }

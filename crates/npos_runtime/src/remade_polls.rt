@@ -74,6 +74,7 @@ fn snapshot_of(alloc: Global, seats: u32, row: &RoundRow) -> Result<Snapshot, No
     let targets = row.targets.as_slice();
     let mut builder = SnapshotBuilder::new(alloc);
     add_targets(&mut builder, targets)?;
+    builder.reserve(row.voters.len())?;
     add_voters(&mut builder, targets, row.voters.as_slice())?;
     match builder.finish(seats) {
         Ok(snapshot) => Ok(snapshot),

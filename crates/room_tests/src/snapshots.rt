@@ -1,5 +1,5 @@
 //! A snapshot of three targets and two voters, and each of its faults.
-use election_snapshot::{Snapshot, SnapshotBuilder, SnapshotFault};
+use election_snapshot::{Snapshot, SnapshotBuilder, SnapshotFault, SnapshotParts};
 use npos_base::AccountId;
 use std::alloc::Global;
 use std::test::Fail;
@@ -45,7 +45,10 @@ fn full(alloc: Global, targets: u16, voters: u16) -> Result<SnapshotBuilder, Sna
 
 #[test]
 fn a_snapshot_has_what_was_added(rt: HostRuntime) -> Result<(), Fail> {
-    let builder = two_voters(rt.alloc())?;
+    let mut builder = two_voters(rt.alloc())?;
+    let mut parts = SnapshotParts::new(rt.alloc());
+    assert_eq!(rt; parts.reserve(2), Ok(()));
+    assert_eq!(rt; builder.reserve(2), Ok(()));
     assert_eq!(rt; builder.position(at(3)), Some(2));
     let Ok(snapshot) = builder.finish(2) else {
         return Err(Fail::from("no snapshot"));
