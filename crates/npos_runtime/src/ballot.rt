@@ -64,6 +64,7 @@ fn add_voters(alloc: Global, parts: &mut SnapshotParts, chain: &Chain) -> Result
     ensures { OnOk result (parts.new ≡ ballot_of chain.now) }
 {
     let mut electorate = chain.roles.electorate(alloc)?;
+    parts.reserve(electorate.most_voters().min(MOST_VOTERS))?;
     let mut guess = 0;
     let mut votes = Vec::new(alloc);
     let mut voters = 0;

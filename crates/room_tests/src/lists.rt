@@ -128,6 +128,7 @@ fn votes_are_ranks_of_validators(rt: HostRuntime) -> Result<(), Fail> {
     roles.nominate(at(1), list_of(alloc, &[at(4)])?)?;
     roles.chill(at(2))?;
     let mut electorate = roles.electorate(alloc)?;
+    assert!(rt; electorate.most_voters() >= 4);
     let mut votes = Vec::new(alloc);
     let table: [(u8, &[u16]); 6] = [
         (3, &[1, 0]),

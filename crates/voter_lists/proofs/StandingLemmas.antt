@@ -1,5 +1,5 @@
 -- Standings that stand at places are standings by account.
-use Rattle.std.proofs.Common.{◌≡◌, ◌∙◌, ℕ, ◌<◌, Bool, true, false, cond, List, [], ◌∷◌, ◌++◌, length, get_or, slice_get, slice_set, Option, Some, None, is_some, refl, ap, ap₂, sym, subst, arith, true≢false, get_or-set_same, get_or-set_other}
+use Rattle.std.proofs.Common.{◌≡◌, ◌∙◌, ℕ, suc, ◌<◌, ◌≤◌, Bool, true, false, cond, List, [], ◌∷◌, ◌++◌, length, get_or, slice_get, slice_set, Option, Some, None, is_some, refl, ap, ap₂, sym, subst, arith, true≢false, get_or-set_same, get_or-set_other}
 use Rattle.std.specs.BTreeMap.{insert_entry, is_at}
 use Rattle.std.specs.List.{AllByRecursion}
 use Rattle.std.specs.List.Sorted.{IsStrictlySortedBy}
@@ -42,6 +42,14 @@ standing_placed standings (first ∷ later) who ordered =
       at true e (Some standing) is rest = rw e (sym is)
       at false e None is rest = rest
       at false e (Some standing) is rest = rw e rest
+
+-- no more accounts have a standing than have a place
+pub few_placed : (standings : List (Option Standing)) (places : List (AccountId × ℕ)) → length (standings_placed standings places) ≤ length places
+few_placed standings [] = omega (arith)
+few_placed standings (first ∷ later) = at (get_or standings first.1 None) (few_placed standings later) where
+  at : (o : Option Standing) → length (standings_placed standings later) ≤ length later → length (with_some first.0 o (standings_placed standings later)) ≤ suc (length later)
+  at None few = omega (arith, few)
+  at (Some standing) few = omega (arith, few)
 
 -- accounts that have a standing are in order
 placed_all : (P : AccountId → Type 0) (standings : List (Option Standing)) (places : List (AccountId × ℕ)) → AllByRecursion P (keys_of places) → AllByRecursion P (keys_of (standings_placed standings places))

@@ -1,5 +1,5 @@
 //! The votes of accounts.
-ghost use Rattle.std.specs.Prelude.{◌≡◌, IfOk, OnOk};
+ghost use Rattle.std.specs.Prelude.{◌≡◌, ◌≤◌, length, IfOk, OnOk};
 ghost use Rattle.voter_lists.specs.Ranked.{AreRanked};
 ghost use Rattle.voter_lists.specs.Votes.{votes_of};
 
@@ -41,6 +41,13 @@ impl<'a> Electorate<'a> {
     {
         let ranking = Ranking::new(alloc, standings, validators)?;
         Ok(Electorate { ranking, guess: 0 })
+    }
+
+    /// At least as many accounts as have a role, for whoever takes room for all that vote.
+    pub fn most_voters(&self) -> usize
+        ensures { length self.now ≤ result }
+    {
+        self.ranking.standings.count()
     }
 
     /// Writes whom the account votes for, as ranks among the validators by rising account, in the

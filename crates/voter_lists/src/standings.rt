@@ -1,5 +1,5 @@
 //! What is kept of each account that has a role.
-ghost use Rattle.std.specs.Prelude.{◌≡◌, ◌<◌, [], false, Some, None, IfOk, IfNone, OnOk, OnErr, is_some, length, slice_get};
+ghost use Rattle.std.specs.Prelude.{◌≡◌, ◌<◌, ◌≤◌, [], false, Some, None, IfOk, IfNone, OnOk, OnErr, is_some, length, slice_get};
 ghost use Rattle.std.specs.Option.{option_copied};
 ghost use Rattle.npos_base.specs.declared.account.AccountId.{AccountId};
 ghost use Rattle.account_places.specs.Places.{place_in, by_account, Stand};
@@ -50,9 +50,10 @@ impl Standings {
         }
     }
 
-    /// How many accounts have a place.
+    /// How many accounts have a place: at least as many as have a standing.
     pub(crate) fn count(&self) -> usize
-        ensures { result ≡ length self.now.accounts }
+        ensures count { result ≡ length self.now.accounts }
+        ensures most { length self.now.roles ≤ result }
     {
         self.places.count()
     }

@@ -6,11 +6,13 @@ use Rattle.npos_runtime.proofs.ballot.add_voters.Goals as goal
 use Rattle.npos_runtime.proofs.ballot.add_voters.Goals.{else-loop-voters-test, then-loop-voters-test+in_default}
 
 pub loop-voters-init : goal.loop-voters-init
-loop-voters-init c = record {
-  polled = polled_first c.args.chain.now c.args.parts.now c.walk-walk.result c.requires.live c.requires.empty c.walk-walk.ensures.accounts;
-  roles = c.in_ok-electorate.ensures;
-  counted = sym (ap (λ (draft : Draft). length draft.voters) c.requires.empty);
-}
+loop-voters-init c =
+    let empty = c.reserve.ensures.same ∙ c.requires.empty in
+    record {
+      polled = polled_first c.args.chain.now c.reserve.new.self c.walk-walk.result c.requires.live empty c.walk-walk.ensures.accounts;
+      roles = c.in_ok-electorate.ensures;
+      counted = sym (ap (λ (draft : Draft). length draft.voters) empty);
+    }
 
 pub loop-voters-preserved-then-branch : goal.loop-voters-preserved-then-branch
 loop-voters-preserved-then-branch c = record {
