@@ -1,6 +1,7 @@
 //! How accounts are found among many: by slots, as in a hash table, and in order where they crowd
 //! the slots.
-ghost use Rattle.std.specs.Prelude.{◌≡◌, ◌≢◌, ◌+◌, ◌^◌, ◌<◌, ℕ, List, length, true, Some, IfOk, IfSome, IfNone, OnOk, OnErr, slice_get};
+ghost use Rattle.std.specs.Prelude.{◌≡◌, ◌≢◌, ◌+◌, ◌^◌, ◌<◌, ◌≤◌, ℕ, List, length, true, Some, IfOk, IfSome, IfNone, OnOk, OnErr, slice_get, vec_len};
+ghost use Rattle.std.specs.Vec.{vec_capacity};
 ghost use Rattle.npos_base.specs.declared.account.AccountId.{AccountId};
 ghost use Rattle.account_places.specs.Index.{mixed, slot_in, mark_at, IsFree, AreTaken, Finds, StandOnce};
 
@@ -165,6 +166,25 @@ impl Index {
             }
         }
         self.crowd.get(&who).copied()
+    }
+
+    /// What the account's first slot says: the place of whoever came first to it, or a number
+    /// beyond all places where nobody did.
+    fn guess(&self, who: AccountId) -> u32 {
+        match self.slots.get(slot_of(who, self.count)) {
+            Some(mark) => mark.wrapping_sub(1),
+            None => u32::MAX,
+        }
+    }
+
+    /// Appends the guess for each of these accounts. No read waits for another here.
+    pub(crate) fn guess_each(&self, accounts: &[AccountId], guesses: &mut Vec<u32>)
+        requires { vec_len guesses.old + length accounts.now ≤ vec_capacity guesses.old }
+        ensures { length guesses.new.items ≡ length guesses.old.items + length accounts.now }
+    {
+        for account in accounts {
+            guesses.push_reserved(self.guess(*account));
+        }
     }
 
     /// How many slots there should be for one account more than so many, where there are too few.

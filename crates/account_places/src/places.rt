@@ -1,5 +1,5 @@
 //! Where accounts stand: each account that comes has the next place.
-ghost use Rattle.std.specs.Prelude.{◌≡◌, ◌<◌, ◌^◌, [], ◌∷◌, ◌++◌, None, Some, OnErr, OnOk, IfOk, length, slice_get, count_by};
+ghost use Rattle.std.specs.Prelude.{◌≡◌, ◌+◌, ◌<◌, ◌^◌, [], ◌∷◌, ◌++◌, None, Some, OnErr, OnOk, IfOk, length, slice_get, count_by};
 ghost use Rattle.std.specs.Map.{keys_of};
 ghost use Rattle.std.specs.Ordering.{is_lt};
 ghost use Rattle.std.specs.BTreeMap.{insert_entry};
@@ -66,6 +66,19 @@ impl Places {
             return Some(guess);
         }
         self.find(who)
+    }
+
+    /// Appends for each of these accounts what its first slot says: the place of whoever came first
+    /// to it, or `u32::MAX` where nobody did. It is a guess for `find_from`, and nothing rests on
+    /// it. The slots of all are read before the first account is compared, so memory is waited
+    /// for once and not account by account.
+    pub fn guess_each(&self, accounts: &[AccountId], guesses: &mut Vec<u32>) -> Result<(), NoMemory>
+        ensures { OnOk result (length guesses.new.items
+            ≡ length guesses.old.items + length accounts.now) }
+    {
+        guesses.reserve(accounts.len())?;
+        self.index.guess_each(accounts, guesses);
+        Ok(())
     }
 
     /// How many accounts have a place: fewer than memory has bytes.

@@ -52,6 +52,9 @@ fn accounts_are_found_where_they_came(rt: HostRuntime) -> Result<(), Fail> {
     for apart in [0, 1, 3 << 40, 0x9e37_79b9_7f4a_7c15, 0xffff_ffff_ffff_ffff] {
         let places = crowd(rt.alloc(), 5000, apart)?;
         assert!(rt; are_found(&places, 5000, apart));
+        let mut guesses = Vec::new(rt.alloc());
+        places.guess_each(&[nth(0, apart), nth(5000, apart)], &mut guesses)?;
+        assert_eq!(rt; guesses.len(), 2);
     }
     Ok(())
 }

@@ -130,25 +130,35 @@ impl Standings {
         self.row(mark as usize).is_validator()
     }
 
-    /// The mark of an account.
-    fn mark(&self, who: AccountId) -> u32
+    /// The mark of an account, which may stand at the place that is guessed.
+    fn mark_from(&self, guess: u32, who: AccountId) -> u32
         ensures { IsMark self.now.accounts result who }
     {
-        match self.places.find(who) {
+        match self.places.find_from(guess as usize, who) {
             Some(place) => mark_of(place),
             None => UNKNOWN,
         }
     }
 
-    /// The marks of these accounts. Each is found once.
+    /// Puts the mark of each of these accounts in place of its guess.
+    fn put_marks(&self, targets: &[AccountId], marks: &mut [u32])
+        requires { length marks.old ≡ length targets.now }
+        ensures { AreMarks self.now.accounts marks.new targets.now }
+    {
+        for (i, target) in targets.iter().enumerate() {
+            marks[i] = self.mark_from(marks[i], *target);
+        }
+    }
+
+    /// The marks of these accounts. Each is found once. Where they may stand is guessed for all
+    /// before the first is looked at, so the guesses do not wait for the accounts.
     pub(crate) fn marks_of(&self, targets: &[AccountId]) -> Result<List<u32>, NoMemory>
         ensures marks { IfOk result (λ marks. AreMarks self.now.accounts marks targets.now) }
         ensures alike { IfOk result (λ marks. RepeatAlike marks targets.now) }
     {
         let mut marks = Vec::with_capacity(self.alloc, targets.len())?;
-        for target in targets {
-            marks.push(self.mark(*target))?;
-        }
+        self.places.guess_each(targets, &mut marks)?;
+        self.put_marks(targets, marks.as_mut_slice());
         Ok(List::from_vec(marks))
     }
 
