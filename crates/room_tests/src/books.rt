@@ -348,7 +348,7 @@ static MADE: [(&[Made], (u64, u64, u64), &str); 12] = [
             ..BARE
         }],
         (56, 0, 0),
-        "row 0",
+        "bad at 0",
     ),
     (
         &[Made {
@@ -358,7 +358,7 @@ static MADE: [(&[Made], (u64, u64, u64), &str); 12] = [
             ..BARE
         }],
         (33, 0, 0),
-        "row 0",
+        "bad at 0",
     ),
     (
         &[Made {
@@ -368,12 +368,12 @@ static MADE: [(&[Made], (u64, u64, u64), &str); 12] = [
             ..BARE
         }],
         (23, 0, 0),
-        "row 0",
+        "bad at 0",
     ),
     (
         &[Made { who: 2, ..BARE }, Made { who: 2, ..BARE }],
         (46, 0, 0),
-        "row 1",
+        "bad at 1",
     ),
     (
         &[
@@ -386,7 +386,7 @@ static MADE: [(&[Made], (u64, u64, u64), &str); 12] = [
             },
         ],
         (0, 0, 0),
-        "row 1",
+        "bad at 1",
     ),
     (&[Made { who: 2, ..BARE }], (20, 4, 0), "sum"),
     (
@@ -464,7 +464,7 @@ fn told_of_rows(alloc: Global, made: &[Made], sums: (u64, u64, u64)) -> Result<S
     let mut text = String::new(alloc);
     match Book::from_rows(alloc, rows, sums.0, sums.1, sums.2) {
         Ok(book) => tell(alloc, &book, &mut text)?,
-        Err(RowsFault::BadRow(place)) => write!(text, "row {place}")?,
+        Err(RowsFault::BadRow(place)) => write!(text, "bad at {place}")?,
         Err(RowsFault::BadSum) => write!(text, "sum")?,
         Err(RowsFault::NoMemory) => write!(text, "no memory")?,
     }
