@@ -1,9 +1,10 @@
 -- The search for the height of a level.
-use Rattle.std.proofs.Common.{◌≡◌, ℕ, zero, suc, ◌+◌, ◌*◌, ◌/◌, ◌<◌, ◌≤◌, List, [], ◌∷◌, length, sum, get_or, All, inl, inr, refl, ap, sym, arith}
+use Rattle.std.proofs.Common.{◌≡◌, ℕ, zero, suc, ◌+◌, ◌*◌, ◌/◌, ◌<◌, ◌≤◌, Bool, true, false, nat_le, List, [], ◌∷◌, length, filter, map, sum, get_or, All, inl, inr, refl, ap, sym, ◌∙◌, arith}
 use Rattle.std.proofs.Math.Nat.{mul-suc, mul-div-le, mul_comm, mul-add, div-add-mod, div-lt_iff_lt-mul}
 use Rattle.std.proofs.lemmas.Nat.{mod_below}
 use Rattle.std.proofs.lemmas.List.Elements.{All-head, All-tail, All-map}
-use Rattle.std.proofs.lemmas.Bool.{cases_lt}
+use Rattle.std.proofs.lemmas.Bool.{cases_lt, cases_Bool}
+use Rattle.std.proofs.lemmas.List.{map-id, length-map}
 use Rattle.npos_base.specs.declared.figures.Edge.{Edge}
 use Rattle.support_balance.specs.Levels.{low, IsLevel, bases, base_of}
 use Rattle.support_balance.specs.Rows.{IsRow}
@@ -30,20 +31,26 @@ low_is_low most height (x ∷ xs) out below = elim (cases_lt most x) [
       (ap (λ ys. x ∷ ys) (low_is_low most height xs (All-tail (λ x. most < x → height < x) x xs out) (All-tail (λ x. x ≤ height) x (low most xs) both)))
 ]
 
--- what a lower most leaves out lies above it
-dropped : (most height : ℕ) (xs : List ℕ) → All (λ x. most < x → height < x) xs
-    → sum (low height xs) + (height + 1) * length (low most xs) ≤ sum (low most xs) + (height + 1) * length (low height xs)
-dropped most height [] out = omega arith
-dropped most height (x ∷ xs) out =
-    let rest = dropped most height xs (All-tail (λ x. most < x → height < x) x xs out) in
-    let more : (height + 1) * length (x ∷ low most xs) ≡ (height + 1) * length (low most xs) + (height + 1) = mul-suc (height + 1) (length (low most xs)) in
-    elim (cases_lt most x) [
-      | inl l ↦ rw (low_none most x xs l, low_none height x xs (All-head (λ x. most < x → height < x) x xs out l)) rest
-      | inr l ↦ elim (cases_lt height x) [
-        | inl m ↦ rw (low_some most x xs l, low_none height x xs m) (omega (arith, rest, m, more, longer x (low most xs)))
-        | inr m ↦
-            let other : (height + 1) * length (x ∷ low height xs) ≡ (height + 1) * length (low height xs) + (height + 1) = mul-suc (height + 1) (length (low height xs)) in
-            rw (low_some most x xs l, low_some height x xs m) (omega (arith, rest, more, other, longer x (low most xs), longer x (low height xs)))
+-- Any part of the numbers, against those up to a height: what else it has lies above the height, and what it lacks does not.
+part_above : {X : Type 0} (value : X → ℕ) (picks : X → Bool) (height : ℕ) (xs : List X)
+    → sum (low height (map value xs)) + (height + 1) * length (filter picks xs)
+    ≤ sum (map value (filter picks xs)) + (height + 1) * length (low height (map value xs))
+part_above value picks height [] = omega arith
+part_above value picks height (x ∷ xs) =
+    let rest = part_above value picks height xs in
+    let picked = filter picks xs in
+    let lower = low height (map value xs) in
+    let one_more : (height + 1) * length (x ∷ picked) ≡ (height + 1) * length picked + (height + 1) = mul-suc (height + 1) (length picked) in
+    let one_lower : (height + 1) * length (value x ∷ lower) ≡ (height + 1) * length lower + (height + 1) = mul-suc (height + 1) (length lower) in
+    elim (cases_Bool (picks x)) [
+      | inl t ↦ elim (cases_lt height (value x)) [
+        | inl m ↦ rw (t, low_none height (value x) (map value xs) m) (omega (arith, rest, m, one_more, longer (value x) (map value picked)))
+        | inr m ↦ rw (t, low_some height (value x) (map value xs) m)
+            (omega (arith, rest, one_more, one_lower, longer (value x) (map value picked), longer (value x) lower))
+      ]
+      | inr f ↦ elim (cases_lt height (value x)) [
+        | inl m ↦ rw (f, low_none height (value x) (map value xs) m) rest
+        | inr m ↦ rw (f, low_some height (value x) (map value xs) m) (omega (arith, rest, m, one_lower, longer (value x) lower))
       ]
     ]
 
@@ -61,30 +68,78 @@ level_at stake xs most total count highest height above pool end e =
       part = rw (sym same, sym pool.count_is) (omega (arith, e, less', mul_comm (height + 1) count, mul-add count height 1, mul_comm count height));
     }
 
+-- so high that those up to it, with the stake, do not reach a unit above it
+abbrev pub IsBound : ℕ → List ℕ → ℕ → Type 0
+IsBound stake xs bound = stake + sum (low bound xs) < (bound + 1) * length (low bound xs)
+
+-- as is what any part of them would be raised to
+pub part_bound : {X : Type 0} (value : X → ℕ) (picks : X → Bool) (stake : ℕ) (xs : List X) (total count : ℕ)
+    → total ≡ sum (map value (filter picks xs)) → count ≡ length (filter picks xs) → 1 ≤ count → IsBound stake (map value xs) ((stake + total) / count)
+part_bound value picks stake xs total count t c some =
+    let (_, less) = quotient (stake + total) count some in
+    omega (arith, less, above ((stake + total) / count))
+  where
+    above : (height : ℕ) → sum (low height (map value xs)) + (height + 1) * count ≤ total + (height + 1) * length (low height (map value xs))
+    above height = rw (t, c) (part_above value picks height xs)
+
+-- the pool of a bound
+pub bounded_pool : (stake : ℕ) (xs : List ℕ) (bound : ℕ) → IsBound stake xs bound
+    → (total count highest : ℕ) → total ≡ sum (low bound xs) → count ≡ length (low bound xs) → All (λ x. x ≤ highest) (low bound xs)
+    → IsPool stake xs bound total count highest ((stake + total) / count)
+bounded_pool stake xs bound is total count highest t c b =
+    record { total_is = t; count_is = c; below = b; some = some; height_is = refl; outside = λ k d l m. omega (arith, m, no_higher) }
+  where
+    less : stake + total < (bound + 1) * count
+    less = rw (t, c) is
+
+    some : 1 ≤ count
+    some = positive count less where
+      positive : (n : ℕ) → stake + total < (bound + 1) * n → 1 ≤ n
+      positive zero l = absurd (omega (arith, l))
+      positive (suc n) l = omega arith
+
+    no_higher : (stake + total) / count ≤ bound
+    no_higher = omega (arith, lower)
+      where
+        lower : (stake + total) / count < bound + 1
+        lower = (div-lt_iff_lt-mul {k = count} {x = stake + total} {y = bound + 1} (omega (arith, some))).1 less
+
 -- the next pool, of what is up to the height
 pub next_pool : (stake : ℕ) (xs : List ℕ) (most total count highest height : ℕ) → IsPool stake xs most total count highest height
     → (total' count' highest' : ℕ) → total' ≡ sum (low height xs) → count' ≡ length (low height xs) → All (λ x. x ≤ highest') (low height xs)
     → IsPool stake xs height total' count' highest' ((stake + total') / count')
-next_pool stake xs most total count highest height pool total' count' highest' t c b =
-    record { total_is = t; count_is = c; below = b; some = some; height_is = refl; outside = λ k d l m. omega (arith, m, no_higher) }
+next_pool stake xs most total count highest height pool = bounded_pool stake xs height (rw (sym pool.height_is) at bound)
   where
-    less : stake + total < (height + 1) * count
-    less = let (_, q) = quotient (stake + total) count pool.some in rw (sym pool.height_is) at q
+    bound : IsBound stake xs ((stake + total) / count)
+    bound = rw (map-id xs) at (part_bound (λ x. x) (λ x. nat_le x most) stake xs total count
+        (pool.total_is ∙ ap (λ (ys : List ℕ). sum ys) (sym (map-id (low most xs)))) pool.count_is pool.some)
 
-    fewer : total' + (height + 1) * count ≤ total + (height + 1) * count'
-    fewer = rw (t, c, pool.total_is, pool.count_is) (dropped most height xs pool.outside)
+-- a part that is those up to a height
+part_low : {X : Type 0} (value : X → ℕ) (picks : X → Bool) (height : ℕ) (xs : List X) → All (λ x. picks x ≡ true → value x ≤ height) xs
+    → All (λ x. picks x ≡ false → height < value x) xs → low height (map value xs) ≡ map value (filter picks xs)
+part_low value picks height [] picked others = refl
+part_low value picks height (x ∷ xs) picked others =
+    let rest = part_low value picks height xs (All-tail (λ x. picks x ≡ true → value x ≤ height) x xs picked)
+    (All-tail (λ x. picks x ≡ false → height < value x) x xs others) in
+    elim (cases_Bool (picks x)) [
+      | inl t ↦ rw (t, low_some height (value x) (map value xs) (All-head (λ x. picks x ≡ true → value x ≤ height) x xs picked t)) (ap (λ ys. value x ∷ ys) rest)
+      | inr f ↦ rw (f, low_none height (value x) (map value xs) (All-head (λ x. picks x ≡ false → height < value x) x xs others f)) rest
+    ]
 
-    some : 1 ≤ count'
-    some = positive count' (omega (arith, fewer, less)) where
-      positive : (n : ℕ) → stake + total' < (height + 1) * n → 1 ≤ n
-      positive zero l = absurd (omega (arith, l))
-      positive (suc n) l = omega arith
-
-    no_higher : (stake + total') / count' ≤ height
-    no_higher = omega (arith, lower)
-      where
-        lower : (stake + total') / count' < height + 1
-        lower = (div-lt_iff_lt-mul {k = count'} {x = stake + total'} {y = height + 1} (omega (arith, some))).1 (omega (arith, fewer, less))
+-- the level of such a part
+pub part_level : {X : Type 0} (value : X → ℕ) (picks : X → Bool) (stake : ℕ) (xs : List X) (total count above : ℕ)
+    → total ≡ sum (map value (filter picks xs)) → count ≡ length (filter picks xs) → 1 ≤ count
+    → All (λ x. picks x ≡ true → value x ≤ (stake + total) / count) xs → All (λ x. picks x ≡ false → (stake + total) / count < value x) xs
+    → above + (stake + total) / count * count ≡ stake + total → IsLevel stake (map value xs) ((stake + total) / count) above
+part_level value picks stake xs total count above t c some picked others e =
+    let height = (stake + total) / count in
+    let same = part_low value picks height xs picked others in
+    let count_is : length (map value (filter picks xs)) ≡ count = length-map (filter picks xs) value ∙ sym c in
+    let (_, less) = quotient (stake + total) count some in
+    record {
+      volume = rw (same, sym t, count_is) (omega (arith, e));
+      part = rw (same, count_is) (omega (arith, e, less, mul_comm (height + 1) count, mul-add count height 1, mul_comm count height));
+    }
 
 low_all : (most : ℕ) (xs : List ℕ) → All (λ x. x ≤ most) xs → low most xs ≡ xs
 low_all most [] all = refl

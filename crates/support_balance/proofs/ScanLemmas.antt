@@ -1,8 +1,13 @@
--- The pass that asks whether a row is level already.
-use Rattle.std.proofs.Common.{◌≡◌, ℕ, ◌+◌, ◌<◌, ◌≤◌, ◌⊎◌, List, length, get_or, inl, inr, ap, sym, subst, arith}
-use Rattle.std.proofs.lemmas.Bool.{cases_lt}
+-- The passes over a row: one asks whether it is level already, one takes those to whom it gives something.
+use Rattle.std.proofs.Common.{◌≡◌, ℕ, ◌+◌, ◌<◌, ◌≤◌, ◌⊎◌, nat_lt, List, [], ◌∷◌, ◌++◌, length, take, sum, get_or, inl, inr, refl, ap, sym, subst, ◌∙◌, arith}
+use Rattle.std.proofs.lemmas.Bool.{cases_lt, lt-ltb, le-ltb}
+use Rattle.std.proofs.lemmas.List.{append-nil}
+use Rattle.std.proofs.lemmas.List.Elements.{filter_more}
+use Rattle.std.proofs.lemmas.Grind.{common_steps}
 use Rattle.npos_base.specs.declared.figures.Edge.{Edge}
 use Rattle.weight_book.specs.Weights.{amount_sum}
+use Rattle.support_balance.specs.Backing.{above_zero}
+use Rattle.support_balance.specs.Levels.{base_of, bases}
 use Rattle.support_balance.specs.Rows.{at, IsRow, IsEven}
 
 -- the least support of the first edges, with the first target that has it
@@ -15,6 +20,14 @@ pub record IsLeast (supports : List ℕ) (row : List Edge) (i least least_at : �
 pub record IsTop (supports : List ℕ) (row : List Edge) (i top top_at : ℕ) : Type 0 where
   pub above : (k : ℕ) (d : Edge) → k < i → k < length row → 0 < (get_or row k d).amount → at supports (get_or row k d).target ≤ top
   pub last : (k : ℕ) (d : Edge) → k < i → k < length row → 0 < (get_or row k d).amount → at supports (get_or row k d).target ≡ top → (get_or row k d).target ≤ top_at
+
+-- those of the first edges that give something, and the least base of the others
+pub record IsBacked (supports : List ℕ) (row : List Edge) (i total count highest others : ℕ) : Type 0 where
+  pub total_is : total ≡ sum (bases supports (above_zero (take i row)))
+  pub count_is : count ≡ length (above_zero (take i row))
+  pub below : (k : ℕ) (d : Edge) → k < i → k < length row → 0 < (get_or row k d).amount → base_of supports (get_or row k d) ≤ highest
+  pub beyond : (k : ℕ) (d : Edge) → k < i → k < length row → (get_or row k d).amount ≡ 0 → others ≤ base_of supports (get_or row k d)
+  pub few : count ≤ i
 
 module _ (supports : List ℕ) (row : List Edge) (sound : IsRow supports row) (i : ℕ) (edge : Edge) (h : i < length row) (is : (d : Edge) → edge ≡ get_or row i d) where
   pub least_taken : (least least_at : ℕ) → IsLeast supports row i least least_at → at supports edge.target < least
@@ -87,6 +100,47 @@ module _ (supports : List ℕ) (row : List Edge) (sound : IsRow supports row) (i
 
     here : (k : ℕ) (d : Edge) → k ≡ i → (P : ℕ → Type 0) → P edge.target → P (get_or row k d).target
     here k d e P p = subst (λ n. P (get_or row n d).target) (sym e) (subst (λ (x : Edge). P x.target) (is d) p)
+
+module _ (supports : List ℕ) (row : List Edge) (i : ℕ) (edge : Edge) (h : i < length row) (is : (d : Edge) → edge ≡ get_or row i d)
+    (total count highest others : ℕ) (so : IsBacked supports row i total count highest others) where
+  here : (k : ℕ) (d : Edge) → k < i + 1 → i ≤ k → (P : Edge → Type 0) → P edge → P (get_or row k d)
+  here k d a c P p = subst (λ n. P (get_or row n d)) (omega (arith, a, c)) (subst P (is d) p)
+
+  pub backed_taken : (higher : ℕ) → 0 < edge.amount → highest ≤ higher → base_of supports edge ≤ higher
+      → IsBacked supports row (i + 1) (total + base_of supports edge) (count + 1) higher others
+  backed_taken higher some above own = record {
+    total_is = rw (more, so.total_is) (grind (arith, common_steps));
+    count_is = rw (more, so.count_is) (grind (arith, common_steps));
+    below = λ k d a b p. elim (cases_lt k i) [
+      | inl c ↦ omega (arith, so.below k d c b p, above)
+      | inr c ↦ here k d a c (λ e. base_of supports e ≤ higher) own
+    ];
+    beyond = λ k d a b p. elim (cases_lt k i) [
+      | inl c ↦ so.beyond k d c b p
+      | inr c ↦ absurd (omega (arith, p, here k d a c (λ e. 0 < e.amount) some))
+    ];
+    few = omega (arith, so.few);
+  } where
+    more : above_zero (take (i + 1) row) ≡ above_zero (take i row) ++ (edge ∷ [])
+    more = filter_more (λ (e : Edge). nat_lt 0 e.amount) row i edge h ∙ rw (sym (is edge), lt-ltb 0 edge.amount some) refl
+
+  pub backed_kept : (least : ℕ) → edge.amount ≡ 0 → least ≤ others → least ≤ base_of supports edge
+      → IsBacked supports row (i + 1) total count highest least
+  backed_kept least none below own = record {
+    total_is = rw more so.total_is;
+    count_is = rw more so.count_is;
+    below = λ k d a b p. elim (cases_lt k i) [
+      | inl c ↦ so.below k d c b p
+      | inr c ↦ absurd (omega (arith, p, here k d a c (λ e. e.amount ≡ 0) none))
+    ];
+    beyond = λ k d a b p. elim (cases_lt k i) [
+      | inl c ↦ omega (arith, so.beyond k d c b p, below)
+      | inr c ↦ here k d a c (λ e. least ≤ base_of supports e) own
+    ];
+    few = omega (arith, so.few);
+  } where
+    more : above_zero (take (i + 1) row) ≡ above_zero (take i row)
+    more = filter_more (λ (e : Edge). nat_lt 0 e.amount) row i edge h ∙ rw (sym (is edge), le-ltb 0 edge.amount (omega (arith, none))) (append-nil (above_zero (take i row)))
 
 -- a row is level where its top is not above its least, or a unit above and before it
 pub level_found : (stake : ℕ) (supports : List ℕ) (row : List Edge) (least least_at top top_at : ℕ)

@@ -1,7 +1,7 @@
 use Rattle.std.proofs.Common.{ℕ, ◌*◌, ◌^◌, ◌≤◌}
 use Rattle.support_balance.specs.Levels.{bases}
 use Rattle.support_balance.proofs.PoolLemmas.{IsPool}
-use Rattle.support_balance.proofs.turn.level_of.Given as goal
+use Rattle.support_balance.proofs.turn.wide_level.Given as goal
 
 -- the pool of some cap, and the height that it would be raised to, not above what it leaves out
 abbrev pub invariant-loop-height : goal.invariant-loop-height

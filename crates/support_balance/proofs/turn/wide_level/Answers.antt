@@ -2,10 +2,10 @@ use Rattle.std.proofs.Common.{arith}
 use Rattle.std.proofs.lemmas.List.{length-map}
 use Rattle.support_balance.proofs.PoolLemmas.{first_pool, next_pool, level_at, height_fits, bases_small}
 use Rattle.support_balance.specs.Levels.{bases, base_of}
-use Rattle.support_balance.proofs.turn.level_of.Goals as goal
+use Rattle.support_balance.proofs.turn.wide_level.Goals as goal
 
-pub quotient-height-requires : goal.quotient-height-requires
-quotient-height-requires c =
+pub nonzero_div-height : goal.nonzero_div-height
+nonzero_div-height c =
     let xs = bases c.args.supports.now c.args.row.now in
     let first = first_pool c.args.stake xs _ c.pool_within-pool.result.sum c.pool_within-pool.result.count c.pool_within-pool.result.highest
     (omega (arith, c.requires.some, length-map c.args.row.now (base_of c.args.supports.now))) (bases_small c.args.supports.now c.args.row.now c.requires.row) c.pool_within-pool.ensures.sum c.pool_within-pool.ensures.count c.pool_within-pool.ensures.highest in
@@ -16,10 +16,10 @@ loop-height-init c =
     let xs = bases c.args.supports.now c.args.row.now in
     let first = first_pool c.args.stake xs _ c.pool_within-pool.result.sum c.pool_within-pool.result.count c.pool_within-pool.result.highest
     (omega (arith, c.requires.some, length-map c.args.row.now (base_of c.args.supports.now))) (bases_small c.args.supports.now c.args.row.now c.requires.row) c.pool_within-pool.ensures.sum c.pool_within-pool.ensures.count c.pool_within-pool.ensures.highest in
-    (340282366920938463463374607431768211455, rw (c.quotient-height.ensures, c.from.ensures) first, c.pool_within-pool.ensures.small, omega (arith, c.pool_within-pool.ensures.few, c.requires.row.few))
+    (340282366920938463463374607431768211455, rw c.from.ensures first, c.pool_within-pool.ensures.small, omega (arith, c.pool_within-pool.ensures.few, c.requires.row.few))
 
-pub quotient-height-requires-in-loop-height : goal.quotient-height-requires-in-loop-height
-quotient-height-requires-in-loop-height c =
+pub nonzero_div-height-in-loop-height : goal.nonzero_div-height-in-loop-height
+nonzero_div-height-in-loop-height c =
     let pool = c.pool_within-pool-in-loop-height in
     let next = next_pool c.args.stake (bases c.args.supports.now c.args.row.now) _ _ _ _ _ c.loop-height.invariant.1
     pool.result.sum pool.result.count pool.result.highest pool.ensures.sum pool.ensures.count pool.ensures.highest in
@@ -30,7 +30,7 @@ loop-height-preserved c =
     let pool = c.pool_within-pool-in-loop-height in
     let next = next_pool c.args.stake (bases c.args.supports.now c.args.row.now) _ _ _ _ _ c.loop-height.invariant.1
     pool.result.sum pool.result.count pool.result.highest pool.ensures.sum pool.ensures.count pool.ensures.highest in
-    (c.loop-height.height, rw (c.quotient-height-in-loop-height.ensures, c.from-in-loop-height.ensures) next, pool.ensures.small, omega (arith, pool.ensures.few, c.requires.row.few))
+    (c.loop-height.height, rw c.from-in-loop-height.ensures next, pool.ensures.small, omega (arith, pool.ensures.few, c.requires.row.few))
 
 pub overflow_add-above : goal.overflow_add-above
 overflow_add-above c = omega (arith, c.loop-height.invariant.2, c.loop-height.invariant.3, c.from-2.ensures, c.ranges.stake)
