@@ -219,18 +219,6 @@ row_joined snapshot target edges up fits voter done joined so fresh place ahead 
         | inr same ↦ subst (λ n. IsBefore (slot_of voter target) (get_or edges n d)) (omega (arith, same, b)) first
       ]
 
-pub none_joined : (snapshot : Snapshot) (target : ℕ) (edges : List Edge) → IsJoining snapshot target edges 0 0 []
-none_joined snapshot target edges = record {
-  rising = λ i j d a b. absurd (omega (arith, b));
-  ahead = λ i k d a b h. absurd (omega (arith, a));
-  all = λ k d h l. absurd (omega (arith, h));
-  new = λ other h n. absurd (omega (arith, h));
-  only = All-nil (IsOldOrNew snapshot target edges);
-  same = λ other spot. refl;
-  small = All-nil (λ (e : Edge). e.amount < 2 ^ 64);
-  inside = omega arith;
-}
-
 pub end_joined : (snapshot : Snapshot) (target : ℕ) (edges : List Edge) → AllPairs IsBefore edges → All (λ (e : Edge). e.amount < 2 ^ 64) edges
     → (voter done : ℕ) (joined : List Edge) → length snapshot.voters ≤ voter → IsJoining snapshot target edges voter done joined
     → IsJoined snapshot target edges (joined ++ take (length edges - done) (drop done edges))

@@ -228,13 +228,3 @@ all_laid marks slots edges i at laid so end = record {
         absurd (true≢false (sym (so.ahead at d (omega arith) l) ∙ ap (λ es. has_pair (marked marks es) (get_or edges at d)) (drop_all i slots end)))
     | inr l ↦ l
   ]
-
-pub none_laid : (marks : ℕ → Bool) (slots edges : List Edge) → All (λ (e : Edge). has_pair (marked marks slots) e ≡ true) edges → IsLaying marks slots edges 0 0 []
-none_laid marks slots edges along = record {
-  alike = record { count = refl; voters = λ k d h. absurd (omega arith); targets = λ k d h. absurd (omega arith) };
-  same = λ voter target. refl;
-  sums = λ target. refl;
-  small = All-nil (λ (e : Edge). e.amount < 2 ^ 64);
-  inside = omega arith;
-  ahead = λ k d _ h. along k d h;
-}

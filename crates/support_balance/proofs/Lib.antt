@@ -18,6 +18,7 @@ pub mod SlotLemmas
 pub mod SpanLemmas
 pub mod SpendLemmas
 pub mod SplitLemmas
+pub mod SpreadLemmas
 pub mod SquareLemmas
 pub mod TurnLemmas
 pub mod UniqueLemmas

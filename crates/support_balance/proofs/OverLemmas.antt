@@ -83,9 +83,6 @@ module _ (snapshot : Snapshot) (formed : IsWellFormed snapshot) (weights : Weigh
       marked_has (λ t. slice_index_or is_member t false) slots edge (marks edge.target ∙ follows.to_members k d h)
       (sym (from_pair slots edge) ∙ are.pairs edge.voter edge.target (follows.voters_in_range k d h) ∙ follows.nominated k d h))
 
-  pub slots_in_table : All (λ (e : Edge). e.target < length is_member) slots
-  slots_in_table k d h = omega (arith, are.targets_in_range k d h, marks_count)
-
   module _ (laid : List Edge) (lays : AreLaid (λ t. slice_index_or is_member t false) slots sorted laid) where
     alike_members : AreAlike (marked (has weights.committee) slots) laid
     alike_members = subst (λ (m : ℕ → Bool). AreAlike (marked m slots) laid) (λ i t. marks t i) lays.alike

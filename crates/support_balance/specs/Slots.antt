@@ -1,5 +1,5 @@
 -- An edge of amount 0 along each nomination, in order, and edges laid along those of members.
-use Rattle.std.specs.Prelude.{◌≡◌, ℕ, ◌^◌, ◌<◌, ◌+◌, ◌⊎◌, Bool, true, false, List, length, filter, All, slice_index_or}
+use Rattle.std.specs.Prelude.{◌≡◌, ℕ, ◌^◌, ◌<◌, ◌≤◌, ◌+◌, ◌-◌, ◌⊎◌, Bool, true, false, List, [], ◌∷◌, ◌++◌, length, take, drop, filter, All, slice_index_or}
 use Rattle.std.specs.List.{AllPairs, list_any}
 use Rattle.npos_base.specs.declared.figures.Edge.{Edge}
 use Rattle.npos_base.specs.Edge.{same_pair}
@@ -8,6 +8,7 @@ use Rattle.weight_book.specs.Weights.{edges_from, support}
 use Rattle.support_balance.specs.Rounds.{IsBefore, GiveSame}
 use Rattle.support_balance.specs.Rows.{AreAlike}
 use Rattle.support_balance.specs.Laid.{targets_of}
+use Rattle.support_balance.specs.declared.laying.Joining.{Joining}
 
 -- the slots of the first voters
 pub record AreSlots (snapshot : Snapshot) (voters : ℕ) (slots : List Edge) : Type 0 where
@@ -49,6 +50,17 @@ pub record IsJoined (snapshot : Snapshot) (target : ℕ) (edges joined : List Ed
   pub only : All (IsOldOrNew snapshot target edges) joined
   pub same : GiveSame edges joined
   pub small : All (λ edge. edge.amount < 2 ^ 64) joined
+
+-- notes by rising place, each within the edges
+pub record AreNotes (edges : List Edge) (notes : List Joining) : Type 0 where
+  pub rising : AllPairs (λ one other. one.place ≤ other.place) notes
+  pub within : All (λ note. note.place ≤ length edges) notes
+
+-- the edges from a place on, with a slot of the target at the place of each note
+abbrev pub spread : ℕ → List Joining → ℕ → List Edge → List Edge
+spread target [] done edges = drop done edges
+spread target (note ∷ notes) done edges = take (note.place - done) (drop done edges)
+    ++ slot_of note.voter target ∷ spread target notes note.place edges
 
 -- The edge at the place leads along the slot and its amount is taken, or there is none that does.
 pub record IsTaken (slot : Edge) (edges : List Edge) (at after amount : ℕ) : Type 0 where

@@ -4,18 +4,19 @@ ghost use Rattle.std.specs.List.{AllPairs};
 ghost use Rattle.std.specs.Vec.{vec_capacity};
 ghost use Rattle.election_snapshot.specs.Snapshot.{has, stake_of};
 ghost use Rattle.weight_book.specs.Weights.{no_weights, Follows, support, spent};
-ghost use Rattle.weight_book.specs.Room.{KeepsRoom};
+ghost use Rattle.weight_book.specs.Room.{KeepsRoom, vote_count};
 ghost use Rattle.support_balance.specs.Rounds.{GiveSame, IsBalanced, IsBefore, AreListed};
 ghost use Rattle.support_balance.specs.Backing.{above_zero, IsKept};
 
-use crate::laying::{all_slots, in_order, join, lay, mark, supports_of};
+use crate::laying::{
+    Joining, all_slots, in_order, lay, mark, note_joining, put_joining, supports_of,
+};
 use crate::rounds::rounds;
 use crate::spans::Span;
 use election_snapshot::Snapshot;
 use npos_base::{Edge, NoMemory};
 use std::alloc::Global;
 use std::marker::Model;
-use std::mem::swap;
 use weight_book::Weights;
 
 /// A committee of a snapshot with what each voter gives to each member that it nominates, in units
@@ -27,11 +28,12 @@ pub struct Backing<'a> {
     snapshot: &'a Snapshot,
     members: Vec<u16>,
     is_member: Vec<bool>,
-    /// An edge along each nomination of a member, be its amount 0, by rising voter, then rising target.
+    /// An edge along each nomination of a member, be its amount 0, by rising voter, then rising
+    /// target. A member joins within this list. A list that grows by doubling is moved, and leaves
+    /// holes of its earlier sizes behind: so `new` takes the room for all nominations at once.
     edges: Vec<Edge>,
-    /// What a joining member's edges are written into; then it changes places with `edges`, so that
-    /// the same memory serves again and again. What stands in it in between is of no use.
-    spare: Vec<Edge>,
+    /// Where the edges of the member go that joined last. Only the room is of use between calls.
+    joining: Vec<Joining>,
     /// By target, what the edges to it sum to.
     supports: Vec<u128>,
     /// What the last balancing noted of its voters. Only the room for all of them is of use.
@@ -56,20 +58,22 @@ impl<'a> Model for Backing<'a> {
 
 impl<'a> Backing<'a> {
     /// No member yet, and so no edge. The error is want of memory alone; then nothing is kept. It
-    /// takes room for a mark and a support of each target, and for a span of each voter.
+    /// takes room for a mark and a support of each target, for a span of each voter, and for an edge
+    /// along each nomination, so that the edges are not moved elsewhere when members join.
     pub fn new(alloc: Global, snapshot: &'a Snapshot) -> Result<Backing<'a>, NoMemory>
         ensures { IfOk result (λ backing. backing
             ≡ record { snapshot = snapshot.now; weights = no_weights }) }
     {
         let is_member = vec![in alloc; false; snapshot.target_count()]?;
         let supports = vec![in alloc; 0; snapshot.target_count()]?;
+        let edges = Vec::with_capacity(alloc, count_votes(snapshot))?;
         let spans = Vec::with_capacity(alloc, snapshot.voter_count())?;
         Ok(Backing {
             snapshot,
             members: Vec::new(alloc),
             is_member,
-            edges: Vec::new(alloc),
-            spare: Vec::new(alloc),
+            edges,
+            joining: Vec::new(alloc),
             supports,
             spans,
         })
@@ -100,7 +104,7 @@ impl<'a> Backing<'a> {
             members,
             is_member,
             edges,
-            spare: Vec::new(alloc),
+            joining: Vec::new(alloc),
             supports,
             spans,
         })
@@ -119,18 +123,12 @@ impl<'a> Backing<'a> {
         ensures err { OnErr result (self.new ≡ self.old) }
     {
         self.members.reserve(1)?;
+        note_joining(self.snapshot, target, &self.edges, &mut self.joining)?;
+        self.edges.reserve(self.joining.len())?;
         self.is_member[usize::from(target)] = true;
-        match join(self.snapshot, target, &self.edges, &mut self.spare) {
-            Ok(()) => {
-                swap(&mut self.edges, &mut self.spare);
-                push_within(&mut self.members, target);
-                Ok(())
-            }
-            Err(want) => {
-                self.is_member[usize::from(target)] = false;
-                Err(want)
-            }
-        }
+        put_joining(target, &self.joining, &mut self.edges);
+        push_within(&mut self.members, target);
+        Ok(())
     }
 
     /// Makes rounds of turns, one at each voter by rising position, until one changes nothing or
@@ -224,6 +222,17 @@ fn lay_weights(
     let laid = lay(alloc, &slots, is_member, &sorted)?;
     let supports = supports_of(alloc, targets, &laid)?;
     Ok((laid, supports))
+}
+
+/// How many nominations there are: no backing has more edges.
+fn count_votes(snapshot: &Snapshot) -> usize
+    ensures { result ≡ vote_count snapshot.now }
+{
+    let mut votes = 0;
+    for voter in 0..snapshot.voter_count() {
+        votes += snapshot.votes(voter as u32).len();
+    }
+    votes
 }
 
 /// Appends an item to a vector with room.

@@ -1,10 +1,11 @@
 //! The layout of what each voter gives: an edge for each member that it nominates, by rising voter,
 //! then rising target, be its amount 0.
-ghost use Rattle.std.specs.Prelude.{◌≡◌, ◌≢◌, ◌<◌, ◌≤◌, ◌^◌, ◌++◌, ◌⊎◌, ℕ, true, false, length, map, All, IfOk, OnOk, IsTrue, IsPermutation, slice_index_or};
+ghost use Rattle.std.specs.Prelude.{◌≡◌, ◌≢◌, ◌+◌, ◌<◌, ◌≤◌, ◌^◌, ◌++◌, ◌⊎◌, ℕ, true, false, length, take, map, All, IfOk, OnOk, IsTrue, IsPermutation, slice_index_or, vec_len};
+ghost use Rattle.std.specs.Vec.{vec_capacity};
 ghost use Rattle.std.specs.List.{AllPairs};
 ghost use Rattle.std.specs.List.Sorted.{IsNonDecreasing, IsNonDecreasingBy};
 ghost use Rattle.support_balance.specs.Rounds.{IsBefore, GiveSame};
-ghost use Rattle.support_balance.specs.Slots.{AreSlots, marked, has_pair, AreLaid, slot_of, IsTaken, IsPassed, IsJoined};
+ghost use Rattle.support_balance.specs.Slots.{AreSlots, marked, has_pair, AreLaid, slot_of, IsTaken, IsPassed, IsJoined, AreNotes, spread};
 ghost use Rattle.npos_base.specs.Edge.{place_of};
 ghost use Rattle.election_snapshot.specs.Snapshot.{has};
 ghost use Rattle.weight_book.specs.Weights.{support};
@@ -95,39 +96,84 @@ fn amount_along(slot: Edge, edges: &[Edge], at: &mut usize) -> u64
     }
 }
 
-/// Writes the edges in place of what `joined` holds, with one of amount 0 in the row of each voter
-/// that nominates the target, to which no edge leads yet. It asks for all the room at once, as if
-/// each voter nominated the target, so that no edge is moved while they are written.
-pub(crate) fn join(
+/// Where the edge of a joining member's voter goes: right before the edge that stands at the place,
+/// or behind all.
+#[derive(Clone, Copy)]
+pub(crate) struct Joining {
+    voter: u32,
+    place: u32,
+}
+
+/// Notes, in place of what `joining` holds, where an edge goes from each voter that nominates the
+/// target, to which no edge leads yet. It asks for all the room at once, as if each voter nominated
+/// the target. The edges stay as they are, so that a caller can take room for them before anything
+/// changes.
+pub(crate) fn note_joining(
     snapshot: &Snapshot,
     target: u16,
     edges: &[Edge],
-    joined: &mut Vec<Edge>,
+    joining: &mut Vec<Joining>,
 ) -> Result<(), NoMemory>
     requires few { length edges.now ≤ 2 ^ 20 }
     requires in_range { target < length snapshot.now.targets }
     requires rising { AllPairs IsBefore edges.now }
     requires fresh { All (λ edge. edge.target ≢ target) edges.now }
     requires small { All (λ edge. edge.amount < 2 ^ 64) edges.now }
-    ensures { OnOk result (IsJoined snapshot.now target edges.now joined.new.items) }
+    ensures joined { OnOk result (IsJoined snapshot.now target edges.now
+        (spread target joining.new.items 0 edges.now)) }
+    ensures notes { OnOk result (AreNotes edges.now joining.new.items) }
 {
-    joined.clear();
-    joined.reserve(edges.len() + snapshot.voter_count())?;
+    joining.clear();
+    joining.reserve(snapshot.voter_count())?;
     let mut done = 0;
     for voter in 0..snapshot.voter_count() {
         if snapshot.nominates(voter as u32, target) {
-            let place = place_from(done, voter as u32, target, edges);
-            joined.extend_from_slice(&edges[done..place])?;
-            joined.push(Edge {
+            done = place_from(done, voter as u32, target, edges);
+            joining.push(Joining {
                 voter: voter as u32,
-                target,
-                amount: 0,
+                place: done as u32,
             })?;
-            done = place;
         }
     }
-    joined.extend_from_slice(&edges[done..edges.len()])?;
     Ok(())
+}
+
+/// Puts an edge of amount 0 from the voter of each note at its place. It goes from the last note to
+/// the first, so that each edge moves once and within the list. There is room, and so it cannot fail.
+pub(crate) fn put_joining(target: u16, joining: &[Joining], edges: &mut Vec<Edge>)
+    requires notes { AreNotes edges.old.items joining.now }
+    requires room { vec_len edges.old + length joining.now ≤ vec_capacity edges.old }
+    ensures { edges.new.items ≡ spread target joining.now 0 edges.old.items }
+{
+    let mut from = edges.len();
+    lengthen(joining.len(), edges);
+    for i in (0..joining.len()).rev() {
+        let place = joining[i].place as usize;
+        edges.copy_within(place..from, place + i + 1);
+        edges[place + i] = Edge {
+            voter: joining[i].voter,
+            target,
+            amount: 0,
+        };
+        from = place;
+    }
+}
+
+/// Appends so many edges, for which there is room. What they are is of no use.
+fn lengthen(count: usize, edges: &mut Vec<Edge>)
+    requires { vec_len edges.old + count ≤ vec_capacity edges.old }
+    ensures same { take (vec_len edges.old) edges.new.items ≡ edges.old.items }
+    ensures count { vec_len edges.new ≡ vec_len edges.old + count }
+{
+    let blank = Edge {
+        voter: 0,
+        target: 0,
+        amount: 0,
+    };
+    match edges.resize(edges.len() + count, blank) {
+        Ok(()) => {}
+        Err(_) => unreachable!(),
+    }
 }
 
 /// Where an edge from the voter to the target stands among the edges, at `start` or behind it.
