@@ -171,13 +171,14 @@ module _ (links new_links : List Link) (owners new_owners : List (Option ℕ)) (
       ]
 
   -- one ring is new and the others stay
-  Changes-from_rings : (list : ℕ) (keys : List ℕ) → list < heads → heads + length new_owners ≤ length new_links → ((key owner : ℕ) → get_or new_owners key None ≡ Some owner → owner < heads) → IsRing (next_of new_links) (prev_of new_links) heads (λ key. get_or new_owners key None) list keys → count_by (is_list list) new_owners ≡ length keys → ((other : ℕ) → other < heads → other ≢ list → IsRing (next_of new_links) (prev_of new_links) heads (λ key. get_or new_owners key None) other (keys_of links owners heads other)) → ((other : ℕ) → other ≢ list → count_by (is_list other) new_owners ≡ count_by (is_list other) owners) → Changes links new_links owners new_owners heads list keys
-  Changes-from_rings list keys head sized known ring count rings counts =
+  Changes-from_rings : (list : ℕ) (keys : List ℕ) → list < heads → heads + length new_owners ≤ length new_links → heads ≤ 256 → ((key owner : ℕ) → get_or new_owners key None ≡ Some owner → owner < heads) → IsRing (next_of new_links) (prev_of new_links) heads (λ key. get_or new_owners key None) list keys → count_by (is_list list) new_owners ≡ length keys → ((other : ℕ) → other < heads → other ≢ list → IsRing (next_of new_links) (prev_of new_links) heads (λ key. get_or new_owners key None) other (keys_of links owners heads other)) → ((other : ℕ) → other ≢ list → count_by (is_list other) new_owners ≡ count_by (is_list other) owners) → Changes links new_links owners new_owners heads list keys
+  Changes-from_rings list keys head sized few known ring count rings counts =
       let Ring : ℕ → List ℕ → Type 0 = IsRing (next_of new_links) (prev_of new_links) heads (λ key. get_or new_owners key None) in
       let found = keys_of_ring new_links new_owners heads list keys ring.chained count in
       record {
         sound = record {
           sized = sized;
+          few = few;
           known = known;
           rings = λ other other_head.
               elim (cases_eq other list) [
@@ -202,7 +203,7 @@ module _ (links new_links : List Link) (owners : List (Option ℕ)) (heads list 
       λ k l now. sym (others k (λ same. none-some l (sym left ∙ ap (λ j. get_or (set owners key None) j None) (sym same) ∙ now))) ∙ now in
       rw (items-lists_of links owners heads list head)
       (Changes-from_rings links new_links owners (set owners key None) heads list _ head
-      (omega (arith, sound.sized, length-set owners key None))
+      (omega (arith, sound.sized, length-set owners key None)) sound.few
       (λ k l now. sound.known k l (came k l now))
       (IsRing-skip _ _ _ _ heads _ _ list _ key head ring owned skips.next skips.prev left others)
       (omega (arith, count-set owners key list (Some list) None within owned, is_list_same list, length-keys_of links owners heads list, length-without key _ ring.apart (ring.listed key owned)))
@@ -223,7 +224,7 @@ module _ (links new_links : List Link) (owners : List (Option ℕ)) (heads list 
       λ other differs. get_or-set_other owners key other (Some list) None differs in
       rw (items-lists_of links owners heads list head)
       (Changes-from_rings links new_links owners (set owners key (Some list)) heads list _ head
-      (omega (arith, sound.sized, length-set owners key (Some list)))
+      (omega (arith, sound.sized, length-set owners key (Some list))) sound.few
       (λ k l now.
       elim (cases_eq k key) [
         | inl same ↦ subst (λ n. n < heads) (same_Some list l (sym joined ∙ ap (λ j. get_or (set owners key (Some list)) j None) (sym same) ∙ now)) head
@@ -251,7 +252,7 @@ module _ (links new_links : List Link) (owners : List (Option ℕ)) (heads list 
       λ k differs. get_or-set_other owners key k (Some list) None differs in
       rw (items-lists_of links owners heads list head)
       (Changes-from_rings links new_links owners (set owners key (Some list)) heads list _ head
-      (omega (arith, sound.sized, length-set owners key (Some list)))
+      (omega (arith, sound.sized, length-set owners key (Some list))) sound.few
       (λ k l now.
       elim (cases_eq k key) [
         | inl same ↦ subst (λ n. n < heads) (same_Some list l (sym joined ∙ ap (λ j. get_or (set owners key (Some list)) j None) (sym same) ∙ now)) head
@@ -332,10 +333,11 @@ module _ (links : List Link) (heads : ℕ) (sized : length links ≡ heads) (clo
   keys_of_new : (list : ℕ) → list < heads → keys_of links [] heads list ≡ []
   keys_of_new list head = keys_of_ring links [] heads list [] (closed list head) refl
 
-  pub AreWellLinked-new : AreWellLinked links [] heads
-  AreWellLinked-new =
+  pub AreWellLinked-new : heads ≤ 256 → AreWellLinked links [] heads
+  AreWellLinked-new few =
       record {
         sized = omega arith;
+        few = few;
         known = λ key list owned. absurd (none-some list owned);
         rings = λ list head. rw (keys_of_new list head) (record {
           chained = closed list head;
@@ -393,6 +395,7 @@ module _ (links new_links : List Link) (owners : List (Option ℕ)) (heads more 
   AreWellLinked-grown =
       record {
         sized = omega (arith, length-append owners (replicate more None), length-replicate {A = Option ℕ} more None);
+        few = sound.few;
         known = λ key list owned. sound.known key list (sym (get_or-append_defaults owners more key None) ∙ owned);
         rings = λ list head. rw (keys_grown list head) (ring_grown list head);
       }

@@ -75,9 +75,11 @@ module _ (links : List Link) (owners : List (Option ℕ)) (heads : ℕ) where
   abbrev pub lists_of : Lists
   lists_of = record { lists = map keys_of (range_with_len 0 heads); owners = owners }
 
-  -- each key has a link, its owner is a list, and each list is a ring
+  -- each key has a link, its owner is a list, of which a byte holds the number, and each list is a
+  -- ring
   pub record AreWellLinked : Type 0 where
     pub sized : heads + length owners ≤ length links
+    pub few : heads ≤ 256
     pub known : (key list : ℕ) → slice_index_or owners key None ≡ Some list → list < heads
     pub rings : (list : ℕ) → list < heads
         → IsRing (next_of links) (prev_of links) heads (λ key. slice_index_or owners key None) list

@@ -27,6 +27,7 @@ pub(crate) struct Nodes {
 impl Nodes {
     /// So many empty bags.
     pub(crate) fn new(alloc: Global, bags: usize) -> Result<Nodes, NoMemory>
+        requires { bags ≤ 256 }
         ensures bags { IfOk result (λ nodes. (number : ℕ) → items nodes.rings number ≡ []) }
         ensures count { IfOk result (λ nodes. nodes.bags ≡ bags) }
         ensures homes { IfOk result (λ nodes. nodes.places ≡ []) }

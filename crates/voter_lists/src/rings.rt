@@ -7,15 +7,15 @@ use npos_base::NoMemory;
 use std::alloc::Global;
 use std::marker::Model;
 
-/// A fixed number of lists over small numbers, the keys. A key is in at most one list. Only `new`
-/// and `reserve_key` take memory.
+/// A fixed number of lists over small numbers, the keys. The lists are few, so that a byte tells in
+/// which one a key is: at most one. Only `new` and `reserve_key` take memory.
 #[derive(Drop)]
 pub(crate) struct Rings {
     // each list is a ring through its head: the head of list `n` is link `n`, the link of a key is
     // `heads + key`
     links: Vec<Link>,
     // the list of each key
-    owners: Vec<Option<usize>>,
+    owners: Vec<Option<u8>>,
     heads: usize,
 }
 
@@ -71,6 +71,7 @@ fn splice(links: &mut Vec<Link>, at: usize, next: usize)
 impl Rings {
     /// So many empty lists, numbered from 0.
     pub(crate) fn new(alloc: Global, lists: usize) -> Result<Rings, NoMemory>
+        requires { lists ≤ 256 }
         ensures count { IfOk result (λ s. list_count s ≡ lists) }
         ensures no_items { IfOk result (λ s. (list : ℕ) → items s list ≡ []) }
         ensures no_keys { IfOk result (λ s. (key : ℕ) → list_of s key ≡ None) }
@@ -115,8 +116,8 @@ impl Rings {
         ensures absent { (list : ℕ) → result ≢ Some list → ¬ IsIn key (items self.now list) }
     {
         match self.owners.get(key) {
-            Some(owner) => *owner,
-            None => None,
+            Some(Some(list)) => Some(*list as usize),
+            _ => None,
         }
     }
 
@@ -161,7 +162,7 @@ impl Rings {
         ensures others { (other : ℕ) → other ≢ list → items self.new other ≡ items self.old other }
     {
         splice(&mut self.links, self.heads + key, list);
-        self.owners[key] = Some(list);
+        self.owners[key] = Some(list as u8);
     }
 
     /// Puts a key that is in no list directly before another one of a list.
@@ -175,7 +176,7 @@ impl Rings {
         ensures others { (n : ℕ) → n ≢ list → items self.new n ≡ items self.old n }
     {
         splice(&mut self.links, self.heads + key, self.heads + other);
-        self.owners[key] = Some(list);
+        self.owners[key] = Some(list as u8);
     }
 
     /// Takes a key out of its list.

@@ -8,7 +8,7 @@ loop-head-preserved c =
 
 pub invariant_of-result : goal.invariant_of-result
 invariant_of-result c =
-    rw c.new.ensures.items (AreWellLinked-new _ _ (omega arith) (λ list head. c.loop-head.invariant.2 list (omega arith)))
+    rw c.new.ensures.items (AreWellLinked-new _ _ (omega arith) (λ list head. c.loop-head.invariant.2 list (omega arith)) c.requires)
 
 pub returns-clause-count : goal.returns-clause-count
 returns-clause-count c = list_count-lists_of _ _ _
@@ -19,4 +19,4 @@ returns-clause-no_items c list =
 
 pub returns-clause-fit : goal.returns-clause-fit
 returns-clause-fit c =
-    rw c.new.ensures.items (fit_sound _ _ _ (AreWellLinked-new _ _ (omega arith) (λ list head. c.loop-head.invariant.2 list (omega arith))))
+    rw c.new.ensures.items (fit_sound _ _ _ (AreWellLinked-new _ _ (omega arith) (λ list head. c.loop-head.invariant.2 list (omega arith)) c.requires))
