@@ -8,6 +8,7 @@ pub mod Ranked
 pub mod Ranking
 pub mod Roles
 pub mod Standings
+pub mod Held
 pub mod Links
 pub mod Rings
 pub mod Nodes

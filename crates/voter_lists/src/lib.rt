@@ -5,6 +5,7 @@
 mod bags;
 mod electorate;
 pub mod laws;
+mod marks;
 mod nodes;
 mod ranking;
 mod ranks;

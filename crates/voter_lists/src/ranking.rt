@@ -5,8 +5,8 @@ ghost use Rattle.voter_lists.specs.Ranked.{AreRanked};
 ghost use Rattle.voter_lists.specs.Ranking.{rank_in, Tells, AreTold, IsRanking};
 ghost use Rattle.voter_lists.specs.Votes.{rank_of, votes_of};
 
+use crate::marks::UNKNOWN;
 use crate::ranks::rank_among;
-use crate::row::UNKNOWN;
 use crate::standing::Standing;
 use crate::standings::Standings;
 use npos_base::{AccountId, NoMemory};

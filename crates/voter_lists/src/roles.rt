@@ -15,8 +15,8 @@ ghost use Rattle.voter_lists.specs.Taken.{CanTake, with_role};
 
 use crate::ListRefusal;
 use crate::electorate::Electorate;
+use crate::marks::{Marks, UNKNOWN};
 use crate::ranks::{enter, leave, leave_where, rank_among};
-use crate::row::UNKNOWN;
 use crate::standing::{Role, Standing};
 use crate::standings::Standings;
 use npos_base::{AccountId, List, MOST_NOMINATIONS, MOST_VALIDATORS, NoMemory, WHOLE_FRACTION};
@@ -218,7 +218,7 @@ fn put_nominator(
     validators: &mut Vec<AccountId>,
     who: AccountId,
     targets: List<AccountId>,
-    marks: List<u32>,
+    marks: Marks,
 ) -> Result<(), NoMemory>
     requires ranked { AreRanked standings.old.roles validators.old.items }
     requires marks { AreMarks standings.old.accounts marks targets }
@@ -236,7 +236,7 @@ fn check_targets(
     standings: &Standings,
     who: AccountId,
     targets: &[AccountId],
-) -> Result<List<u32>, ListRefusal>
+) -> Result<Marks, ListRefusal>
     ensures ok { IfOk result (λ marks. AreMarks standings.now.accounts marks targets.now) }
     ensures none { OnOk result (nominate_refusal standings.now.roles who targets.now ≡ None) }
     ensures due { IfErr result

@@ -7,7 +7,8 @@ ghost use Rattle.voter_lists.specs.Marks.{IsMark, AreMarks, KeepPlaces, RepeatAl
 ghost use Rattle.voter_lists.specs.Roles.{standing_of, targets_in, is_validator, nominated, validating, with_standing, without_role};
 ghost use Rattle.voter_lists.specs.Standings.{IsMarked};
 
-use crate::row::{Row, UNKNOWN, mark_of};
+use crate::marks::{Marks, UNKNOWN, marks_of};
+use crate::row::Row;
 use crate::standing::Standing;
 use account_places::Places;
 use npos_base::{AccountId, List, NoMemory};
@@ -130,36 +131,12 @@ impl Standings {
         self.row(mark as usize).is_validator()
     }
 
-    /// The mark of an account, which may stand at the place that is guessed.
-    fn mark_from(&self, guess: u32, who: AccountId) -> u32
-        ensures { IsMark self.now.accounts result who }
-    {
-        match self.places.find_from(guess as usize, who) {
-            Some(place) => mark_of(place),
-            None => UNKNOWN,
-        }
-    }
-
-    /// Puts the mark of each of these accounts in place of its guess.
-    fn put_marks(&self, targets: &[AccountId], marks: &mut [u32])
-        requires { length marks.old ≡ length targets.now }
-        ensures { AreMarks self.now.accounts marks.new targets.now }
-    {
-        for (i, target) in targets.iter().enumerate() {
-            marks[i] = self.mark_from(marks[i], *target);
-        }
-    }
-
-    /// The marks of these accounts. Each is found once. Where they may stand is guessed for all
-    /// before the first is looked at, so the guesses do not wait for the accounts.
-    pub(crate) fn marks_of(&self, targets: &[AccountId]) -> Result<List<u32>, NoMemory>
+    /// The marks of these accounts. Each is found once.
+    pub(crate) fn marks_of(&self, targets: &[AccountId]) -> Result<Marks, NoMemory>
         ensures marks { IfOk result (λ marks. AreMarks self.now.accounts marks targets.now) }
         ensures alike { IfOk result (λ marks. RepeatAlike marks targets.now) }
     {
-        let mut marks = Vec::with_capacity(self.alloc, targets.len())?;
-        self.places.guess_each(targets, &mut marks)?;
-        self.put_marks(targets, marks.as_mut_slice());
-        Ok(List::from_vec(marks))
+        marks_of(self.alloc, &self.places, targets)
     }
 
     /// The place of an account, which has one from now on. It has no standing for that.
@@ -177,7 +154,7 @@ impl Standings {
         self.places.put(who)?;
         let row = Row {
             standing: None,
-            marks: List::new(self.alloc),
+            marks: Marks::none(),
         };
         match self.rows.push(row) {
             Ok(()) => Ok(place),
@@ -196,7 +173,7 @@ impl Standings {
     }
 
     /// The marks of these accounts, each of which has a place from now on.
-    pub(crate) fn marks_for(&mut self, targets: &[AccountId]) -> Result<List<u32>, NoMemory>
+    pub(crate) fn marks_for(&mut self, targets: &[AccountId]) -> Result<Marks, NoMemory>
         ensures marks { OnOk result (IfOk result (λ marks.
             AreMarks self.new.accounts marks targets.now)) }
         ensures roles { self.new.roles ≡ self.old.roles }
@@ -211,12 +188,7 @@ impl Standings {
 
     /// The account has this standing in place of any that it had. It tells whether the account was
     /// a validator.
-    fn put(
-        &mut self,
-        who: AccountId,
-        standing: Standing,
-        marks: List<u32>,
-    ) -> Result<bool, NoMemory>
+    fn put(&mut self, who: AccountId, standing: Standing, marks: Marks) -> Result<bool, NoMemory>
         requires { AreMarks self.old.accounts marks (targets_in (Some standing)) }
         ensures was { IfOk result (λ was. was ≡ is_validator self.old.roles who) }
         ensures ok { OnOk result (self.new.roles ≡ with_standing self.old.roles who standing) }
@@ -237,7 +209,7 @@ impl Standings {
         &mut self,
         who: AccountId,
         targets: List<AccountId>,
-        marks: List<u32>,
+        marks: Marks,
     ) -> Result<bool, NoMemory>
         requires { AreMarks self.old.accounts marks targets }
         ensures was { IfOk result (λ was. was ≡ is_validator self.old.roles who) }
@@ -252,8 +224,7 @@ impl Standings {
         ensures ok { OnOk result (self.new.roles ≡ validating self.old.roles who commission) }
         ensures err { OnErr result (self.new.roles ≡ self.old.roles) }
     {
-        let marks = List::new(self.alloc);
-        self.put(who, Standing::Validator { commission }, marks)?;
+        self.put(who, Standing::Validator { commission }, Marks::none())?;
         Ok(())
     }
 
@@ -269,7 +240,7 @@ impl Standings {
         let had = self.rows[place].standing.is_some();
         self.rows[place] = Row {
             standing: None,
-            marks: List::new(self.alloc),
+            marks: Marks::none(),
         };
         had
     }

@@ -7,9 +7,9 @@ use Rattle.voter_lists.proofs.standings.Standings.place_for.Goals as goal
 
 pub invariant_of-self-2 : goal.invariant_of-self-2
 invariant_of-self-2 c =
-    let row : Row = record { standing = None; marks = c.new.result } in
+    let row : Row = record { standing = None; marks = c.none.result } in
     let items : c.push.new.self.items ≡ c.self.inside.rows.items ++ row ∷ [] = search rules in
-    let marked : IsMarked c.self.inside.places row = rw c.new.ensures (no_marks c.self.inside.places) in
+    let marked : IsMarked c.self.inside.places row = rw c.none.ensures (no_marks c.self.inside.places) in
     rw (items, c.in_ok-put.ensures.ok) (beside_more c.self.inside.rows.items c.self.inside.places c.args.who row c.self.invariant (sym c.find.ensures.place ∙ c.in_default.is) marked)
 
 pub returns-clause-kept : goal.returns-clause-kept
@@ -18,7 +18,7 @@ returns-clause-kept c place who there =
 
 pub returns-clause-roles : goal.returns-clause-roles
 returns-clause-roles c =
-    let row : Row = record { standing = None; marks = c.new.result } in
+    let row : Row = record { standing = None; marks = c.none.result } in
     let items : c.push.new.self.items ≡ c.self.inside.rows.items ++ row ∷ [] = search rules in
     rw (← c.self.view_is, items, c.in_ok-put.ensures.ok)
-    (row_more c.self.inside.rows.items c.self.inside.places c.args.who c.new.result c.self.invariant (sym c.find.ensures.place ∙ c.in_default.is))
+    (row_more c.self.inside.rows.items c.self.inside.places c.args.who c.none.result c.self.invariant (sym c.find.ensures.place ∙ c.in_default.is))
