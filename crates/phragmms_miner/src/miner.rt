@@ -116,7 +116,7 @@ pub(crate) fn seat_one(
         &mut tables.prescores,
         &mut tables.hint,
     );
-    backing.add_member(pick)?;
+    backing.add_member(pick, tables.nominators[usize::from(pick)].as_slice())?;
     let _made = backing.balance(rounds);
     Ok(())
 }

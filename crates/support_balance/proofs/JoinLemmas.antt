@@ -134,22 +134,31 @@ module _ (snapshot : Snapshot) (target : ℕ) (edges : List Edge) (up : AllPairs
       none : (other spot : ℕ) → given (slot ∷ []) other spot ≡ 0
       none other spot = omega (arith, given_weight (slot ∷ []) other spot, sum_by-cons (pair_weight other spot) slot [], none_weight slot other spot (omega arith))
 
-  pub passed_by : nominates snapshot voter target ≡ false → IsJoining snapshot target edges (voter + 1) done joined
-  passed_by silent = record {
+  -- voters that do not nominate the target are passed by
+  pub passed_by : (bound : ℕ) → ((other : ℕ) → other < bound → nominates snapshot other target ≡ true → other < voter)
+      → IsJoining snapshot target edges bound done joined
+  passed_by bound silent = record {
     rising = so.rising;
     ahead = so.ahead;
     all = so.all;
-    new = λ other h n. elim (cases_lt other voter) [
-      | inl low ↦ so.new other low n
-      | inr high ↦
-          let e : other ≡ voter = omega (arith, high, h) in
-          absurd (true≢false (sym n ∙ ap (λ k. nominates snapshot k target) e ∙ silent))
-    ];
+    new = λ other h n. so.new other (silent other h n) n;
     only = so.only;
     same = so.same;
     small = so.small;
     inside = so.inside;
   }
+
+pub none_joined : (snapshot : Snapshot) (target : ℕ) (edges : List Edge) → IsJoining snapshot target edges 0 0 []
+none_joined snapshot target edges = record {
+  rising = λ i j d a b. absurd (omega (arith, b));
+  ahead = λ i k d a b h. absurd (omega (arith, a));
+  all = λ k d h l. absurd (omega (arith, h));
+  new = λ other h n. absurd (omega (arith, h));
+  only = All-nil (IsOldOrNew snapshot target edges);
+  same = λ other spot. refl;
+  small = All-nil (λ (e : Edge). e.amount < 2 ^ 64);
+  inside = omega arith;
+}
 
 pub before_trans : (one other third : Edge) → IsBefore one other → IsBefore other third → IsBefore one third
 before_trans one other third x y = elim x [

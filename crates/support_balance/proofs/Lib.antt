@@ -22,3 +22,4 @@ pub mod SpreadLemmas
 pub mod SquareLemmas
 pub mod TurnLemmas
 pub mod UniqueLemmas
+pub mod VoterLemmas

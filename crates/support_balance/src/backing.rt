@@ -3,6 +3,7 @@ ghost use Rattle.std.specs.Prelude.{◌≡◌, ◌<◌, ◌≤◌, ◌++◌, ◌
 ghost use Rattle.std.specs.List.{AllPairs};
 ghost use Rattle.std.specs.Vec.{vec_capacity};
 ghost use Rattle.election_snapshot.specs.Snapshot.{has, stake_of};
+ghost use Rattle.weight_book.specs.Passing.{nominators};
 ghost use Rattle.weight_book.specs.Weights.{no_weights, Follows, support, spent};
 ghost use Rattle.weight_book.specs.Room.{KeepsRoom, vote_count};
 ghost use Rattle.support_balance.specs.Rounds.{GiveSame, IsBalanced, IsBefore, AreListed};
@@ -110,12 +111,14 @@ impl<'a> Backing<'a> {
         })
     }
 
-    /// A target that is outside joins as the last member, by its position in the snapshot. Nobody
-    /// gives it anything yet, and what others get stays. The error is want of memory alone, and
-    /// then nothing has changed.
-    pub fn add_member(&mut self, target: u16) -> Result<(), NoMemory>
+    /// A target that is outside joins as the last member, by its position in the snapshot. The
+    /// voters are those that nominate it, by rising position: who balances after each pick has a
+    /// table of them, and no other voter is looked at. Nobody gives the member anything yet, and
+    /// what others get stays. The error is want of memory alone, and then nothing has changed.
+    pub fn add_member(&mut self, target: u16, voters: &[u32]) -> Result<(), NoMemory>
         requires in_range { target < length self.old.snapshot.targets }
         requires outside { IsFalse (has self.old.weights.committee target) }
+        requires voters { voters.now ≡ nominators self.old.snapshot target }
         ensures snapshot { self.new.snapshot ≡ self.old.snapshot }
         ensures committee { OnOk result (self.new.weights.committee
             ≡ self.old.weights.committee ++ target ∷ []) }
@@ -123,7 +126,7 @@ impl<'a> Backing<'a> {
         ensures err { OnErr result (self.new ≡ self.old) }
     {
         self.members.reserve(1)?;
-        note_joining(self.snapshot, target, &self.edges, &mut self.joining)?;
+        note_joining(target, voters, &self.edges, &mut self.joining)?;
         self.edges.reserve(self.joining.len())?;
         self.is_member[usize::from(target)] = true;
         put_joining(target, &self.joining, &mut self.edges);

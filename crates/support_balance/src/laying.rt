@@ -7,7 +7,8 @@ ghost use Rattle.std.specs.List.Sorted.{IsNonDecreasing, IsNonDecreasingBy};
 ghost use Rattle.support_balance.specs.Rounds.{IsBefore, GiveSame};
 ghost use Rattle.support_balance.specs.Slots.{AreSlots, marked, has_pair, AreLaid, slot_of, IsTaken, IsPassed, IsJoined, AreNotes, spread};
 ghost use Rattle.npos_base.specs.Edge.{place_of};
-ghost use Rattle.election_snapshot.specs.Snapshot.{has};
+ghost use Rattle.election_snapshot.specs.Snapshot.{Snapshot, has};
+ghost use Rattle.weight_book.specs.Passing.{nominators};
 ghost use Rattle.weight_book.specs.Weights.{support};
 
 use election_snapshot::Snapshot;
@@ -104,36 +105,32 @@ pub(crate) struct Joining {
     place: u32,
 }
 
-/// Notes, in place of what `joining` holds, where an edge goes from each voter that nominates the
-/// target, to which no edge leads yet. It asks for all the room at once, as if each voter nominated
-/// the target. The edges stay as they are, so that a caller can take room for them before anything
-/// changes.
+/// Notes, in place of what `joining` holds, where an edge to the target goes from each of these
+/// voters, which are those that nominate it, by rising position. No edge leads to it yet. The edges
+/// stay as they are, so that a caller can take room for them before anything changes.
 pub(crate) fn note_joining(
-    snapshot: &Snapshot,
     target: u16,
+    voters: &[u32],
     edges: &[Edge],
     joining: &mut Vec<Joining>,
 ) -> Result<(), NoMemory>
     requires few { length edges.now ≤ 2 ^ 20 }
-    requires in_range { target < length snapshot.now.targets }
     requires rising { AllPairs IsBefore edges.now }
     requires fresh { All (λ edge. edge.target ≢ target) edges.now }
     requires small { All (λ edge. edge.amount < 2 ^ 64) edges.now }
-    ensures joined { OnOk result (IsJoined snapshot.now target edges.now
-        (spread target joining.new.items 0 edges.now)) }
+    ensures joined { OnOk result ((snapshot : Snapshot) → voters.now ≡ nominators snapshot target
+        → IsJoined snapshot target edges.now (spread target joining.new.items 0 edges.now)) }
     ensures notes { OnOk result (AreNotes edges.now joining.new.items) }
 {
     joining.clear();
-    joining.reserve(snapshot.voter_count())?;
+    joining.reserve(voters.len())?;
     let mut done = 0;
-    for voter in 0..snapshot.voter_count() {
-        if snapshot.nominates(voter as u32, target) {
-            done = place_from(done, voter as u32, target, edges);
-            joining.push(Joining {
-                voter: voter as u32,
-                place: done as u32,
-            })?;
-        }
+    for voter in voters {
+        done = place_from(done, *voter, target, edges);
+        joining.push(Joining {
+            voter: *voter,
+            place: done as u32,
+        })?;
     }
     Ok(())
 }

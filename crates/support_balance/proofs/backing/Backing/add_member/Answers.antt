@@ -13,7 +13,7 @@ invariant_of-self-2 c =
     let view = sym c.self.view_is in
     let outside = rw view at c.requires.outside in
     let in_range = rw view at c.requires.in_range in
-    let joins = rw c.deref.ensures.value at c.in_ok-note_joining.ensures.joined in
+    let joins = rw c.deref.ensures.value at (c.in_ok-note_joining.ensures.joined c.self.inside.snapshot.now (rw view at c.requires.voters)) in
     let members : c.push_within.new.items.items ≡ c.self.inside.members.items ++ c.args.target ∷ [] = search rules in
     let edges : c.put_joining.new.edges.items ≡ spread c.args.target c.note_joining.new.joining.items 0 c.self.inside.edges.items = search rules in
     rw (members, c.from.ensures, edges) (kept_more _ _ _ _ _ c.self.invariant.0 c.args.target in_range outside _ joins, c.self.invariant.1)
