@@ -3,7 +3,7 @@
 ghost use Rattle.std.specs.Prelude.{◌≡◌, ◌≢◌, ◌+◌, ◌^◌, ◌<◌, ◌≤◌, ℕ, List, length, true, Some, IfOk, IfSome, IfNone, OnOk, OnErr, slice_get, vec_len};
 ghost use Rattle.std.specs.Vec.{vec_capacity};
 ghost use Rattle.npos_base.specs.declared.account.AccountId.{AccountId};
-ghost use Rattle.account_places.specs.Index.{mixed, slot_in, mark_at, IsFree, AreTaken, Finds, StandOnce};
+ghost use Rattle.account_places.specs.Index.{mixed, spread_in, slot_in, tag_in, mark_at, IsMark, IsFree, AreTaken, Finds, StandOnce};
 
 use npos_base::{AccountId, NoMemory};
 use std::alloc::Global;
@@ -18,11 +18,14 @@ const TRIES: usize = 4;
 /// An account marks its place in the first of its slots that is free. An account that finds all of
 /// them taken, or whose place has no mark of 32 bits, is in the crowd, which is searched by its
 /// order: so no choice of accounts makes a search long.
+///
+/// A mark is the sum of the place and the account's tag. To an account with another tag it says a
+/// place beyond all that there are, so mostly the slot alone tells that the mark is another's.
 #[derive(Drop)]
 pub(crate) struct Index {
-    // the place after that of the account that came first to the slot, or 0
+    // the mark of the account that came first to the slot, or 0
     slots: Vec<u32>,
-    // at so many slots a search may begin
+    // at so many slots a search may begin: a power of two, if any
     count: usize,
     crowd: BTreeMap<AccountId, usize>,
 }
@@ -40,12 +43,27 @@ fn mixed(who: AccountId) -> u64
     sum.wrapping_mul(0x9e37_79b9_7f4a_7c15)
 }
 
+/// What spreads accounts over so many slots.
+fn spread_of(who: AccountId, count: usize) -> u64
+    ensures { result ≡ spread_in count who }
+{
+    (mixed(who) >> 32).wrapping_mul(count as u64)
+}
+
 /// The first slot of an account, where a search may begin at so many.
 fn slot_of(who: AccountId, count: usize) -> usize
     ensures first { result ≡ slot_in count who }
     ensures small { result < 2 ^ 32 }
 {
-    ((mixed(who) >> 32).wrapping_mul(count as u64) >> 32) as usize
+    (spread_of(who, count) >> 32) as usize
+}
+
+/// The tag of an account: what its first slot does not tell of it, as a multiple of `count`. Places
+/// are below `count`, so marks with different tags differ.
+fn tag_of(who: AccountId, count: usize) -> u32
+    ensures { result ≡ tag_in count who }
+{
+    (spread_of(who, count) % (1 << 32)) as u32
 }
 
 /// Whether the account stands at this place.
@@ -59,11 +77,21 @@ pub(crate) fn stands_at(accounts: &[AccountId], place: usize, who: AccountId) ->
     }
 }
 
-/// The mark of a place, where 32 bits hold it.
-fn mark_of(place: usize) -> Option<u32>
-    ensures { IfSome result (λ mark. mark ≡ place + 1) }
+/// The mark of a place, where 32 bits hold it and it is not that of a free slot.
+fn mark_of(tag: u32, place: usize) -> Option<u32>
+    ensures { IfSome result (λ mark. IsMark tag place mark) }
 {
-    u32::try_from(place).ok()?.checked_add(1)
+    match tag.wrapping_add(u32::try_from(place).ok()?) {
+        0 => None,
+        mark => Some(mark),
+    }
+}
+
+/// The place that a mark says to an account with this tag.
+fn place_of(tag: u32, mark: u32) -> usize
+    ensures { (place : ℕ) → IsMark tag place mark → result ≡ place }
+{
+    mark.wrapping_sub(tag) as usize
 }
 
 impl Index {
@@ -104,13 +132,12 @@ impl Index {
         Ok(index)
     }
 
-    /// The mark of a slot. Beyond the slots it is that of the first place, which is looked at as
-    /// any other mark.
-    fn mark(&self, slot: usize) -> usize
+    /// The mark of a slot. Beyond the slots there is one that is looked at as any other.
+    fn mark(&self, slot: usize) -> u32
         ensures { result ≡ mark_at self.now.slots.items slot }
     {
         match self.slots.get(slot) {
-            Some(mark) => *mark as usize,
+            Some(mark) => *mark,
             None => 1,
         }
     }
@@ -140,7 +167,8 @@ impl Index {
             × (self.new.count ≡ self.old.count)
             × (self.new.crowd.entries ≡ self.old.crowd.entries)) }
     {
-        if let (Some(slot), Some(mark)) = (self.free_slot(who), mark_of(place)) {
+        let mark = mark_of(tag_of(who, self.count), place);
+        if let (Some(slot), Some(mark)) = (self.free_slot(who), mark) {
             self.slots[slot] = mark;
             return Ok(());
         }
@@ -155,26 +183,25 @@ impl Index {
         ensures found { IfSome result (λ place. slice_get accounts.now place ≡ Some who) }
         ensures absent { IfNone result ((place : ℕ) → slice_get accounts.now place ≢ Some who) }
     {
-        let first = slot_of(who, self.count);
+        let (first, tag) = (slot_of(who, self.count), tag_of(who, self.count));
         for slot in first..first + TRIES {
             let mark = self.mark(slot);
             if mark == 0 {
                 break;
             }
-            if stands_at(accounts, mark - 1, who) {
-                return Some(mark - 1);
+            let place = place_of(tag, mark);
+            if stands_at(accounts, place, who) {
+                return Some(place);
             }
         }
         self.crowd.get(&who).copied()
     }
 
-    /// What the account's first slot says: the place of whoever came first to it, or a number
-    /// beyond all places where nobody did.
+    /// What the account's first slot says: the place of the account, where that came first to the
+    /// slot, and else mostly a number beyond all places.
     fn guess(&self, who: AccountId) -> u32 {
-        match self.slots.get(slot_of(who, self.count)) {
-            Some(mark) => mark.wrapping_sub(1),
-            None => u32::MAX,
-        }
+        self.mark(slot_of(who, self.count))
+            .wrapping_sub(tag_of(who, self.count))
     }
 
     /// Appends the guess for each of these accounts. No read waits for another here.
