@@ -8,9 +8,9 @@ use crate::saved_lists::copied;
 use npos_base::{AccountId, List, NoMemory};
 use state_rules::{RoleKind, RoleRow};
 use std::alloc::Global;
-use voter_lists::{Bags, Roles, Standing};
+use voter_lists::{Bags, Role, Roles};
 
-/// What an account does in elections. It may be found by the guess, as `standing_from` says.
+/// What an account does in elections. It may be found by the guess, as `role_from` says.
 fn kind_of(
     alloc: Global,
     roles: &Roles,
@@ -19,17 +19,15 @@ fn kind_of(
 ) -> Result<RoleKind, NoMemory>
     ensures { IfOk result (λ kind. kind ≡ kind_in (standing_of roles.now who)) }
 {
-    match roles.standing_from(guess, who) {
-        None => Ok(RoleKind::Nominator {
+    match roles.role_from(guess, who) {
+        (Role::Nobody, _) => Ok(RoleKind::Nominator {
             targets: List::new(alloc),
         }),
-        Some(Standing::Nominator(targets)) => {
-            let targets = copied(alloc, targets.as_slice())?;
+        (Role::Nominator, targets) => {
+            let targets = copied(alloc, targets)?;
             Ok(RoleKind::Nominator { targets })
         }
-        Some(Standing::Validator { commission }) => Ok(RoleKind::Validator {
-            commission: *commission,
-        }),
+        (Role::Validator { commission }, _) => Ok(RoleKind::Validator { commission }),
     }
 }
 

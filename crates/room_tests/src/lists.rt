@@ -4,7 +4,7 @@ ghost use Rattle.std.specs.Prelude.{◌≡◌, IfOk};
 use npos_base::{AccountId, List, NoMemory};
 use std::alloc::Global;
 use std::test::Fail;
-use voter_lists::{Bags, ListRefusal, Role, Roles, Standing, laws};
+use voter_lists::{Bags, ListRefusal, Role, Roles, laws};
 
 /// The account of 31 bytes 0 and this one.
 const fn at(n: u8) -> AccountId {
@@ -91,20 +91,19 @@ fn roles_come_and_go(rt: HostRuntime) -> Result<(), Fail> {
         Ok(())
     );
     assert_eq!(rt; roles.targets_of(at(3)), [at(2), at(1)].as_slice());
+    assert_eq!(rt; roles.nominate(at(4), list_of(alloc, &[at(1)])?), Ok(()));
     let mut guess = 0;
-    assert!(rt;
-        matches!(
-            roles.standing_from(&mut guess, at(2)),
-            Some(Standing::Validator { commission: 7 })
-        )
-    );
-    assert!(rt;
-        matches!(
-            roles.standing_from(&mut guess, at(3)),
-            Some(Standing::Nominator(_))
-        )
-    );
-    assert_eq!(rt; guess, 3);
+    let table: [(u8, Role, &[AccountId]); 5] = [
+        (2, Role::Validator { commission: 7 }, &[]),
+        (1, Role::Validator { commission: 9 }, &[]),
+        (3, Role::Nominator, &[at(2), at(1)]),
+        (4, Role::Nominator, &[at(1)]),
+        (9, Role::Nobody, &[]),
+    ];
+    for (who, role, targets) in table {
+        assert_eq!(rt; roles.role_from(&mut guess, at(who)), (role, targets));
+    }
+    assert_eq!(rt; guess, 4);
     assert_eq!(rt; roles.role(at(2)), Role::Validator { commission: 7 });
     assert_eq!(rt; roles.chill(at(2)), Ok(()));
     assert_eq!(rt; roles.role(at(2)), Role::Nobody);

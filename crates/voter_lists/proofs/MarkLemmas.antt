@@ -11,8 +11,8 @@ use Rattle.npos_base.proofs.NumberTests.{number_same, number_tie}
 use Rattle.account_places.specs.Index.{StandOnce}
 use Rattle.account_places.specs.Places.{place_in, by_account}
 use Rattle.account_places.proofs.StandLemmas.{slice_left, slice_cases, stand_more}
-use Rattle.voter_lists.specs.declared.row.Row.{Row}
 use Rattle.voter_lists.specs.declared.standing.Standing.{Standing}
+use Rattle.voter_lists.specs.Noted.{Noted, noted_nobody}
 use Rattle.voter_lists.specs.Marks.{unknown, IsMark, AreMarks, KeepPlaces, RepeatAlike}
 use Rattle.voter_lists.specs.Roles.{standing_of, targets_in, with_standing, without_role}
 use Rattle.voter_lists.specs.Standings.{AreBeside, IsMarked, standings_in, standings_placed}
@@ -74,21 +74,21 @@ module _ (accounts : List AccountId) (once : StandOnce accounts) where
       ap₂ (λ a b. a || b) (same_any mark target (head_known mark marks target targets are parts.0) marks targets later parts.1) (repeat_alike marks targets later parts.1)
 
 -- a row that is set at a place, or comes behind the others
-set_cases : (rows : List Row) (place at : ℕ) (row other : Row) → slice_get (slice_set rows place row) at ≡ Some other → (P : Type 0) → (other ≡ row → P) → (slice_get rows at ≡ Some other → P) → P
+set_cases : (rows : List Noted) (place at : ℕ) (row other : Noted) → slice_get (slice_set rows place row) at ≡ Some other → (P : Type 0) → (other ≡ row → P) → (slice_get rows at ≡ Some other → P) → P
 set_cases [] place at row other there P here before = before there
 set_cases (r ∷ rows) zero zero row other there P here before = here (same_Some other row (sym there))
 set_cases (r ∷ rows) zero (suc at) row other there P here before = before there
 set_cases (r ∷ rows) (suc place) zero row other there P here before = before there
 set_cases (r ∷ rows) (suc place) (suc at) row other there P here before = set_cases rows place at row other there P here before
 
-pub beside_set : (rows : List Row) (accounts : List AccountId) (place : ℕ) (row : Row) → AreBeside rows accounts → IsMarked accounts row → AreBeside (slice_set rows place row) accounts
+pub beside_set : (rows : List Noted) (accounts : List AccountId) (place : ℕ) (row : Noted) → AreBeside rows accounts → IsMarked accounts row → AreBeside (slice_set rows place row) accounts
 beside_set rows accounts place row beside marked = record {
   stand = beside.stand;
   count = length-set rows place row ∙ beside.count;
   marked = λ at other there. set_cases rows place at row other there (IsMarked accounts other) (λ same. subst (IsMarked accounts) (sym same) marked) (λ before. beside.marked at other before);
 }
 
-pub beside_more : (rows : List Row) (accounts : List AccountId) (who : AccountId) (row : Row) → AreBeside rows accounts → place_in (by_account accounts) who ≡ None → IsMarked accounts row
+pub beside_more : (rows : List Noted) (accounts : List AccountId) (who : AccountId) (row : Noted) → AreBeside rows accounts → place_in (by_account accounts) who ≡ None → IsMarked accounts row
     → AreBeside (rows ++ row ∷ []) (accounts ++ who ∷ [])
 beside_more rows accounts who row beside nowhere marked = record {
   stand = stand_more accounts who beside.stand nowhere;
@@ -104,43 +104,44 @@ beside_none = record {
   marked = λ place row there. absurd (none-some row there);
 }
 
-standings_more : (rows : List Row) (row : Row) → standings_in (rows ++ row ∷ []) ≡ standings_in rows ++ row.standing ∷ []
+standings_more : (rows : List Noted) (row : Noted) → standings_in (rows ++ row ∷ []) ≡ standings_in rows ++ row.standing ∷ []
 standings_more [] row = refl
 standings_more (r ∷ rows) row = ap (λ (ss : List (Option Standing)). r.standing ∷ ss) (standings_more rows row)
 
-counted : (rows : List Row) (accounts : List AccountId) → AreBeside rows accounts → length (standings_in rows) ≡ length accounts
-counted rows accounts beside = length-map rows (λ (row : Row). row.standing) ∙ beside.count
+counted : (rows : List Noted) (accounts : List AccountId) → AreBeside rows accounts → length (standings_in rows) ≡ length accounts
+counted rows accounts beside = length-map rows (λ (row : Noted). row.standing) ∙ beside.count
 
 -- who has a place has the row that stands there
-module _ (rows : List Row) (accounts : List AccountId) (who : AccountId) (place : ℕ) (beside : AreBeside rows accounts) (there : place_in (by_account accounts) who ≡ Some place) where
+module _ (rows : List Noted) (accounts : List AccountId) (who : AccountId) (place : ℕ) (beside : AreBeside rows accounts) (there : place_in (by_account accounts) who ≡ Some place) where
   pub row_within : place < length rows
   row_within = omega (arith, beside.count, slice_get_within accounts place who (beside.stand.standing who place there))
 
-  pub row_standing : (row : Row) → row ≡ get_or rows place row → row.standing ≡ standing_of (standings_placed (standings_in rows) (by_account accounts)) who
+  pub row_standing : (row : Noted) → row ≡ get_or rows place row → row.standing ≡ standing_of (standings_placed (standings_in rows) (by_account accounts)) who
   row_standing row is =
-      ap (λ (r : Row). r.standing) is ∙ sym (get_or-map (λ (r : Row). r.standing) rows place row None row_within)
+      ap (λ (r : Noted). r.standing) is ∙ sym (get_or-map (λ (r : Noted). r.standing) rows place row None row_within)
       ∙ sym (standing_there (standings_in rows) accounts who place beside.stand (counted rows accounts beside) there)
 
-  pub row_set : (standing : Standing) (marks : List ℕ)
-      → standings_placed (standings_in (slice_set rows place (record { standing = Some standing; marks = marks }))) (by_account accounts) ≡ with_standing (standings_placed (standings_in rows) (by_account accounts)) who standing
-  row_set standing marks =
-      ap (λ (ss : List (Option Standing)). standings_placed ss (by_account accounts)) (map-set (λ (r : Row). r.standing) rows place (record { standing = Some standing; marks = marks }))
+  pub row_set : (row : Noted) (standing : Standing) → row.standing ≡ Some standing
+      → standings_placed (standings_in (slice_set rows place row)) (by_account accounts) ≡ with_standing (standings_placed (standings_in rows) (by_account accounts)) who standing
+  row_set row standing is =
+      ap (λ (ss : List (Option Standing)). standings_placed ss (by_account accounts)) (map-set (λ (r : Noted). r.standing) rows place row)
+      ∙ ap (λ (o : Option Standing). standings_placed (slice_set (standings_in rows) place o) (by_account accounts)) is
       ∙ placed_set (standings_in rows) accounts who place beside.stand (counted rows accounts beside) there standing
 
-  pub row_unset : (marks : List ℕ) → standings_placed (standings_in (slice_set rows place (record { standing = None; marks = marks }))) (by_account accounts) ≡ without_role (standings_placed (standings_in rows) (by_account accounts)) who
-  row_unset marks =
-      ap (λ (ss : List (Option Standing)). standings_placed ss (by_account accounts)) (map-set (λ (r : Row). r.standing) rows place (record { standing = None; marks = marks }))
+  pub row_unset : standings_placed (standings_in (slice_set rows place noted_nobody)) (by_account accounts) ≡ without_role (standings_placed (standings_in rows) (by_account accounts)) who
+  row_unset =
+      ap (λ (ss : List (Option Standing)). standings_placed ss (by_account accounts)) (map-set (λ (r : Noted). r.standing) rows place noted_nobody)
       ∙ placed_unset (standings_in rows) accounts who place beside.stand (counted rows accounts beside) there
 
 -- an account that gets a place has no standing for that
-pub row_more : (rows : List Row) (accounts : List AccountId) (who : AccountId) (marks : List ℕ) → AreBeside rows accounts → place_in (by_account accounts) who ≡ None
-    → standings_placed (standings_in (rows ++ record { standing = None; marks = marks } ∷ [])) (by_account (accounts ++ who ∷ [])) ≡ standings_placed (standings_in rows) (by_account accounts)
-row_more rows accounts who marks beside nowhere =
-    ap (λ (ss : List (Option Standing)). standings_placed ss (by_account (accounts ++ who ∷ []))) (standings_more rows (record { standing = None; marks = marks }))
+pub row_more : (rows : List Noted) (accounts : List AccountId) (who : AccountId) → AreBeside rows accounts → place_in (by_account accounts) who ≡ None
+    → standings_placed (standings_in (rows ++ noted_nobody ∷ [])) (by_account (accounts ++ who ∷ [])) ≡ standings_placed (standings_in rows) (by_account accounts)
+row_more rows accounts who beside nowhere =
+    ap (λ (ss : List (Option Standing)). standings_placed ss (by_account (accounts ++ who ∷ []))) (standings_more rows noted_nobody)
     ∙ placed_more (standings_in rows) accounts who nowhere beside.stand (counted rows accounts beside)
 
 -- who has no place has no standing
-pub nowhere_standing : (rows : List Row) (accounts : List AccountId) (who : AccountId) (found : Option ℕ) → found ≡ place_in (by_account accounts) who
+pub nowhere_standing : (rows : List Noted) (accounts : List AccountId) (who : AccountId) (found : Option ℕ) → found ≡ place_in (by_account accounts) who
     → IfNone found (standing_of (standings_placed (standings_in rows) (by_account accounts)) who ≡ None)
 nowhere_standing rows accounts who None is = standing_nowhere (standings_in rows) accounts who (sym is)
 nowhere_standing rows accounts who (Some place) is = tt

@@ -9,6 +9,7 @@ pub mod Ranking
 pub mod Roles
 pub mod Standings
 pub mod Held
+pub mod Noted
 pub mod Links
 pub mod Rings
 pub mod Nodes

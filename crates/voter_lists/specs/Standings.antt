@@ -3,8 +3,8 @@ use Rattle.std.specs.Prelude.{◌≡◌, ℕ, List, Option, Some, None, [], ◌�
 use Rattle.npos_base.specs.declared.account.AccountId.{AccountId}
 use Rattle.account_places.specs.Places.{by_account, Stand}
 use Rattle.voter_lists.specs.declared.standing.Standing.{Standing}
-use Rattle.voter_lists.specs.declared.row.Row.{Row}
 use Rattle.voter_lists.specs.Marks.{AreMarks}
+use Rattle.voter_lists.specs.Noted.{Noted}
 use Rattle.voter_lists.specs.Roles.{RoleList, targets_in}
 
 -- the roles, and the accounts in the order of their places
@@ -23,15 +23,15 @@ standings_placed standings [] = []
 standings_placed standings (entry ∷ entries) =
     with_some entry.0 (get_or standings entry.1 None) (standings_placed standings entries)
 
-abbrev pub standings_in : List Row → List (Option Standing)
+abbrev pub standings_in : List Noted → List (Option Standing)
 standings_in rows = map (λ row. row.standing) rows
 
 -- the row marks whom its standing names
-abbrev pub IsMarked : List AccountId → Row → Type 0
+abbrev pub IsMarked : List AccountId → Noted → Type 0
 IsMarked accounts row = AreMarks accounts row.marks (targets_in row.standing)
 
 -- there is a row for each account at its place, and it marks whom it names
-pub record AreBeside (rows : List Row) (accounts : List AccountId) : Type 0 where
+pub record AreBeside (rows : List Noted) (accounts : List AccountId) : Type 0 where
   pub stand : Stand accounts (by_account accounts)
   pub count : length rows ≡ length accounts
-  pub marked : (place : ℕ) (row : Row) → slice_get rows place ≡ Some row → IsMarked accounts row
+  pub marked : (place : ℕ) (row : Noted) → slice_get rows place ≡ Some row → IsMarked accounts row

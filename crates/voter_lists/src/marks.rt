@@ -1,5 +1,5 @@
 //! The marks of accounts: their places, which never change, or that they are not known.
-ghost use Rattle.std.specs.Prelude.{◌≡◌, ◌≢◌, ◌≤◌, [], length, take, IfOk};
+ghost use Rattle.std.specs.Prelude.{◌≡◌, ◌≢◌, ◌≤◌, length, take, IfOk};
 ghost use Rattle.voter_lists.specs.Marks.{unknown, IsMark, AreMarks};
 
 use account_places::Places;
@@ -42,18 +42,6 @@ impl Model for Marks {
 }
 
 impl Marks {
-    /// No marks. It takes no memory.
-    pub(crate) fn none() -> Marks
-        ensures { result ≡ [] }
-    {
-        Marks {
-            held: Held::Few {
-                count: 0,
-                marks: [UNKNOWN; FEW],
-            },
-        }
-    }
-
     /// The first of these marks, as many as `count` says. It takes no memory.
     fn few(count: usize, marks: [u32; FEW]) -> Marks
         requires { count ≤ FEW }

@@ -7,7 +7,7 @@ ghost use Rattle.voter_lists.specs.Votes.{rank_of, votes_of};
 
 use crate::marks::UNKNOWN;
 use crate::ranks::rank_among;
-use crate::standing::Standing;
+use crate::standing::Role;
 use crate::standings::Standings;
 use npos_base::{AccountId, NoMemory};
 use std::alloc::Global;
@@ -119,17 +119,15 @@ impl<'a> Ranking<'a> {
         ensures { OnOk result (votes.new.items ≡ votes_of self.now.standings.now.roles who.now) }
     {
         let row = self.standings.row(place);
-        match row.standing.as_ref() {
-            Some(Standing::Nominator(targets)) => {
-                self.cast_for(row.marks.as_slice(), targets.as_slice(), votes)
-            }
-            Some(Standing::Validator { .. }) => {
+        match row.role() {
+            Role::Nominator => self.cast_for(row.marks(), row.targets(), votes),
+            Role::Validator { .. } => {
                 if let Some(rank) = self.rank_at(place, who) {
                     votes.push(rank)?;
                 }
                 Ok(())
             }
-            None => Ok(()),
+            Role::Nobody => Ok(()),
         }
     }
 }

@@ -1,6 +1,5 @@
 //! The roles of accounts, after Substrate's staking pallet.
 ghost use Rattle.std.specs.Prelude.{◌≡◌, ◌≢◌, ◌<◌, ◌≤◌, [], ◌∷◌, length, None, Some, IfOk, IfErr, OnOk, OnErr, slice_get, position, is_some};
-ghost use Rattle.std.specs.Option.{option_copied};
 ghost use Rattle.std.specs.List.{list_any};
 ghost use Rattle.std.specs.List.Sorted.{IsStrictlySortedBy};
 ghost use Rattle.npos_base.specs.Account.{account_cmp, same_account};
@@ -10,14 +9,14 @@ ghost use Rattle.voter_lists.specs.declared.refusal.ListRefusal.TheVariants.{NoM
 ghost use Rattle.voter_lists.specs.Marks.{AreMarks, RepeatAlike, has_repeated_mark};
 ghost use Rattle.voter_lists.specs.Owed.{Meets};
 ghost use Rattle.voter_lists.specs.Ranked.{AreRanked};
-ghost use Rattle.voter_lists.specs.Roles.{role_of, nominated_by, validators_of, is_validator, KeepsOthers, standing_of, has_repeated_account, is_no_target, nominate_refusal, nominated, validate_refusal, validating, chill_refusal, without_role};
+ghost use Rattle.voter_lists.specs.Roles.{role_of, nominated_by, validators_of, is_validator, KeepsOthers, has_repeated_account, is_no_target, nominate_refusal, nominated, validate_refusal, validating, chill_refusal, without_role};
 ghost use Rattle.voter_lists.specs.Taken.{CanTake, with_role};
 
 use crate::ListRefusal;
 use crate::electorate::Electorate;
 use crate::marks::{Marks, UNKNOWN};
 use crate::ranks::{enter, leave, leave_where, rank_among};
-use crate::standing::{Role, Standing};
+use crate::standing::Role;
 use crate::standings::Standings;
 use npos_base::{AccountId, List, MOST_NOMINATIONS, MOST_VALIDATORS, NoMemory, WHOLE_FRACTION};
 use std::alloc::Global;
@@ -150,21 +149,22 @@ impl Roles {
         ensures { result ≡ role_of self.now who }
     {
         match self.standings.get(who) {
+            Some(row) => row.role(),
             None => Role::Nobody,
-            Some(Standing::Nominator(_)) => Role::Nominator,
-            Some(Standing::Validator { commission }) => Role::Validator {
-                commission: *commission,
-            },
         }
     }
 
-    /// What is kept of an account that has a role, for accounts that are asked for in about the
-    /// order in which they first had one: the account may be found by the guess, which then is of
-    /// the account that came next.
-    pub fn standing_from(&self, guess: &mut usize, who: AccountId) -> Option<&Standing>
-        ensures { option_copied result ≡ standing_of self.now who }
+    /// The role of an account and its targets, for accounts that are asked for in about the order
+    /// in which they first had one: the account may be found by the guess, which then is of the
+    /// account that came next.
+    pub fn role_from(&self, guess: &mut usize, who: AccountId) -> (Role, &[AccountId])
+        ensures role { result.0 ≡ role_of self.now who }
+        ensures targets { result.1.now ≡ nominated_by self.now who }
     {
-        self.standings.get_from(guess, who)
+        match self.standings.get_from(guess, who) {
+            Some(row) => (row.role(), row.targets()),
+            None => (Role::Nobody, &[]),
+        }
     }
 
     /// The targets of a nominator, in the order in which it named them. Nobody else has any.
@@ -172,8 +172,8 @@ impl Roles {
         ensures { result.now ≡ nominated_by self.now who }
     {
         match self.standings.get(who) {
-            Some(Standing::Nominator(targets)) => targets.as_slice(),
-            _ => &[],
+            Some(row) => row.targets(),
+            None => &[],
         }
     }
 

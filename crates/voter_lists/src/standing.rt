@@ -11,7 +11,8 @@ pub enum Role {
     Validator { commission: u32 },
 }
 
-/// What is kept of an account that has a role.
+/// What an account that has a role does, as contracts see it. No code makes one: the row of the
+/// account keeps the same in less memory.
 #[derive(Debug, Drop)]
 pub enum Standing {
     /// It nominates these validators, in the order in which it named them.

@@ -3,13 +3,14 @@ ghost use Rattle.std.specs.Prelude.{◌≡◌, ◌<◌, ◌≤◌, [], false, So
 ghost use Rattle.std.specs.Option.{option_copied};
 ghost use Rattle.npos_base.specs.declared.account.AccountId.{AccountId};
 ghost use Rattle.account_places.specs.Places.{place_in, by_account, Stand};
+ghost use Rattle.voter_lists.specs.declared.standing.Standing.{Standing};
 ghost use Rattle.voter_lists.specs.Marks.{IsMark, AreMarks, KeepPlaces, RepeatAlike};
-ghost use Rattle.voter_lists.specs.Roles.{standing_of, targets_in, is_validator, nominated, validating, with_standing, without_role};
+ghost use Rattle.voter_lists.specs.Noted.{standing_at};
+ghost use Rattle.voter_lists.specs.Roles.{standing_of, is_validator, nominated, validating, with_standing, without_role};
 ghost use Rattle.voter_lists.specs.Standings.{IsMarked};
 
 use crate::marks::{Marks, UNKNOWN, marks_of};
 use crate::row::Row;
-use crate::standing::Standing;
 use account_places::Places;
 use npos_base::{AccountId, List, NoMemory};
 use std::alloc::Global;
@@ -59,25 +60,25 @@ impl Standings {
         self.places.count()
     }
 
-    /// The standing of an account.
-    pub(crate) fn get(&self, who: AccountId) -> Option<&Standing>
-        ensures { option_copied result ≡ standing_of self.now.roles who }
+    /// The row of an account that has a place.
+    pub(crate) fn get(&self, who: AccountId) -> Option<&Row>
+        ensures { standing_at (option_copied result) ≡ standing_of self.now.roles who }
     {
         match self.places.find(who) {
-            Some(place) => self.rows[place].standing.as_ref(),
+            Some(place) => Some(&self.rows[place]),
             None => None,
         }
     }
 
-    /// The standing of an account, which may be the one at the guess. The next guess is the
-    /// standing behind it.
-    pub(crate) fn get_from(&self, guess: &mut usize, who: AccountId) -> Option<&Standing>
-        ensures { option_copied result ≡ standing_of self.now.roles who }
+    /// The row of an account that has a place, which may be the one at the guess. The next guess is
+    /// the row behind it.
+    pub(crate) fn get_from(&self, guess: &mut usize, who: AccountId) -> Option<&Row>
+        ensures { standing_at (option_copied result) ≡ standing_of self.now.roles who }
     {
         match self.places.find_from(*guess, who) {
             Some(place) => {
                 *guess = place.wrapping_add(1);
-                self.rows[place].standing.as_ref()
+                Some(&self.rows[place])
             }
             None => None,
         }
@@ -115,8 +116,8 @@ impl Standings {
         ensures { result ≡ is_validator self.now.roles who }
     {
         match self.get(who) {
-            Some(Standing::Validator { .. }) => true,
-            _ => false,
+            Some(row) => row.is_validator(),
+            None => false,
         }
     }
 
@@ -152,11 +153,7 @@ impl Standings {
         let place = self.places.count();
         self.rows.reserve(1)?;
         self.places.put(who)?;
-        let row = Row {
-            standing: None,
-            marks: Marks::none(),
-        };
-        match self.rows.push(row) {
+        match self.rows.push(Row::nobody()) {
             Ok(()) => Ok(place),
             Err(_) => unreachable!(),
         }
@@ -186,20 +183,18 @@ impl Standings {
         self.marks_of(targets)
     }
 
-    /// The account has this standing in place of any that it had. It tells whether the account was
-    /// a validator.
-    fn put(&mut self, who: AccountId, standing: Standing, marks: Marks) -> Result<bool, NoMemory>
-        requires { AreMarks self.old.accounts marks (targets_in (Some standing)) }
+    /// The account has this row in place of any that it had. It tells whether the account was a
+    /// validator.
+    fn put(&mut self, who: AccountId, row: Row) -> Result<bool, NoMemory>
+        requires { IsMarked self.old.accounts row }
         ensures was { IfOk result (λ was. was ≡ is_validator self.old.roles who) }
-        ensures ok { OnOk result (self.new.roles ≡ with_standing self.old.roles who standing) }
+        ensures ok { (standing : Standing) → row.standing ≡ Some standing
+            → OnOk result (self.new.roles ≡ with_standing self.old.roles who standing) }
         ensures err { OnErr result (self.new.roles ≡ self.old.roles) }
     {
         let place = self.place_for(who)?;
         let was = self.rows[place].is_validator();
-        self.rows[place] = Row {
-            standing: Some(standing),
-            marks,
-        };
+        self.rows[place] = row;
         Ok(was)
     }
 
@@ -216,7 +211,7 @@ impl Standings {
         ensures ok { OnOk result (self.new.roles ≡ nominated self.old.roles who targets) }
         ensures err { OnErr result (self.new.roles ≡ self.old.roles) }
     {
-        self.put(who, Standing::Nominator(targets), marks)
+        self.put(who, Row::nominator(targets, marks))
     }
 
     /// The account is a validator with this commission.
@@ -224,7 +219,7 @@ impl Standings {
         ensures ok { OnOk result (self.new.roles ≡ validating self.old.roles who commission) }
         ensures err { OnErr result (self.new.roles ≡ self.old.roles) }
     {
-        self.put(who, Standing::Validator { commission }, Marks::none())?;
+        self.put(who, Row::validator(commission))?;
         Ok(())
     }
 
@@ -237,11 +232,8 @@ impl Standings {
         let Some(place) = self.places.find(who) else {
             return false;
         };
-        let had = self.rows[place].standing.is_some();
-        self.rows[place] = Row {
-            standing: None,
-            marks: Marks::none(),
-        };
+        let had = self.rows[place].has_role();
+        self.rows[place] = Row::nobody();
         had
     }
 }

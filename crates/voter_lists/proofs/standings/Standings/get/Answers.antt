@@ -13,7 +13,7 @@ index-requires c =
 pub returns-in-Some : goal.returns-in-Some
 returns-in-Some c =
     rw (← c.self.view_is)
-    (c.as_ref.ensures.value ∙ row_standing c.self.inside.rows.items c.self.inside.places c.args.who c.in-Some.place c.self.invariant (sym c.find.ensures.place ∙ c.in-Some.is) c.index.result.now c.index.ensures)
+    (row_standing c.self.inside.rows.items c.self.inside.places c.args.who c.in-Some.place c.self.invariant (sym c.find.ensures.place ∙ c.in-Some.is) c.index.result.now c.index.ensures)
 
 pub returns-in-None : goal.returns-in-None
 returns-in-None c =

@@ -1,9 +1,8 @@
--- The standing stands at the place of the account.
+-- The row stands at the place of the account.
 use Rattle.std.proofs.Common.{rules, ◌≡◌, ◌<◌, ◌∙◌, length, Some, ap}
 use Rattle.account_places.specs.Places.{place_in, by_account}
-use Rattle.voter_lists.specs.Marks.{AreMarks}
-use Rattle.voter_lists.specs.Roles.{targets_in, is_validator, is_validator_in, with_standing}
-use Rattle.voter_lists.specs.Standings.{PlacedRoles}
+use Rattle.voter_lists.specs.Roles.{is_validator, is_validator_in, with_standing}
+use Rattle.voter_lists.specs.Standings.{PlacedRoles, IsMarked}
 use Rattle.voter_lists.proofs.MarkLemmas.{kept_marks, beside_set, row_within, row_standing, row_set}
 use Rattle.voter_lists.proofs.standings.Standings.put.Goals as goal
 
@@ -15,14 +14,14 @@ index_mut-requires c =
 
 pub invariant_of-self : goal.invariant_of-self
 invariant_of-self c =
-    let marks : AreMarks c.place_for.new.self.accounts c.args.marks (targets_in (Some c.args.standing)) = kept_marks _ _ _ _ c.place_for.ensures.kept c.requires in
-    beside_set c.self.inside.rows.items c.self.inside.places c.in_ok-place.place _ c.self.invariant (rw (← c.self.view_is) at marks)
+    let marked : IsMarked c.place_for.new.self.accounts c.args.row = kept_marks _ _ _ _ c.place_for.ensures.kept c.requires in
+    beside_set c.self.inside.rows.items c.self.inside.places c.in_ok-place.place _ c.self.invariant (rw (← c.self.view_is) at marked)
 
 pub returns-clause-ok : goal.returns-clause-ok
-returns-clause-ok c =
+returns-clause-ok c standing is =
     let there : place_in (by_account c.self.inside.places) c.args.who ≡ Some c.in_ok-place.place = rw (← c.self.view_is) at c.in_ok-place.ensures.place in
-    row_set c.self.inside.rows.items c.self.inside.places c.args.who c.in_ok-place.place c.self.invariant there c.args.standing c.args.marks
-    ∙ ap (λ roles. with_standing roles c.args.who c.args.standing) (ap (λ (p : PlacedRoles). p.roles) c.self.view_is ∙ c.place_for.ensures.roles)
+    row_set c.self.inside.rows.items c.self.inside.places c.args.who c.in_ok-place.place c.self.invariant there c.args.row standing is
+    ∙ ap (λ roles. with_standing roles c.args.who standing) (ap (λ (p : PlacedRoles). p.roles) c.self.view_is ∙ c.place_for.ensures.roles)
 
 pub index-requires : goal.index-requires
 index-requires c =

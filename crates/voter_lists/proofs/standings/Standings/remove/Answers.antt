@@ -17,16 +17,16 @@ index_mut-requires c =
 
 pub invariant_of-self : goal.invariant_of-self
 invariant_of-self c =
-    beside_set c.self.inside.rows.items c.self.inside.places c.in-Some.place _ c.self.invariant (rw c.none.ensures (no_marks c.self.inside.places))
+    beside_set c.self.inside.rows.items c.self.inside.places c.in-Some.place _ c.self.invariant (rw c.nobody.ensures (no_marks c.self.inside.places))
 
 pub returns-clause-had : goal.returns-clause-had
 returns-clause-had c =
     rw (← c.self.view_is)
-    (c.is_some-had.ensures ∙ ap is_some (row_standing c.self.inside.rows.items c.self.inside.places c.args.who c.in-Some.place c.self.invariant (sym c.find.ensures.place ∙ c.in-Some.is) c.index.result.now c.index.ensures))
+    (c.has_role-had.ensures ∙ ap is_some (row_standing c.self.inside.rows.items c.self.inside.places c.args.who c.in-Some.place c.self.invariant (sym c.find.ensures.place ∙ c.in-Some.is) c.index.result.now c.index.ensures))
 
 pub returns-clause-gone : goal.returns-clause-gone
 returns-clause-gone c =
-    rw (← c.self.view_is) (row_unset c.self.inside.rows.items c.self.inside.places c.args.who c.in-Some.place c.self.invariant (sym c.find.ensures.place ∙ c.in-Some.is) c.none.result)
+    rw (← c.self.view_is, c.nobody.ensures) (row_unset c.self.inside.rows.items c.self.inside.places c.args.who c.in-Some.place c.self.invariant (sym c.find.ensures.place ∙ c.in-Some.is))
 
 pub returns-in_default-clause-had : goal.returns-in_default-clause-had
 returns-in_default-clause-had c = rw (← c.self.view_is) (ap is_some (sym (standing_nowhere (standings_in c.self.inside.rows.items) c.self.inside.places c.args.who (sym c.find.ensures.place ∙ c.in_default.is))))
