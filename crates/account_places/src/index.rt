@@ -16,11 +16,12 @@ const LEAST_SLOTS: usize = 256;
 const TRIES: usize = 4;
 
 /// An account marks its place in the first of its slots that is free. An account that finds all of
-/// them taken, or whose place has no mark of 32 bits, is in the crowd, which is searched by its
-/// order: so no choice of accounts makes a search long.
+/// them taken, or whose place has no mark, is in the crowd, which is searched by its order: so no
+/// choice of accounts makes a search long.
 ///
-/// A mark is the sum of the place and the account's tag. To an account with another tag it says a
-/// place beyond all that there are, so mostly the slot alone tells that the mark is another's.
+/// A mark is the sum of the place and the account's tag. While places are fewer than slots, as they
+/// are but for want of memory, it says to an account with another tag a place beyond all that there
+/// are. So mostly the slot alone tells that a mark is another's, and nothing rests on that.
 #[derive(Drop)]
 pub(crate) struct Index {
     // the mark of the account that came first to the slot, or 0
@@ -58,8 +59,8 @@ fn slot_of(who: AccountId, count: usize) -> usize
     (spread_of(who, count) >> 32) as usize
 }
 
-/// The tag of an account: what its first slot does not tell of it, as a multiple of `count`. Places
-/// are below `count`, so marks with different tags differ.
+/// The tag of an account: what its first slot does not tell of it, as a multiple of `count`. While
+/// places are below `count`, marks with different tags differ.
 fn tag_of(who: AccountId, count: usize) -> u32
     ensures { result ≡ tag_in count who }
 {
