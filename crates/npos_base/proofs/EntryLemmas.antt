@@ -81,18 +81,6 @@ module _ {K X : Type 0} {R : K → K → Ordering} (o : IsTotalOrder R) (k : K) 
   put_back (e ∷ es) row s found =
       undone_at e es row (R k e.0) refl s found (λ there. put_back es row (sorted_tail R e.0 (keys_of es) s) there)
 
-  taken_at : (e : K × X) (es : List (K × X)) (r : Ordering) → R k e.0 ≡ r → lookup (is_at (R k)) (e ∷ es) ≡ None
-      → (lookup (is_at (R k)) es ≡ None → remove_entry (is_at (R k)) (insert_entry R es k v) ≡ es)
-      → remove_entry (is_at (R k)) (match_ordering r ((k, v) ∷ e ∷ es) ((e.0, v) ∷ es) (e ∷ insert_entry R es k v)) ≡ e ∷ es
-  taken_at e es Less is none rest = rw (tied_itself o k) refl
-  taken_at e es Equal is none rest = let here : Some e.1 ≡ None = rw is at none in cc
-  taken_at e es Greater is none rest = rw is (ap (λ l. e ∷ l) (rest (rw is at none)))
-
-  -- a key that was not there, taken out again, leaves the rest
-  pub taken_back : (es : List (K × X)) → lookup (is_at (R k)) es ≡ None → remove_entry (is_at (R k)) (insert_entry R es k v) ≡ es
-  taken_back [] none = rw (tied_itself o k) refl
-  taken_back (e ∷ es) none = taken_at e es (R k e.0) refl none (taken_back es)
-
   all_behind : (P : K → Type 0) (es rest : List (K × X)) → AllByRecursion P (keys_of (es ++ (k, v) ∷ rest)) → P k
   all_behind P [] rest all = all.0
   all_behind P (e ∷ es) rest all = all_behind P es rest all.1
