@@ -89,10 +89,10 @@ fn mark_of(tag: u32, place: usize) -> Option<u32>
 }
 
 /// The place that a mark says to an account with this tag.
-fn place_of(tag: u32, mark: u32) -> usize
+fn place_of(tag: u32, mark: u32) -> u32
     ensures { (place : ℕ) → IsMark tag place mark → result ≡ place }
 {
-    mark.wrapping_sub(tag) as usize
+    mark.wrapping_sub(tag)
 }
 
 impl Index {
@@ -190,7 +190,7 @@ impl Index {
             if mark == 0 {
                 break;
             }
-            let place = place_of(tag, mark);
+            let place = place_of(tag, mark) as usize;
             if stands_at(accounts, place, who) {
                 return Some(place);
             }
@@ -198,20 +198,26 @@ impl Index {
         self.crowd.get(&who).copied()
     }
 
-    /// What the account's first slot says: the place of the account, where that came first to the
-    /// slot, and else mostly a number beyond all places.
-    fn guess(&self, who: AccountId) -> u32 {
-        self.mark(slot_of(who, self.count))
-            .wrapping_sub(tag_of(who, self.count))
+    /// A guess of the account's place among so many: what the first of its slots says that says one
+    /// of them to this account. Where none does, it is the highest number.
+    fn guess(&self, who: AccountId, places: usize) -> u32 {
+        let (first, tag) = (slot_of(who, self.count), tag_of(who, self.count));
+        for slot in first..first + TRIES {
+            let guess = place_of(tag, self.mark(slot));
+            if (guess as usize) < places {
+                return guess;
+            }
+        }
+        u32::MAX
     }
 
     /// Appends the guess for each of these accounts. No read waits for another here.
-    pub(crate) fn guess_each(&self, accounts: &[AccountId], guesses: &mut Vec<u32>)
+    pub(crate) fn guess_each(&self, accounts: &[AccountId], places: usize, guesses: &mut Vec<u32>)
         requires { vec_len guesses.old + length accounts.now ≤ vec_capacity guesses.old }
         ensures { length guesses.new.items ≡ length guesses.old.items + length accounts.now }
     {
         for account in accounts {
-            guesses.push_reserved(self.guess(*account));
+            guesses.push_reserved(self.guess(*account, places));
         }
     }
 

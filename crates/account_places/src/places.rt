@@ -68,16 +68,17 @@ impl Places {
         self.find(who)
     }
 
-    /// Appends for each of these accounts what its first slot says: its place, where it came first
-    /// to the slot, and else mostly a number beyond all places. It is a guess for `find_from`, and
-    /// nothing rests on it. The slots of all are read before the first account is compared, so
-    /// memory is waited for once and not account by account.
+    /// Appends for each of these accounts a guess of its place, for `find_from`: what the first of
+    /// its slots says that says a place there is to this account. It is mostly right where the
+    /// account has a place, and nothing rests on it. The slots of all are read before the first
+    /// account is compared, so memory is waited for once and not account by account.
     pub fn guess_each(&self, accounts: &[AccountId], guesses: &mut Vec<u32>) -> Result<(), NoMemory>
         ensures { OnOk result (length guesses.new.items
             ≡ length guesses.old.items + length accounts.now) }
     {
         guesses.reserve(accounts.len())?;
-        self.index.guess_each(accounts, guesses);
+        self.index
+            .guess_each(accounts, self.accounts.len(), guesses);
         Ok(())
     }
 
