@@ -150,7 +150,7 @@ impl Book {
         if value > CAP - self.genesis {
             return Err(LedgerRefusal::IssuanceCap);
         }
-        self.rows.gain(NOBODY, who, value)?;
+        self.rows.open(who, value)?;
         self.genesis += value;
         self.totals.free += value;
         self.totals.issuance += value;

@@ -140,7 +140,7 @@ impl Rows {
 
     /// Opens the row of an account that has none, with the value free.
     #[tactic(auto, using(crate::proofs::BookRowLemmas::row_in_absent))]
-    fn open(&mut self, who: AccountId, value: u64) -> Result<(), NoMemory>
+    pub fn open(&mut self, who: AccountId, value: u64) -> Result<(), NoMemory>
         requires { row_of_entries who self.old ≡ None }
         ensures ok { OnOk result (self.new ≡ with_row who (gained value) self.old) }
         ensures err { OnErr result (self.new ≡ self.old) }

@@ -7,8 +7,8 @@ use Rattle.stake_ledger.proofs.book.Book.endow.Goals as goal
 
 pub invariant_of-self-2 : goal.invariant_of-self-2
 invariant_of-self-2 c =
-    rw c.in_ok-gain.ensures.ok
+    rw c.in_ok-open.ensures.ok
     (kept_endowed c.args.who c.args.value _ _ c.self.invariant (ap (λ (l : Ledger). l.minted) c.self.view_is ∙ c.requires.unminted) (omega arith))
 
 pub returns-clause-others : goal.returns-clause-others
-returns-clause-others c = rw (← c.self.view_is) (others_by c.args.who (gained c.args.value) _ _ c.in_ok-gain.ensures.ok)
+returns-clause-others c = rw (← c.self.view_is) (others_by c.args.who (gained c.args.value) _ _ c.in_ok-open.ensures.ok)
