@@ -81,6 +81,19 @@ fn remove_front(bytes: &mut Vec<u8>, count: usize)
     bytes.truncate(left);
 }
 
+/// Lets go of the memory of the bytes before this place: those behind it move into a list of their
+/// own. Where there is no memory for that, all stay as they are.
+fn leave_behind(alloc: Global, bytes: &mut Vec<u8>, from: &mut usize)
+    requires { from.old ≤ vec_len bytes.old }
+    ensures same { drop from.new bytes.new.items ≡ drop from.old bytes.old.items }
+    ensures within { from.new ≤ vec_len bytes.new }
+{
+    if let Ok(rest) = Vec::from_slice(alloc, &bytes.as_slice()[*from..]) {
+        *bytes = rest;
+        *from = 0;
+    }
+}
+
 /// Puts the bytes of what was begun of a block back before the others, so that they can be read as
 /// another value.
 fn put_back(
@@ -208,6 +221,7 @@ impl StreamReader {
             GenesisStep::Whole(genesis, size) => {
                 self.from += size;
                 self.at += size as u64;
+                leave_behind(self.alloc, &mut self.bytes, &mut self.from);
                 Ok(genesis)
             }
             GenesisStep::Stopped(begun, fault) => {
