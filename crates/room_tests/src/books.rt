@@ -256,10 +256,28 @@ fn guessed_readings(alloc: Global) -> Result<[(u64, usize); 2], LedgerRefusal> {
     Ok([(first, behind), (second, guess)])
 }
 
+/// Guesses of both accounts.
+fn both_guesses(alloc: Global, book: &Book) -> Result<[usize; 2], NoMemory> {
+    let mut guesses = Vec::new(alloc);
+    book.guess_each(&[FIRST, SECOND], &mut guesses)?;
+    Ok([guesses[0] as usize, guesses[1] as usize])
+}
+
+/// What both have free after the second paid 4 and got 3 back, where the second is found by its
+/// guess, and the first by none or by that of the second.
+fn guessed_transfers(alloc: Global) -> Result<(u64, u64), LedgerRefusal> {
+    let mut book = bonded_book(alloc)?;
+    endow(&mut book, SECOND, 10)?;
+    let [_, second] = both_guesses(alloc, &book)?;
+    book.transfer_from((second, second), SECOND, FIRST, 4)?;
+    book.transfer_from((usize::MAX, second), FIRST, SECOND, 3)?;
+    Ok((book.free(FIRST), book.free(SECOND)))
+}
+
 /// What is free after 7 was minted, and what a slash of 40 and one of 100 then take, by a guess.
 fn guessed_calls(alloc: Global) -> Result<(u64, [Loss; 2]), LedgerRefusal> {
     let mut book = bonded_book(alloc)?;
-    let guess = book.guess(FIRST);
+    let [guess, _] = both_guesses(alloc, &book)?;
     book.mint_from(guess, FIRST, 7)?;
     let losses = [
         book.slash_from(guess, FIRST, 40),
@@ -282,6 +300,7 @@ fn accounts_are_found_by_guesses(rt: HostRuntime) -> Result<(), Fail> {
         },
     ];
     assert!(rt; guessed_calls(rt.alloc())? == (7, losses));
+    assert_eq!(rt; guessed_transfers(rt.alloc())?, (1, 9));
     Ok(())
 }
 

@@ -159,9 +159,25 @@ impl Book {
 
     /// Moves the value from one account's free stake to another's, whose row is opened where it has
     /// none. It refuses with `ZeroValue`, `SameAccount` or `LowFunds`.
-    #[tactic(auto, using(crate::proofs::LedgerLemmas::different))]
     pub fn transfer(
         &mut self,
+        from: AccountId,
+        to: AccountId,
+        value: u64,
+    ) -> Result<(), LedgerRefusal>
+        ensures meets { Meets (transfer_refusal self.old from to value)
+            (transferred from to value self.old) self.old self.new result }
+        ensures others { (other : AccountId) → other ≢ from → other ≢ to
+            → row_of self.new other ≡ row_of self.old other }
+    {
+        self.transfer_from((NOBODY, NOBODY), from, to, value)
+    }
+
+    /// Does what `transfer` does. The accounts may be found by the guesses, the payer's first.
+    #[tactic(auto, using(crate::proofs::LedgerLemmas::different))]
+    pub fn transfer_from(
+        &mut self,
+        guesses: (usize, usize),
         from: AccountId,
         to: AccountId,
         value: u64,
@@ -177,7 +193,7 @@ impl Book {
         if from == to {
             return Err(LedgerRefusal::SameAccount);
         }
-        self.rows.transfer(from, to, value)?;
+        self.rows.transfer(guesses, from, to, value)?;
         Ok(())
     }
 
@@ -332,10 +348,14 @@ impl Book {
         Ok(())
     }
 
-    /// A guess of where the account stands, for a call that takes one. It is right where the
-    /// account is known, and nothing rests on it.
-    pub fn guess(&self, who: AccountId) -> usize {
-        self.rows.guess(who)
+    /// Appends a guess for each of these accounts, for calls that take one. It is mostly right where
+    /// the account is known, and nothing rests on it. Memory is waited for once, and not account by
+    /// account.
+    pub fn guess_each(&self, accounts: &[AccountId], guesses: &mut Vec<u32>) -> Result<(), NoMemory>
+        ensures { OnOk result (length guesses.new.items
+            ≡ length guesses.old.items + length accounts.now) }
+    {
+        self.rows.guess_each(accounts, guesses)
     }
 
     /// Makes the value, which is free for the account; its row is opened where it has none. The

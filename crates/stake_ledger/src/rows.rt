@@ -150,10 +150,13 @@ impl Rows {
         self.append(who, row)
     }
 
-    /// Where the row of an account stands, which is a guess for later. Of an account without a row
-    /// it is one of nobody.
-    pub fn guess(&self, who: AccountId) -> usize {
-        self.places.find(who).unwrap_or(NOBODY)
+    /// Appends a guess for each of these accounts. Memory is waited for once, and not account by
+    /// account.
+    pub fn guess_each(&self, accounts: &[AccountId], guesses: &mut Vec<u32>) -> Result<(), NoMemory>
+        ensures { OnOk result (length guesses.new.items
+            ≡ length guesses.old.items + length accounts.now) }
+    {
+        self.places.guess_each(accounts, guesses)
     }
 
     /// Gives the account the value; its row is made where it has none. It may be found by the
@@ -173,10 +176,10 @@ impl Rows {
         }
     }
 
-    /// `Row::pay` at the account's row. An account without a row has nothing, and the value is
-    /// above 0.
+    /// `Row::pay` at the account's row, which may be found by the guess. An account without a row
+    /// has nothing, and the value is above 0.
     #[tactic(auto, using(crate::proofs::PlaceLemmas::row_in_unplaced, crate::proofs::PlaceLemmas::placed_changed))]
-    fn pay(&mut self, who: AccountId, value: u64) -> Result<(), LedgerRefusal>
+    fn pay(&mut self, guess: usize, who: AccountId, value: u64) -> Result<(), LedgerRefusal>
         requires { 0 < value }
         ensures accepted { OnOk result (value ≤ (row_in self.old who).free) }
         ensures ok { OnOk result (self.new ≡ with_row who (paid value) self.old) }
@@ -185,7 +188,7 @@ impl Rows {
         ensures refused { IfErr result (λ refusal. hold_refusal (row_in self.old who) value
             ≡ Some refusal) }
     {
-        match self.places.find(who) {
+        match self.places.find_from(guess, who) {
             Some(place) => self.rows[place].pay(value),
             None => Err(LedgerRefusal::LowFunds),
         }
@@ -205,11 +208,12 @@ impl Rows {
     }
 
     /// Moves the value from what one account has free to another, whose row is made where it has
-    /// none. The rows are as they were where the payer has too little, or where there is no memory
-    /// for a new row.
+    /// none. Each may be found by its guess. The rows are as they were where the payer has too
+    /// little, or where there is no memory for a new row.
     #[tactic(auto, using(crate::proofs::LedgerLemmas::given_back, crate::proofs::LedgerLemmas::row_in_other, crate::proofs::LedgerLemmas::row_in_put))]
     pub fn transfer(
         &mut self,
+        guesses: (usize, usize),
         from: AccountId,
         to: AccountId,
         value: u64,
@@ -225,8 +229,8 @@ impl Rows {
         ensures refused { IfErr result
             (IsDue (hold_refusal (row_in self.old from) value)) }
     {
-        self.pay(from, value)?;
-        match self.gain(NOBODY, to, value) {
+        self.pay(guesses.0, from, value)?;
+        match self.gain(guesses.1, to, value) {
             Ok(()) => Ok(()),
             Err(NoMemory) => {
                 self.give(from, value);

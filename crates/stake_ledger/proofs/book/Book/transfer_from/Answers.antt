@@ -3,7 +3,7 @@ use Rattle.stake_ledger.specs.Rows.{gained, paid}
 use Rattle.stake_ledger.specs.Ledger.{row_in, with_row}
 use Rattle.stake_ledger.proofs.KeepLemmas.{kept_transferred, worth_within}
 use Rattle.stake_ledger.proofs.LedgerLemmas.{others_by}
-use Rattle.stake_ledger.proofs.book.Book.transfer.Goals as goal
+use Rattle.stake_ledger.proofs.book.Book.transfer_from.Goals as goal
 
 pub transfer-requires-clause-fits : goal.transfer-requires-clause-fits
 transfer-requires-clause-fits c = omega (arith, worth_within c.args.from _ _ c.self.invariant, worth_within c.args.to _ _ c.self.invariant)
