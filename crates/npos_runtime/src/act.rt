@@ -11,6 +11,7 @@ ghost use Rattle.voter_lists.specs.Bags.{is_listed};
 ghost use Rattle.npos_runtime.specs.Lists.{followed, listed_anew, retired, unlisted};
 
 use crate::Chain;
+use crate::ahead::Ahead;
 use crate::lists::{has_role, is_role, retire};
 use crate::offices::{cancel_slash, offence, payout, points};
 use crate::signed::submit;
@@ -22,10 +23,17 @@ use stake_ledger::LedgerRefusal;
 use std::alloc::Global;
 use voter_lists::{Bags, Role};
 
-fn transfer(chain: &mut Chain, who: AccountId, to: AccountId, value: u64) -> Result<(), Stop>
+fn transfer(
+    chain: &mut Chain,
+    ahead: &mut Ahead,
+    who: AccountId,
+    to: AccountId,
+    value: u64,
+) -> Result<(), Stop>
     ensures { Follows (transfer_rule chain.old who to value) chain.old chain.new result }
 {
-    chain.book.transfer(who, to, value)?;
+    let guesses = ahead.pair();
+    chain.book.transfer_from(guesses, who, to, value)?;
     Ok(())
 }
 
@@ -198,12 +206,13 @@ fn put_in_front(chain: &mut Chain, who: AccountId, lighter: AccountId) -> Result
 }
 
 /// Does what the call asks for, or stops. What it tells besides that it was accepted is appended to
-/// `more`; a refused call tells nothing.
+/// `more`; a refused call tells nothing. A transfer may find its accounts by the guesses made ahead.
 #[tactic(auto, unfolding(crate::specs::Calls::rule_of))]
 pub fn act(
     alloc: Global,
     chain: &mut Chain,
     more: &mut Vec<Line>,
+    ahead: &mut Ahead,
     who: AccountId,
     kind: CallKind,
 ) -> Result<(), Stop>
@@ -216,7 +225,7 @@ pub fn act(
     ensures untold { Untold more.old.items more.new.items result }
 {
     match kind {
-        CallKind::Transfer { to, value } => transfer(chain, who, to, value),
+        CallKind::Transfer { to, value } => transfer(chain, ahead, who, to, value),
         CallKind::Bond { value } => bond(chain, who, value),
         CallKind::BondExtra { value } => bond_extra(chain, who, value),
         CallKind::Unbond { value } => unbond(chain, who, value),

@@ -2,6 +2,7 @@
 #![tactic(auto)]
 
 mod act;
+mod ahead;
 mod ballot;
 mod begin;
 mod chain;

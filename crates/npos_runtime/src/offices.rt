@@ -9,6 +9,7 @@ ghost use Rattle.npos_runtime.specs.Live.{IsLive, CanDefer};
 ghost use Rattle.npos_runtime.specs.Offices.{is_root, points_rule, payout_rule, all_minted, paid_line, slashing_rule, deferring_rule, offence_rule, cancel_rule, slash_outcome, slashes, applied};
 
 use crate::Chain;
+use crate::ahead::Ahead;
 use crate::lists::retire_unless;
 use block_receipts::{Line, Refusal, Stop};
 use chain_params::{era_reward_of, root_of};
@@ -46,16 +47,6 @@ fn mint(book: &mut Book, guess: usize, who: AccountId, amount: u64) -> Result<()
     }
 }
 
-/// Guesses of where the accounts stand in the books. Looked up in one go, they do not wait for
-/// memory one after the other.
-fn guesses(alloc: Global, book: &Book, backers: &[Backer]) -> Result<Vec<usize>, NoMemory> {
-    let mut guesses = Vec::with_capacity(alloc, backers.len())?;
-    for backer in backers {
-        guesses.push(book.guess(backer.who))?;
-    }
-    Ok(guesses)
-}
-
 /// Mints each line, and tells it.
 fn pay(
     alloc: Global,
@@ -67,12 +58,10 @@ fn pay(
     ensures book { OnOk result (book.new ≡ all_minted lines book.old) }
     ensures told { OnOk result (more.new.items ≡ more.old.items ++ map paid_line lines) }
 {
-    let guesses = guesses(alloc, book, lines.as_slice())?;
-    let mut places = guesses.iter();
+    let mut ahead = Ahead::of_backers(alloc, book, lines.as_slice())?;
     more.reserve(lines.len())?;
     'lines: for line in lines.into_vec() {
-        let guess = places.next().copied().unwrap_or(0);
-        mint(book, guess, line.who, line.amount)?;
+        mint(book, ahead.guess(), line.who, line.amount)?;
         more.push_reserved(Line::Paid {
             who: line.who,
             amount: line.amount,
@@ -133,12 +122,10 @@ fn slash_all(
     requires { IsLive chain.old }
     ensures { OnOk result (Goes (slashes dues chain.old) chain.new more.old.items more.new.items) }
 {
-    let guesses = guesses(alloc, &chain.book, dues.as_slice())?;
-    let mut places = guesses.iter();
+    let mut ahead = Ahead::of_backers(alloc, &chain.book, dues.as_slice())?;
     more.reserve(dues.len())?;
     'dues: for due in dues.into_vec() {
-        let guess = places.next().copied().unwrap_or(0);
-        slash(chain, more, guess, due);
+        slash(chain, more, ahead.guess(), due);
     }
     Ok(())
 }

@@ -7,6 +7,7 @@ ghost use Rattle.npos_runtime.specs.Live.{IsLive, IsReady, CanDefer};
 
 use crate::Chain;
 use crate::act::act;
+use crate::ahead::Ahead;
 use crate::ballot::take_snapshot;
 use crate::decision::decide_round;
 use crate::era::begin_era;
@@ -34,6 +35,7 @@ fn take_call(
     alloc: Global,
     chain: &mut Chain,
     lines: &mut Vec<Line>,
+    ahead: &mut Ahead,
     index: u32,
     call: Call,
 ) -> Result<(), NoMemory>
@@ -47,7 +49,7 @@ fn take_call(
     let Call { who, kind } = call;
     let told = lines.len();
     lines.push(Line::CallOk { index })?;
-    match act(alloc, chain, lines, who, kind) {
+    match act(alloc, chain, lines, ahead, who, kind) {
         Ok(()) => Ok(()),
         Err(Stop::Refused(refusal)) => {
             lines.truncate(told);
@@ -77,9 +79,10 @@ fn take_calls(
         (Goes (calls_outcome 0 calls.items chain.old) chain.new lines.old.items lines.new.items) }
     ensures live_after { OnOk result (IsLive chain.new) }
 {
+    let mut ahead = Ahead::of_transfers(alloc, &chain.book, calls.as_slice())?;
     let mut index = 0;
     'turns: for call in calls {
-        take_call(alloc, chain, lines, index, call)?;
+        take_call(alloc, chain, lines, &mut ahead, index, call)?;
         index += 1;
     }
     Ok(())
