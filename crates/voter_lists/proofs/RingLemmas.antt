@@ -216,60 +216,55 @@ module _ (links new_links : List Link) (owners : List (Option ℕ)) (heads list 
       (λ k now. came k other now))
       (λ other differs. omega (arith, count-set owners key other (Some list) None within owned, is_list_other list other differs)))
 
-  pub Changes-splice : list < heads → key < length owners → get_or owners key None ≡ None → Splices links new_links (heads + key) list → Changes links new_links owners (set owners key (Some list)) heads list (items (lists_of links owners heads) list ++ key ∷ [])
-  Changes-splice head within free splices =
+  -- A key with no list joins one before a place of its ring. Where the ring then holds these keys, one more than it
+  -- held, the other rings stay: they have neither the neighbours of the key nor the key itself.
+  Changes-join : (place : ℕ) (keys : List ℕ) → list < heads → key < length owners → get_or owners key None ≡ None → Splices links new_links (heads + key) place
+      → IsOn heads list (keys_of links owners heads list) (prev_of links place) → IsOn heads list (keys_of links owners heads list) place
+      → length keys ≡ length (keys_of links owners heads list) + 1
+      → (get_or (set owners key (Some list)) key None ≡ Some list → ((other : ℕ) → other ≢ key → get_or (set owners key (Some list)) other None ≡ get_or owners other None)
+      → IsRing (next_of new_links) (prev_of new_links) heads (λ k. get_or (set owners key (Some list)) k None) list keys)
+      → Changes links new_links owners (set owners key (Some list)) heads list keys
+  Changes-join place keys head within free splices before_on_ring on_ring longer new_ring =
       let ring = sound.rings list head in
       let joined = get_or-set_same owners key (Some list) None within in
       let others : (other : ℕ) → other ≢ key → get_or (set owners key (Some list)) other None ≡ get_or owners other None =
       λ other differs. get_or-set_other owners key other (Some list) None differs in
-      rw (items-lists_of links owners heads list head)
-      (Changes-from_rings links new_links owners (set owners key (Some list)) heads list _ head
+      Changes-from_rings links new_links owners (set owners key (Some list)) heads list keys head
       (omega (arith, sound.sized, length-set owners key (Some list))) sound.few
       (λ k l now.
       elim (cases_eq k key) [
         | inl same ↦ subst (λ n. n < heads) (same_Some list l (sym joined ∙ ap (λ j. get_or (set owners key (Some list)) j None) (sym same) ∙ now)) head
         | inr differs ↦ sound.known k l (sym (others k differs) ∙ now)
       ])
-      (IsRing-push _ _ _ _ heads _ _ list _ key head ring free splices joined others)
-      (omega (arith, count-set owners key list None (Some list) within free, is_list_same list, length-keys_of links owners heads list, length_push (keys_of links owners heads list) key))
+      (new_ring joined others)
+      (omega (arith, count-set owners key list None (Some list) within free, is_list_same list, length-keys_of links owners heads list, longer))
       (λ other other_head differs.
       let other_ring = sound.rings other other_head in
       let off : (at : ℕ) → IsOn heads other (keys_of links owners heads other) at → at ≢ heads + key =
       λ at on same. free_not_on _ _ heads _ other _ key other_head other_ring free (rw (← same) on) in
       IsRing-kept _ _ _ _ heads _ _ other _ other_ring
-      (λ at on. splices.nexts at (λ same. rings_apart _ _ heads _ list other _ _ at head other_head differs ring other_ring (rw same (last_on links owners heads sound list head)) on) (off at on))
-      (λ at on. splices.prevs at (λ same. rings_apart _ _ heads _ list other _ _ at head other_head differs ring other_ring (inl same) on) (off at on))
+      (λ at on. splices.nexts at (λ same. rings_apart _ _ heads _ list other _ _ at head other_head differs ring other_ring (rw same before_on_ring) on) (off at on))
+      (λ at on. splices.prevs at (λ same. rings_apart _ _ heads _ list other _ _ at head other_head differs ring other_ring (rw same on_ring) on) (off at on))
       (λ k was. others k (λ same. none-some other (sym free ∙ ap (λ j. get_or owners j None) (sym same) ∙ was)) ∙ was)
       (λ k now. sym (others k (λ same. differs (same_Some other list (sym now ∙ ap (λ j. get_or (set owners key (Some list)) j None) same ∙ joined)))) ∙ now))
-      (λ other differs. omega (arith, count-set owners key other None (Some list) within free, is_list_other list other differs)))
+      (λ other differs. omega (arith, count-set owners key other None (Some list) within free, is_list_other list other differs))
+
+  pub Changes-splice : list < heads → key < length owners → get_or owners key None ≡ None → Splices links new_links (heads + key) list → Changes links new_links owners (set owners key (Some list)) heads list (items (lists_of links owners heads) list ++ key ∷ [])
+  Changes-splice head within free splices =
+      rw (items-lists_of links owners heads list head)
+      (Changes-join list (keys_of links owners heads list ++ key ∷ []) head within free splices (last_on links owners heads sound list head) (inl refl)
+      (length_push (keys_of links owners heads list) key)
+      (IsRing-push _ _ _ _ heads _ _ list _ key head (sound.rings list head) free splices))
 
   pub Changes-before : (other : ℕ) → get_or owners other None ≡ Some list → key < length owners → get_or owners key None ≡ None → Splices links new_links (heads + key) (heads + other) → Changes links new_links owners (set owners key (Some list)) heads list (before key other (items (lists_of links owners heads) list))
   Changes-before other linked within free splices =
       let head = sound.known other list linked in
       let ring = sound.rings list head in
-      let joined = get_or-set_same owners key (Some list) None within in
-      let others : (k : ℕ) → k ≢ key → get_or (set owners key (Some list)) k None ≡ get_or owners k None =
-      λ k differs. get_or-set_other owners key k (Some list) None differs in
       rw (items-lists_of links owners heads list head)
-      (Changes-from_rings links new_links owners (set owners key (Some list)) heads list _ head
-      (omega (arith, sound.sized, length-set owners key (Some list))) sound.few
-      (λ k l now.
-      elim (cases_eq k key) [
-        | inl same ↦ subst (λ n. n < heads) (same_Some list l (sym joined ∙ ap (λ j. get_or (set owners key (Some list)) j None) (sym same) ∙ now)) head
-        | inr differs ↦ sound.known k l (sym (others k differs) ∙ now)
-      ])
-      (IsRing-before _ _ _ _ heads _ _ list _ key other head ring free linked splices joined others)
-      (omega (arith, count-set owners key list None (Some list) within free, is_list_same list, length-keys_of links owners heads list, length-before key other (keys_of links owners heads list)))
-      (λ n n_head differs.
-      let other_ring = sound.rings n n_head in
-      let off : (at : ℕ) → IsOn heads n (keys_of links owners heads n) at → at ≢ heads + key =
-      λ at on same. free_not_on _ _ heads _ n _ key n_head other_ring free (rw (← same) on) in
-      IsRing-kept _ _ _ _ heads _ _ n _ other_ring
-      (λ at on. splices.nexts at (λ same. rings_apart _ _ heads _ list n _ _ at head n_head differs ring other_ring (rw same (before_on links owners heads sound list other linked)) on) (off at on))
-      (λ at on. splices.prevs at (λ same. rings_apart _ _ heads _ list n _ _ at head n_head differs ring other_ring (inr (other, ring.listed other linked, same)) on) (off at on))
-      (λ k was. others k (λ same. none-some n (sym free ∙ ap (λ j. get_or owners j None) (sym same) ∙ was)) ∙ was)
-      (λ k now. sym (others k (λ same. differs (same_Some n list (sym now ∙ ap (λ j. get_or (set owners key (Some list)) j None) same ∙ joined)))) ∙ now))
-      (λ n differs. omega (arith, count-set owners key n None (Some list) within free, is_list_other list n differs)))
+      (Changes-join (heads + other) (before key other (keys_of links owners heads list)) head within free splices
+      (before_on links owners heads sound list other linked) (inr (other, ring.listed other linked, refl))
+      (length-before key other (keys_of links owners heads list))
+      (IsRing-before _ _ _ _ heads _ _ list _ key other head ring free linked splices))
 
   -- the place before a key is not that of a key with no list
   pub free_not_before : (other : ℕ) → get_or owners other None ≡ Some list → get_or owners key None ≡ None → heads + key ≢ prev_of links (heads + other)
