@@ -59,15 +59,31 @@ impl Roles {
             (nominated self.old who targets) self.old self.new result }
         ensures others { KeepsOthers self.old self.new who }
     {
+        self.nominate_anew(who, targets)?;
+        Ok(())
+    }
+
+    /// Does what `nominate` does, and tells the role that the account had before. The account is
+    /// searched for once.
+    pub fn nominate_anew(
+        &mut self,
+        who: AccountId,
+        targets: List<AccountId>,
+    ) -> Result<Role, ListRefusal>
+        ensures meets { Meets (nominate_refusal self.old who targets)
+            (nominated self.old who targets) self.old self.new result }
+        ensures others { KeepsOthers self.old self.new who }
+        ensures before { IfOk result (λ before. before ≡ role_of self.old who) }
+    {
         let marks = check_targets(&self.standings, who, targets.as_slice())?;
-        put_nominator(
+        let before = put_nominator(
             &mut self.standings,
             &mut self.validators,
             who,
             targets,
             marks,
         )?;
-        Ok(())
+        Ok(before)
     }
 
     /// The account becomes a validator with this commission in billionths, in place of any role
@@ -77,14 +93,27 @@ impl Roles {
             (validating self.old who commission) self.old self.new result }
         ensures others { KeepsOthers self.old self.new who }
     {
+        self.validate_anew(who, commission)?;
+        Ok(())
+    }
+
+    /// Does what `validate` does, and tells the role that the account had before. The account is
+    /// searched for once, and twice only where there are as many validators as may be, since a
+    /// newcomer is refused then.
+    pub fn validate_anew(&mut self, who: AccountId, commission: u32) -> Result<Role, ListRefusal>
+        ensures meets { Meets (validate_refusal self.old who commission)
+            (validating self.old who commission) self.old self.new result }
+        ensures others { KeepsOthers self.old self.new who }
+        ensures before { IfOk result (λ before. before ≡ role_of self.old who) }
+    {
         if commission > WHOLE_FRACTION {
             return Err(ListRefusal::BadFraction);
         }
-        if !self.standings.is_validator(who) && self.validators.len() >= MOST_VALIDATORS {
+        if self.validators.len() >= MOST_VALIDATORS && !self.standings.is_validator(who) {
             return Err(ListRefusal::TooManyValidators);
         }
-        self.put_validator(who, commission)?;
-        Ok(())
+        let before = self.put_validator(who, commission)?;
+        Ok(before)
     }
 
     /// The account takes the role, in place of any that it had: that of a nominator with these
@@ -111,23 +140,28 @@ impl Roles {
                     who,
                     targets,
                     marks,
-                )
+                )?;
             }
-            Role::Validator { commission } => self.put_validator(who, commission),
+            Role::Validator { commission } => {
+                self.put_validator(who, commission)?;
+            }
         }
+        Ok(())
     }
 
-    /// The account becomes a validator with this commission.
-    fn put_validator(&mut self, who: AccountId, commission: u32) -> Result<(), NoMemory>
+    /// The account becomes a validator with this commission. It tells the role that the account had
+    /// before.
+    fn put_validator(&mut self, who: AccountId, commission: u32) -> Result<Role, NoMemory>
         requires { validate_refusal self.old who commission ≡ None }
+        ensures before { IfOk result (λ before. before ≡ role_of self.old who) }
         ensures ok { OnOk result (self.new ≡ validating self.old who commission) }
         ensures err { OnErr result (self.new ≡ self.old) }
         ensures others { KeepsOthers self.old self.new who }
     {
         self.validators.reserve(1)?;
-        self.standings.put_validator(who, commission)?;
+        let before = self.standings.put_validator(who, commission)?;
         enter(&mut self.validators, who);
-        Ok(())
+        Ok(before)
     }
 
     /// The account has no role any more. It takes no memory.
@@ -212,23 +246,26 @@ impl Roles {
     }
 }
 
-/// The account becomes a nominator of these targets, which have these marks.
+/// The account becomes a nominator of these targets, which have these marks. It tells the role that
+/// the account had before.
 fn put_nominator(
     standings: &mut Standings,
     validators: &mut Vec<AccountId>,
     who: AccountId,
     targets: List<AccountId>,
     marks: Marks,
-) -> Result<(), NoMemory>
+) -> Result<Role, NoMemory>
     requires ranked { AreRanked standings.old.roles validators.old.items }
     requires marks { AreMarks standings.old.accounts marks targets }
+    ensures before { IfOk result (λ before. before ≡ role_of standings.old.roles who) }
     ensures ok { OnOk result (standings.new.roles ≡ nominated standings.old.roles who targets) }
     ensures err { OnErr result (standings.new.roles ≡ standings.old.roles) }
     ensures ranked { AreRanked standings.new.roles validators.new.items }
 {
-    let validates = standings.put_nominator(who, targets, marks)?;
+    let before = standings.put_nominator(who, targets, marks)?;
+    let validates = matches!(before, Role::Validator { .. });
     leave_where(validators, who, validates);
-    Ok(())
+    Ok(before)
 }
 
 /// The marks of these targets, where the account may nominate them. Each is found once.

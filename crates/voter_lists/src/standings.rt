@@ -6,11 +6,12 @@ ghost use Rattle.account_places.specs.Places.{place_in, by_account, Stand};
 ghost use Rattle.voter_lists.specs.declared.standing.Standing.{Standing};
 ghost use Rattle.voter_lists.specs.Marks.{IsMark, AreMarks, KeepPlaces, RepeatAlike};
 ghost use Rattle.voter_lists.specs.Noted.{standing_at};
-ghost use Rattle.voter_lists.specs.Roles.{standing_of, is_validator, nominated, validating, with_standing, without_role};
+ghost use Rattle.voter_lists.specs.Roles.{standing_of, role_of, is_validator, nominated, validating, with_standing, without_role};
 ghost use Rattle.voter_lists.specs.Standings.{IsMarked};
 
 use crate::marks::{Marks, UNKNOWN, marks_of};
 use crate::row::Row;
+use crate::standing::Role;
 use account_places::Places;
 use npos_base::{AccountId, List, NoMemory};
 use std::alloc::Global;
@@ -183,44 +184,49 @@ impl Standings {
         self.marks_of(targets)
     }
 
-    /// The account has this row in place of any that it had. It tells whether the account was a
-    /// validator.
-    fn put(&mut self, who: AccountId, row: Row) -> Result<bool, NoMemory>
+    /// The account has this row in place of any that it had. It tells the role that the account had
+    /// before.
+    fn put(&mut self, who: AccountId, row: Row) -> Result<Role, NoMemory>
         requires { IsMarked self.old.accounts row }
-        ensures was { IfOk result (λ was. was ≡ is_validator self.old.roles who) }
+        ensures before { IfOk result (λ before. before ≡ role_of self.old.roles who) }
         ensures ok { (standing : Standing) → row.standing ≡ Some standing
             → OnOk result (self.new.roles ≡ with_standing self.old.roles who standing) }
         ensures err { OnErr result (self.new.roles ≡ self.old.roles) }
     {
         let place = self.place_for(who)?;
-        let was = self.rows[place].is_validator();
+        let before = self.rows[place].role();
         self.rows[place] = row;
-        Ok(was)
+        Ok(before)
     }
 
-    /// The account is a nominator of these targets, which have these marks. It tells whether the
-    /// account was a validator.
+    /// The account is a nominator of these targets, which have these marks. It tells the role that
+    /// the account had before.
     pub(crate) fn put_nominator(
         &mut self,
         who: AccountId,
         targets: List<AccountId>,
         marks: Marks,
-    ) -> Result<bool, NoMemory>
+    ) -> Result<Role, NoMemory>
         requires { AreMarks self.old.accounts marks targets }
-        ensures was { IfOk result (λ was. was ≡ is_validator self.old.roles who) }
+        ensures before { IfOk result (λ before. before ≡ role_of self.old.roles who) }
         ensures ok { OnOk result (self.new.roles ≡ nominated self.old.roles who targets) }
         ensures err { OnErr result (self.new.roles ≡ self.old.roles) }
     {
         self.put(who, Row::nominator(targets, marks))
     }
 
-    /// The account is a validator with this commission.
-    pub(crate) fn put_validator(&mut self, who: AccountId, commission: u32) -> Result<(), NoMemory>
+    /// The account is a validator with this commission. It tells the role that the account had
+    /// before.
+    pub(crate) fn put_validator(
+        &mut self,
+        who: AccountId,
+        commission: u32,
+    ) -> Result<Role, NoMemory>
+        ensures before { IfOk result (λ before. before ≡ role_of self.old.roles who) }
         ensures ok { OnOk result (self.new.roles ≡ validating self.old.roles who commission) }
         ensures err { OnErr result (self.new.roles ≡ self.old.roles) }
     {
-        self.put(who, Row::validator(commission))?;
-        Ok(())
+        self.put(who, Row::validator(commission))
     }
 
     /// The account has no standing any more. It tells whether it had one, and takes no memory.

@@ -20,8 +20,8 @@ invariant_of-self-2 c =
     let room : is_validator c.self.inside.standings.roles c.args.who ≡ false → length c.self.inside.validators.items < 2048 =
     λ absent. room_for c.args.who c.args.commission c.self.inside.standings.roles c.self.inside.validators.items c.self.invariant (rw (← c.self.view_is) at c.requires) absent in
     ranked_validating c.args.who c.args.commission c.self.inside.standings.roles _ c.self.inside.validators.items _ c.self.invariant room
-    c.in_ok-put_validator.ensures.ok (rw c.in_ok-put_validator.ensures.ok (sorted_put account_total c.args.who (Validator c.args.commission) c.self.inside.standings.roles c.self.invariant.rising))
+    c.in_ok-before.ensures.ok (rw c.in_ok-before.ensures.ok (sorted_put account_total c.args.who (Validator c.args.commission) c.self.inside.standings.roles c.self.invariant.rising))
     (c.enter.ensures ∙ ap (λ xs. insert_key account_cmp xs c.args.who) c.reserve.ensures.items)
 
 pub returns-clause-others : goal.returns-clause-others
-returns-clause-others c = rw (← c.self.view_is, c.in_ok-put_validator.ensures.ok) (others_put c.self.inside.standings.roles c.args.who (Validator c.args.commission))
+returns-clause-others c = rw (← c.self.view_is, c.in_ok-before.ensures.ok) (others_put c.self.inside.standings.roles c.args.who (Validator c.args.commission))

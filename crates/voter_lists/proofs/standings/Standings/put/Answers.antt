@@ -1,7 +1,7 @@
 -- The row stands at the place of the account.
 use Rattle.std.proofs.Common.{rules, ◌≡◌, ◌<◌, ◌∙◌, length, Some, ap}
 use Rattle.account_places.specs.Places.{place_in, by_account}
-use Rattle.voter_lists.specs.Roles.{is_validator, is_validator_in, with_standing}
+use Rattle.voter_lists.specs.Roles.{role_in, role_of, with_standing}
 use Rattle.voter_lists.specs.Standings.{PlacedRoles, IsMarked}
 use Rattle.voter_lists.proofs.MarkLemmas.{kept_marks, beside_set, row_within, row_standing, row_set}
 use Rattle.voter_lists.proofs.standings.Standings.put.Goals as goal
@@ -29,9 +29,9 @@ index-requires c =
     let within : c.in_ok-place.place < length c.self.inside.rows.items = row_within _ c.self.inside.places c.args.who _ c.self.invariant there in
     search rules
 
-pub returns-clause-was : goal.returns-clause-was
-returns-clause-was c =
+pub returns-clause-before : goal.returns-clause-before
+returns-clause-before c =
     let there : place_in (by_account c.self.inside.places) c.args.who ≡ Some c.in_ok-place.place = rw (← c.self.view_is) at c.in_ok-place.ensures.place in
-    c.is_validator-was.ensures
-    ∙ ap is_validator_in (row_standing c.self.inside.rows.items c.self.inside.places c.args.who c.in_ok-place.place c.self.invariant there c.index.result.now c.index.ensures)
-    ∙ ap (λ roles. is_validator roles c.args.who) (ap (λ (p : PlacedRoles). p.roles) c.self.view_is ∙ c.place_for.ensures.roles)
+    c.role-before.ensures
+    ∙ ap role_in (row_standing c.self.inside.rows.items c.self.inside.places c.args.who c.in_ok-place.place c.self.invariant there c.index.result.now c.index.ensures)
+    ∙ ap (λ roles. role_of roles c.args.who) (ap (λ (p : PlacedRoles). p.roles) c.self.view_is ∙ c.place_for.ensures.roles)
