@@ -157,8 +157,7 @@ fn nominate(chain: &mut Chain, who: AccountId, targets: List<AccountId>) -> Resu
     ensures { Follows (nominate_rule chain.old who targets) chain.old chain.new result }
 {
     let active = check_role(chain, who)?;
-    let before = chain.roles.role(who);
-    chain.roles.nominate(who, targets)?;
+    let before = chain.roles.nominate_anew(who, targets)?;
     if !matches!(before, Role::Nominator) {
         list_anew(&mut chain.bags, who, active, is_role(before))?;
     }
@@ -171,8 +170,7 @@ fn validate(chain: &mut Chain, who: AccountId, commission: u32) -> Result<(), St
     ensures { Follows (validate_rule chain.old who commission) chain.old chain.new result }
 {
     let active = check_role(chain, who)?;
-    let before = chain.roles.role(who);
-    chain.roles.validate(who, commission)?;
+    let before = chain.roles.validate_anew(who, commission)?;
     if !matches!(before, Role::Validator { .. }) {
         list_anew(&mut chain.bags, who, active, is_role(before))?;
     }
