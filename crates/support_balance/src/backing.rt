@@ -5,7 +5,7 @@ ghost use Rattle.std.specs.Vec.{vec_capacity};
 ghost use Rattle.election_snapshot.specs.Snapshot.{has, stake_of};
 ghost use Rattle.weight_book.specs.Passing.{nominators};
 ghost use Rattle.weight_book.specs.Weights.{no_weights, Follows, support, spent};
-ghost use Rattle.weight_book.specs.Room.{KeepsRoom, vote_count};
+ghost use Rattle.weight_book.specs.Room.{KeepsRoom};
 ghost use Rattle.support_balance.specs.Rounds.{GiveSame, IsBalanced, IsBefore, AreListed};
 ghost use Rattle.support_balance.specs.Backing.{above_zero, IsKept};
 
@@ -18,7 +18,7 @@ use election_snapshot::Snapshot;
 use npos_base::{Edge, NoMemory};
 use std::alloc::Global;
 use std::marker::Model;
-use weight_book::Weights;
+use weight_book::{Weights, count_votes};
 
 /// A committee of a snapshot with what each voter gives to each member that it nominates, in units
 /// of stake. Contracts see the snapshot, and weights that have an edge for each of these pairs, be
@@ -225,17 +225,6 @@ fn lay_weights(
     let laid = lay(alloc, &slots, is_member, &sorted)?;
     let supports = supports_of(alloc, targets, &laid)?;
     Ok((laid, supports))
-}
-
-/// How many nominations there are: no backing has more edges.
-fn count_votes(snapshot: &Snapshot) -> usize
-    ensures { result ≡ vote_count snapshot.now }
-{
-    let mut votes = 0;
-    for voter in 0..snapshot.voter_count() {
-        votes += snapshot.votes(voter as u32).len();
-    }
-    votes
 }
 
 /// Appends an item to a vector with room.

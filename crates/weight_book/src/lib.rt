@@ -5,4 +5,4 @@
 pub mod laws;
 mod weights;
 
-pub use weights::Weights;
+pub use weights::{Weights, count_votes};

@@ -248,8 +248,9 @@ fn zeros(alloc: Global, count: usize) -> Result<Vec<u128>, NoMemory>
     Ok(zeros)
 }
 
-/// How many nominations there are.
-fn count_votes(snapshot: &Snapshot) -> usize
+/// How many nominations there are, each voter looked at once. No list of edges along nominations is
+/// longer, so who makes room for so many never asks for more.
+pub fn count_votes(snapshot: &Snapshot) -> usize
     ensures { result ≡ vote_count snapshot.now }
 {
     let mut votes = 0;
