@@ -18,10 +18,8 @@ use Rattle.weight_book.proofs.SumLemmas.{has_range, parts_all, sum_covered, sum_
 use Rattle.support_balance.specs.Rounds.{IsBefore}
 use Rattle.support_balance.specs.Laid.{targets_of, Covers}
 use Rattle.support_balance.specs.Slots.{has_pair}
+use Rattle.support_balance.proofs.Edges.{no_edge}
 use Rattle.support_balance.proofs.SplitLemmas.{range_distinct}
-
-abbrev none : Edge
-none = record { voter = 0; target = 0; amount = 0 }
 
 -- some edge of the voter leads to the target where some edge leads along the pair
 pub from_pair : (edges : List Edge) (edge : Edge) → has (targets_of (edges_from edges edge.voter)) edge.target ≡ has_pair edges edge
@@ -49,10 +47,10 @@ module _ (snapshot : Snapshot) (members : List ℕ) (edges : List Edge) (formed 
     distinct : IsDistinct nat_eq (targets_of row)
     distinct = IsDistinct-from_AllPairs Decides-eqb (targets_of row) (λ i j d a b same.
         let below : j < length row = omega (arith, b, length-map row (λ (e : Edge). e.target)) in
-        let own : (k : ℕ) → k < length row → (get_or row k none).voter ≡ voter =
-        λ k l. eqb-true (get_or row k none).voter voter (filter_passes (λ (e : Edge). nat_eq e.voter voter) edges k none l) in
-        let target_at : (k : ℕ) → k < length row → get_or (targets_of row) k d ≡ (get_or row k none).target = λ k l. get_or-map (λ (e : Edge). e.target) row k none d l in
-        elim (AllPairs-filter IsBefore (λ (e : Edge). nat_eq e.voter voter) edges rising i j none a below) [
+        let own : (k : ℕ) → k < length row → (get_or row k no_edge).voter ≡ voter =
+        λ k l. eqb-true (get_or row k no_edge).voter voter (filter_passes (λ (e : Edge). nat_eq e.voter voter) edges k no_edge l) in
+        let target_at : (k : ℕ) → k < length row → get_or (targets_of row) k d ≡ (get_or row k no_edge).target = λ k l. get_or-map (λ (e : Edge). e.target) row k no_edge d l in
+        elim (AllPairs-filter IsBefore (λ (e : Edge). nat_eq e.voter voter) edges rising i j no_edge a below) [
           | inl l ↦ omega (arith, l, own i (omega (arith, a, below)), own j below)
           | inr l ↦ omega (arith, l.1, same, target_at i (omega (arith, a, below)), target_at j below)
         ])

@@ -12,6 +12,7 @@ use Rattle.support_balance.specs.Turns.{given, backs, IsTurn}
 use Rattle.support_balance.specs.Rounds.{GiveSame, AreTurns, AreRounds, IsBalanced}
 use Rattle.support_balance.specs.Laid.{targets_of}
 use Rattle.support_balance.specs.Laws.{squares, HaveSpent, BalanceLaw}
+use Rattle.support_balance.proofs.Edges.{no_edge}
 use Rattle.support_balance.proofs.SplitLemmas.{from_but, support_given}
 use Rattle.support_balance.proofs.SpendLemmas.{spent_same}
 use Rattle.support_balance.proofs.SquareLemmas.{no_higher_squares}
@@ -98,16 +99,14 @@ following snapshot committee edges follows voter target f = elim (cases_Bool (ha
   | inl some ↦
       let (k, h, is) = place_of (edges_from edges voter) target some in
       let own = λ (e : Edge). nat_eq e.voter voter in
-      let edge = get_or (edges_from edges voter) k nothing in
-      let from : edge.voter ≡ voter = eqb-true edge.voter voter (filter_passes own edges k nothing h) in
-      let member : has committee target ≡ true = ap (has committee) (sym (is nothing)) ∙ All-filter own (λ (e : Edge). has committee e.target ≡ true) edges follows.to_members k nothing h in
+      let edge = get_or (edges_from edges voter) k no_edge in
+      let from : edge.voter ≡ voter = eqb-true edge.voter voter (filter_passes own edges k no_edge h) in
+      let member : has committee target ≡ true = ap (has committee) (sym (is no_edge)) ∙ All-filter own (λ (e : Edge). has committee e.target ≡ true) edges follows.to_members k no_edge h in
       let voted : nominates snapshot voter target ≡ true =
-      ap (λ n. nominates snapshot n target) (sym from) ∙ ap (nominates snapshot edge.voter) (sym (is nothing))
-      ∙ All-filter own (λ (e : Edge). nominates snapshot e.voter e.target ≡ true) edges follows.nominated k nothing h in
+      ap (λ n. nominates snapshot n target) (sym from) ∙ ap (nominates snapshot edge.voter) (sym (is no_edge))
+      ∙ All-filter own (λ (e : Edge). nominates snapshot e.voter e.target ≡ true) edges follows.nominated k no_edge h in
       absurd (true≢false (sym (rw member (voted)) ∙ f))
-] where
-  nothing : Edge
-  nothing = record { voter = 0; target = 0; amount = 0 }
+]
 
 pub no_higher_balance : BalanceLaw
 no_higher_balance snapshot committee asked made old new follows whole balanced =

@@ -11,6 +11,7 @@ use Rattle.weight_book.proofs.GivenEdgeLemmas.{filtered_sum}
 use Rattle.support_balance.specs.Turns.{given}
 use Rattle.support_balance.specs.Rounds.{GiveSame, IsBefore}
 use Rattle.support_balance.specs.Rows.{AreAlike, amounts, differs}
+use Rattle.support_balance.proofs.Edges.{no_edge}
 
 -- what counts for a pair
 abbrev pub pair_weight : ℕ → ℕ → Edge → ℕ
@@ -120,13 +121,12 @@ differing_place (old ∷ olds) (new ∷ news) same some = elim (cases_Bool (nat_
 pub not_same : (old new : List Edge) → AreAlike old new → AllPairs IsBefore old → AllPairs IsBefore new → differs (amounts old) (amounts new) ≡ true → GiveSame old new → ⊥
 not_same old new alike before after some same =
     let f = λ (e : Edge). e.amount in
-    let d : Edge = record { voter = 0; target = 0; amount = 0 } in
     let (k, h, apart) = differing_place (amounts old) (amounts new) (omega (arith, alike.count, length-map old f, length-map new f)) some in
     let l : k < length old = omega (arith, h, length-map old f) in
     let l' : k < length new = omega (arith, l, alike.count) in
-    apart (get_or-map f new k d 0 l' ∙ sym (given_at new after k d l')
-    ∙ ap₂ (given new) (alike.voters k d l) (alike.targets k d l) ∙ same (get_or old k d).voter (get_or old k d).target
-    ∙ given_at old before k d l ∙ sym (get_or-map f old k d 0 l))
+    apart (get_or-map f new k no_edge 0 l' ∙ sym (given_at new after k no_edge l')
+    ∙ ap₂ (given new) (alike.voters k no_edge l) (alike.targets k no_edge l) ∙ same (get_or old k no_edge).voter (get_or old k no_edge).target
+    ∙ given_at old before k no_edge l ∙ sym (get_or-map f old k no_edge 0 l))
 
 pub same_given : (old new : List Edge) → new ≡ old → GiveSame old new
 same_given old new same voter target = ap (λ es. given es voter target) same

@@ -14,6 +14,7 @@ use Rattle.support_balance.specs.Turns.{given}
 use Rattle.support_balance.specs.Rounds.{IsBefore}
 use Rattle.support_balance.specs.Rows.{AreAlike}
 use Rattle.support_balance.specs.Slots.{marked, has_pair, AreLaid, IsTaken, IsPassed}
+use Rattle.support_balance.proofs.Edges.{no_edge}
 use Rattle.support_balance.proofs.AlikeLemmas.{voters_alike, alike_from}
 use Rattle.support_balance.proofs.TurnLemmas.{targets_alike}
 use Rattle.support_balance.proofs.GivenLemmas.{pair_weight, given_weight, same_edge}
@@ -223,8 +224,6 @@ all_laid marks slots edges i at laid so end = record {
 } where
   past : length edges ≤ at
   past = elim (cases_lt at (length edges)) [
-    | inl l ↦
-        let d : Edge = record { voter = 0; target = 0; amount = 0 } in
-        absurd (true≢false (sym (so.ahead at d (omega arith) l) ∙ ap (λ es. has_pair (marked marks es) (get_or edges at d)) (drop_all i slots end)))
+    | inl l ↦ absurd (true≢false (sym (so.ahead at no_edge (omega arith) l) ∙ ap (λ es. has_pair (marked marks es) (get_or edges at no_edge)) (drop_all i slots end)))
     | inr l ↦ l
   ]

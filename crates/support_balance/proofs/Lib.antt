@@ -1,6 +1,7 @@
 pub mod AlikeLemmas
 pub mod BackingLemmas
 pub mod CoverLemmas
+pub mod Edges
 pub mod FallLemmas
 pub mod GivenLemmas
 pub mod HandLemmas

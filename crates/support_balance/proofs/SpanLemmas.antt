@@ -15,6 +15,7 @@ use Rattle.support_balance.specs.Rows.{IsRow, AreAlike, AreMoved, IsEven, amount
 use Rattle.support_balance.specs.Laid.{Covers}
 use Rattle.support_balance.specs.declared.spans.Span.{Span}
 use Rattle.support_balance.specs.Spans.{IsSpan, HasSpan, IsIdle, AreSpans}
+use Rattle.support_balance.proofs.Edges.{no_edge}
 use Rattle.support_balance.proofs.AlikeLemmas.{covers_alike}
 use Rattle.support_balance.proofs.TurnLemmas.{idle_turn}
 use Rattle.support_balance.proofs.RoundLemmas.{IsTurned, row_sound, turned_next, long_row, span_here, alike_next, own_next, others_next}
@@ -223,14 +224,12 @@ module _ (snapshot : Snapshot) (edges : List Edge) (supports : List ℕ) (now : 
     behind = elim (cases_lt span.start (read spans i)) [
       | inl l ↦ absurd (omega (
         arith,
-        so.before span.start edge l (omega (arith, (are.sound i none inside).some, (are.sound i none inside).within)),
-        (are.sound i none inside).own span.start edge (omega arith) (are.sound i none inside).some,
+        so.before span.start no_edge l (omega (arith, (are.sound i none inside).some, (are.sound i none inside).within)),
+        (are.sound i none inside).own span.start no_edge (omega arith) (are.sound i none inside).some,
         ahead,
       ))
       | inr l ↦ l
-    ] where
-      edge : Edge
-      edge = record { voter = 0; target = 0; amount = 0 }
+    ]
 
     still_unread : drop span.start now ≡ drop span.start edges
     still_unread =

@@ -10,6 +10,7 @@ use Rattle.support_balance.specs.Turns.{given, edges_but, backs, LiesLow, IsTurn
 use Rattle.support_balance.specs.Rows.{at, AreAlike, IsEven}
 use Rattle.support_balance.specs.Laid.{targets_of}
 use Rattle.support_balance.specs.Spans.{IsIdle}
+use Rattle.support_balance.proofs.Edges.{no_edge}
 use Rattle.support_balance.proofs.RowLemmas.{IsRising, own_amount, rising_alike}
 
 pub filter_all : {X : Type 0} (p : X → Bool) (xs : List X) → All (λ x. p x ≡ true) xs → filter p xs ≡ xs
@@ -92,10 +93,8 @@ idle_turn snapshot committee voter edges idle covers = record {
       let (i, below, is) = place_of (edges_from edges voter) one (covers one ∙ p) in
       let (j, below', is') = place_of (edges_from edges voter) other (covers other ∙ q) in
       let same : i ≡ j = omega (arith, below, below', idle.few) in
-      absurd (ne (sym (is none) ∙ ap (λ n. (get_or (edges_from edges voter) n none).target) same ∙ is' none));
-} where
-  none : Edge
-  none = record { voter = 0; target = 0; amount = 0 }
+      absurd (ne (sym (is no_edge) ∙ ap (λ n. (get_or (edges_from edges voter) n no_edge).target) same ∙ is' no_edge));
+}
 
 module _ (snapshot : Snapshot) (committee : List ℕ) (voter : ℕ) (front row now back : List Edge) (table : List ℕ) (alike : AreAlike row now) (rising : IsRising row)
     (even : 1 ≤ length row → IsEven (stake_of snapshot voter) now table)
@@ -122,22 +121,19 @@ module _ (snapshot : Snapshot) (committee : List ℕ) (voter : ℕ) (front row n
   level_now one other p q ne some =
       let (i, below, is) = place_of now one (has_now one ∙ p) in
       let (j, below', is') = place_of now other (has_now other ∙ q) in
-      let d = get_or now i none in
-      let amount : 0 < (get_or now i none).amount = omega (
+      let d = get_or now i no_edge in
+      let amount : 0 < (get_or now i no_edge).amount = omega (
         arith,
         some,
         given_now one,
-        own_amount now (rising_alike row now alike rising) i none below,
-        ap (λ n. amount_sum (edges_to now n)) (is none),
+        own_amount now (rising_alike row now alike rising) i no_edge below,
+        ap (λ n. amount_sum (edges_to now n)) (is no_edge),
       ) in
-      let apart : i ≢ j = λ same. ne (sym (is none) ∙ ap (λ n. (get_or now n none).target) same ∙ is' none) in
-      elim ((even (some_row one p)).level i j none below below' apart amount) [
-        | inl low ↦ inl (omega (arith, low, kept one, kept other, ap (at table) (is none), ap (at table) (is' none)))
-        | inr step ↦ inr (omega (arith, step.0, kept one, kept other, ap (at table) (is none), ap (at table) (is' none)), omega (arith, step.1, is none, is' none))
+      let apart : i ≢ j = λ same. ne (sym (is no_edge) ∙ ap (λ n. (get_or now n no_edge).target) same ∙ is' no_edge) in
+      elim ((even (some_row one p)).level i j no_edge below below' apart amount) [
+        | inl low ↦ inl (omega (arith, low, kept one, kept other, ap (at table) (is no_edge), ap (at table) (is' no_edge)))
+        | inr step ↦ inr (omega (arith, step.0, kept one, kept other, ap (at table) (is no_edge), ap (at table) (is' no_edge)), omega (arith, step.1, is no_edge, is' no_edge))
       ]
-    where
-      none : Edge
-      none = record { voter = 0; target = 0; amount = 0 }
 
   pub made_turn : IsTurn snapshot committee voter (front ++ (row ++ back)) (front ++ (now ++ back))
   made_turn = record {

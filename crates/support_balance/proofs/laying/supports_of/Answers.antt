@@ -3,10 +3,8 @@ use Rattle.std.proofs.lemmas.List.{get_or_default, length-take-le}
 use Rattle.std.proofs.lemmas.List.Elements.{All-take}
 use Rattle.npos_base.specs.declared.figures.Edge.{Edge}
 use Rattle.support_balance.proofs.AlikeLemmas.{support_small}
+use Rattle.support_balance.proofs.Edges.{no_edge}
 use Rattle.support_balance.proofs.laying.supports_of.Goals as goal
-
-abbrev none : Edge
-none = record { voter = 0; target = 0; amount = 0 }
 
 pub overflow_add-index_mut : goal.overflow_add-index_mut
 overflow_add-index_mut c =
@@ -15,7 +13,7 @@ overflow_add-index_mut c =
     let h : i < length edges = search rules in
     let place = c.from-in-loop-edge.result in
     let small = support_small (take i edges) place (All-take (λ (e : Edge). e.amount < 2 ^ 64) i edges c.requires.small) in
-    let fits : place < length c.loop-edge.supports.items = omega (arith, c.from-in-loop-edge.ensures, c.requires.in_range i none h, c.loop-edge.invariant.1) in
+    let fits : place < length c.loop-edge.supports.items = omega (arith, c.from-in-loop-edge.ensures, c.requires.in_range i no_edge h, c.loop-edge.invariant.1) in
     omega (
       arith,
       c.index_mut.ensures.value,
@@ -25,5 +23,5 @@ overflow_add-index_mut c =
       length-take-le i edges (omega (arith, h)),
       c.requires.few,
       c.from.ensures,
-      c.requires.small i none h,
+      c.requires.small i no_edge h,
     )
