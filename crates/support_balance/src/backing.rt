@@ -68,16 +68,7 @@ impl<'a> Backing<'a> {
         let is_member = vec![in alloc; false; snapshot.target_count()]?;
         let supports = vec![in alloc; 0; snapshot.target_count()]?;
         let edges = Vec::with_capacity(alloc, count_votes(snapshot))?;
-        let spans = Vec::with_capacity(alloc, snapshot.voter_count())?;
-        Ok(Backing {
-            snapshot,
-            members: Vec::new(alloc),
-            is_member,
-            edges,
-            joining: Vec::new(alloc),
-            supports,
-            spans,
-        })
+        Backing::of(alloc, snapshot, Vec::new(alloc), is_member, edges, supports)
     }
 
     /// The committee of these weights in its order, and what they give: a voter gives each target
@@ -99,6 +90,25 @@ impl<'a> Backing<'a> {
         let mut is_member = vec![in alloc; false; snapshot.target_count()]?;
         mark(&members, &mut is_member);
         let (edges, supports) = lay_weights(alloc, snapshot, &is_member, weights)?;
+        Backing::of(alloc, snapshot, members, is_member, edges, supports)
+    }
+
+    /// The committee and what its voters give, as they are at hand; nothing is copied. The room for a
+    /// span of each voter is taken here, after all other memory.
+    fn of(
+        alloc: Global,
+        snapshot: &'a Snapshot,
+        members: Vec<u16>,
+        is_member: Vec<bool>,
+        edges: Vec<Edge>,
+        supports: Vec<u128>,
+    ) -> Result<Backing<'a>, NoMemory>
+        requires { IsKept snapshot.now members.items is_member.items edges.items supports.items }
+        ensures { IfOk result (λ backing. backing ≡ record {
+          snapshot = snapshot.now;
+          weights = record { committee = members.items; edges = edges.items };
+        }) }
+    {
         let spans = Vec::with_capacity(alloc, snapshot.voter_count())?;
         Ok(Backing {
             snapshot,
