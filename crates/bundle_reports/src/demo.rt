@@ -66,16 +66,17 @@ fn tell_packed(
     }
 }
 
-/// The lines of an election.
+/// The lines of an election. The weights of the fill go before the other miner begins.
 fn tell_election(alloc: Global, text: &mut Vec<u8>, snapshot: Snapshot) -> Result<(), NoMemory>
     ensures { OnOk result (text.new.items ≡ text.old.items ++ election_text snapshot) }
 {
     every_snapshot_is_well_formed(&snapshot);
-    let filled = fill(alloc, &snapshot)?;
-    let packed = packed_by_load(alloc, &snapshot);
     tell_size(text, &snapshot)?;
     let mut checker = Checker::of(alloc, snapshot)?;
+    let filled = fill(alloc, checker.snapshot())?;
     tell_fill(text, &mut checker, &filled)?;
+    drop(filled);
+    let packed = packed_by_load(alloc, checker.snapshot());
     tell_packed(alloc, text, &mut checker, packed)
 }
 
