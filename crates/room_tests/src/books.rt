@@ -256,11 +256,15 @@ fn guessed_readings(alloc: Global) -> Result<[(u64, usize); 2], LedgerRefusal> {
     Ok([(first, behind), (second, guess)])
 }
 
-/// Guesses of both accounts.
-fn both_guesses(alloc: Global, book: &Book) -> Result<[usize; 2], NoMemory> {
+/// The guess at this place of those for both accounts.
+fn guess_of(alloc: Global, book: &Book, place: usize) -> Result<usize, NoMemory> {
     let mut guesses = Vec::new(alloc);
     book.guess_each(&[FIRST, SECOND], &mut guesses)?;
-    Ok([guesses[0] as usize, guesses[1] as usize])
+    Ok(
+        guesses
+            .get(place)
+            .map_or(usize::MAX, |guess| *guess as usize),
+    )
 }
 
 /// What both have free after the second paid 4 and got 3 back, where the second is found by its
@@ -268,7 +272,7 @@ fn both_guesses(alloc: Global, book: &Book) -> Result<[usize; 2], NoMemory> {
 fn guessed_transfers(alloc: Global) -> Result<(u64, u64), LedgerRefusal> {
     let mut book = bonded_book(alloc)?;
     endow(&mut book, SECOND, 10)?;
-    let [_, second] = both_guesses(alloc, &book)?;
+    let second = guess_of(alloc, &book, 1)?;
     book.transfer_from((second, second), SECOND, FIRST, 4)?;
     book.transfer_from((usize::MAX, second), FIRST, SECOND, 3)?;
     Ok((book.free(FIRST), book.free(SECOND)))
@@ -277,7 +281,7 @@ fn guessed_transfers(alloc: Global) -> Result<(u64, u64), LedgerRefusal> {
 /// What is free after 7 was minted, and what a slash of 40 and one of 100 then take, by a guess.
 fn guessed_calls(alloc: Global) -> Result<(u64, [Loss; 2]), LedgerRefusal> {
     let mut book = bonded_book(alloc)?;
-    let [guess, _] = both_guesses(alloc, &book)?;
+    let guess = guess_of(alloc, &book, 0)?;
     book.mint_from(guess, FIRST, 7)?;
     let losses = [
         book.slash_from(guess, FIRST, 40),

@@ -115,6 +115,21 @@ fn roles_come_and_go(rt: HostRuntime) -> Result<(), Fail> {
     Ok(())
 }
 
+/// Who takes a role is told the one before.
+#[test]
+fn the_role_before_is_told(rt: HostRuntime) -> Result<(), Fail> {
+    let alloc = rt.alloc();
+    let mut roles = Roles::new(alloc);
+    assert_eq!(rt; roles.validate_anew(at(1), 7), Ok(Role::Nobody));
+    assert_eq!(rt; roles.validate_anew(at(2), 5), Ok(Role::Nobody));
+    assert_eq!(rt;
+        roles.nominate_anew(at(2), list_of(alloc, &[at(1)])?),
+        Ok(Role::Validator { commission: 5 })
+    );
+    assert_eq!(rt; roles.validate_anew(at(2), 3), Ok(Role::Nominator));
+    Ok(())
+}
+
 /// Who left has no rank, and no vote either.
 #[test]
 fn votes_are_ranks_of_validators(rt: HostRuntime) -> Result<(), Fail> {

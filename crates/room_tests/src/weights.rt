@@ -5,7 +5,7 @@ use election_snapshot::{Snapshot, SnapshotBuilder};
 use npos_base::{AccountId, Edge, NoMemory, Score};
 use std::alloc::Global;
 use std::test::Fail;
-use weight_book::Weights;
+use weight_book::{Weights, count_votes};
 
 /// One target, one voter and one seat.
 fn small(alloc: Global) -> Result<Snapshot, NoMemory> {
@@ -53,7 +53,9 @@ fn scores_are_those_of_the_worked_weights(rt: HostRuntime) -> Result<(), Fail> {
         sum: 50,
         squares: 1252,
     };
-    let mut weights = Weights::with_room(rt.alloc(), &small(rt.alloc())?)?;
+    let snapshot = small(rt.alloc())?;
+    assert_eq!(rt; count_votes(&snapshot), 1);
+    let mut weights = Weights::with_room(rt.alloc(), &snapshot)?;
     assert_eq!(rt; score_of_two(&mut weights, 60, 40)?, first);
     assert_eq!(rt; score_of_two(&mut weights, 24, 26)?, second);
     Ok(())
