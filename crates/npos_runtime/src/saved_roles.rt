@@ -4,7 +4,6 @@ ghost use Rattle.voter_lists.specs.Bags.{is_listed, number_of, number_at};
 ghost use Rattle.voter_lists.specs.Roles.{standing_of};
 ghost use Rattle.npos_runtime.specs.KeptState.{kind_in, role_row};
 
-use crate::saved_lists::copied;
 use npos_base::{AccountId, List, NoMemory};
 use state_rules::{RoleKind, RoleRow};
 use std::alloc::Global;
@@ -24,7 +23,7 @@ fn kind_of(
             targets: List::new(alloc),
         }),
         (Role::Nominator, targets) => {
-            let targets = copied(alloc, targets)?;
+            let targets = targets.to_list(alloc)?;
             Ok(RoleKind::Nominator { targets })
         }
         (Role::Validator { commission }, _) => Ok(RoleKind::Validator { commission }),

@@ -90,7 +90,8 @@ fn roles_come_and_go(rt: HostRuntime) -> Result<(), Fail> {
         roles.nominate(at(3), list_of(alloc, &[at(2), at(1)])?),
         Ok(())
     );
-    assert_eq!(rt; roles.targets_of(at(3)), [at(2), at(1)].as_slice());
+    let named = roles.targets_of(at(3)).to_list(alloc)?;
+    assert_eq!(rt; named.as_slice(), [at(2), at(1)].as_slice());
     assert_eq!(rt; roles.nominate(at(4), list_of(alloc, &[at(1)])?), Ok(()));
     let mut guess = 0;
     let table: [(u8, Role, &[AccountId]); 5] = [
@@ -101,7 +102,10 @@ fn roles_come_and_go(rt: HostRuntime) -> Result<(), Fail> {
         (9, Role::Nobody, &[]),
     ];
     for (who, role, targets) in table {
-        assert_eq!(rt; roles.role_from(&mut guess, at(who)), (role, targets));
+        let (told, named) = roles.role_from(&mut guess, at(who));
+        assert_eq!(rt; told, role);
+        assert_eq!(rt; named.to_list(alloc)?.as_slice(), targets);
+        assert_eq!(rt; named.is_empty(), targets.is_empty());
     }
     assert_eq!(rt; guess, 4);
     assert_eq!(rt; roles.role(at(2)), Role::Validator { commission: 7 });
@@ -192,7 +196,10 @@ fn a_nominator_names_up_to_24_validators(rt: HostRuntime) -> Result<(), Fail> {
     }
     let most = &named[..24];
     assert_eq!(rt; roles.nominate(at(30), list_of(alloc, most)?), Ok(()));
-    assert_eq!(rt; roles.targets_of(at(30)), most);
+    let targets = roles.targets_of(at(30));
+    assert_eq!(rt; targets.len(), 24);
+    assert_eq!(rt; targets.at(23), at(23));
+    assert_eq!(rt; targets.to_list(alloc)?.as_slice(), most);
     assert_eq!(rt;
         roles.nominate(at(30), list_of(alloc, &named)?),
         Err(ListRefusal::TooManyTargets)

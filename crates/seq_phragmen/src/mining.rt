@@ -33,6 +33,8 @@ pub fn mine_seq(alloc: Global, snapshot: &Snapshot) -> Result<Weights, NoMemory>
     let mut weights = Weights::with_room(alloc, snapshot)?;
     let run = fill_seats(alloc, snapshot, &mut weights)?;
     let mut edges = split(alloc, snapshot, &run.race, run.rises.as_slice())?;
+    // the sort takes memory of its own
+    drop(run);
     put_by_voter(&mut edges, &mut weights)?;
     Ok(weights)
 }

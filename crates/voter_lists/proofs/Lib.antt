@@ -18,5 +18,6 @@ pub mod TakenLemmas
 pub mod RoleLemmas
 pub mod RepeatLemmas
 pub mod MarkLemmas
+pub mod NamedLemmas
 pub mod VoteLemmas
 pub mod RankingLemmas

@@ -5,19 +5,14 @@ use Rattle.std.proofs.lemmas.Bool.{cases_lt}
 use Rattle.std.proofs.lemmas.Grind.{common_steps}
 use Rattle.std.proofs.lemmas.List.{length-set}
 use Rattle.std.proofs.lemmas.List.Quantifiers.{position-Some}
-use Rattle.std.proofs.lemmas.Option.{none-some, same_Some, get_or_from_slice_get}
+use Rattle.std.proofs.lemmas.Option.{none-some, same_Some, get_or_from_slice_get, slice_get_within}
 use Rattle.npos_base.specs.declared.account.AccountId.{AccountId}
 use Rattle.npos_base.specs.Account.{account_cmp, same_account}
 use Rattle.npos_base.proofs.AccountOrder.{same_itself, same_exact}
 use Rattle.account_places.specs.Places.{place_in, by_account, Stand}
-use Rattle.voter_lists.specs.Marks.{IsMark}
-use Rattle.voter_lists.specs.Ranking.{no_rank, rank_in, Tells, AreTold, entered}
+use Rattle.voter_lists.specs.Ranking.{no_rank, rank_in, AreTold, entered}
 use Rattle.voter_lists.specs.Votes.{rank_of}
 use Rattle.voter_lists.proofs.PlaceLemmas.{place_is}
-
--- a mark tells the rank of its account
-pub told_mark : (ranks : List ℕ) (accounts : List AccountId) (rank : AccountId → Option ℕ) (mark : ℕ) (who : AccountId) → AreTold ranks accounts rank → IsMark accounts mark who → Tells ranks mark (rank who)
-told_mark ranks accounts rank mark who told is within = told.tells mark who (is (λ same. omega (arith, told.short, within, same))) within
 
 among : (rank count : ℕ) → rank < count → (if nat_lt rank count then Some rank else None) ≡ Some rank
 among rank count below = let yes : nat_lt rank count ≡ true = grind (arith, common_steps, below) in rw yes refl
@@ -30,6 +25,12 @@ same_entered rank count differ = by_side (cases_lt rank count) where
   by_side : (rank < count) ⊎ (count ≤ rank) → entered (count + 1) (Some rank) ≡ entered count (Some rank)
   by_side (inl below) = among rank (count + 1) (omega (arith, below)) ∙ sym (among rank count below)
   by_side (inr above) = not_among rank (count + 1) (omega (arith, above, differ)) ∙ sym (not_among rank count above)
+
+pub all_entered : (validators : List AccountId) (count : ℕ) (who : AccountId) → length validators ≤ count → entered count (rank_of validators who) ≡ rank_of validators who
+all_entered validators count who most = at (rank_of validators who) refl where
+  at : (o : Option ℕ) → rank_of validators who ≡ o → entered count o ≡ o
+  at None e = refl
+  at (Some rank) e = among rank count (omega (arith, most, (position-Some (same_account who) validators rank who e).0))
 
 -- one more is entered
 module _ (ranks : List ℕ) (accounts validators : List AccountId) (count : ℕ) (validator : AccountId) (stand : Stand accounts (by_account accounts)) (rising : IsStrictlySortedBy account_cmp validators)
@@ -52,35 +53,33 @@ module _ (ranks : List ℕ) (accounts validators : List AccountId) (count : ℕ)
   entry_told = let other : nat_eq count no_rank ≡ false = grind (arith, common_steps, few) in rw other refl
 
   told_with : (now : List ℕ) → length now ≡ length ranks
-      → ((place : ℕ) → slice_get accounts place ≡ Some validator → place < length now → get_or now place no_rank ≡ count)
+      → ((place : ℕ) → slice_get accounts place ≡ Some validator → get_or now place no_rank ≡ count)
       → ((place : ℕ) (who : AccountId) → slice_get accounts place ≡ Some who → who ≢ validator → get_or now place no_rank ≡ get_or ranks place no_rank)
       → IsNext now
   told_with now long here others = record {
-    short = omega (arith, long, told.short);
-    tells = λ place who at within. by_test place who at within (same_account who validator) refl;
+    count = long ∙ told.count;
+    tells = λ place who at. by_test place who at (same_account who validator) refl;
   } where
-    by_test : (place : ℕ) (who : AccountId) → slice_get accounts place ≡ Some who → place < length now → (t : Bool) → same_account who validator ≡ t
+    by_test : (place : ℕ) (who : AccountId) → slice_get accounts place ≡ Some who → (t : Bool) → same_account who validator ≡ t
         → rank_in (get_or now place no_rank) ≡ entered (count + 1) (rank_of validators who)
-    by_test place who at within true is =
+    by_test place who at true is =
         let same : who ≡ validator = same_exact who validator is in
-        ap rank_in (here place (at ∙ ap (λ a. Some a) same) within) ∙ entry_told ∙ sym (ap (λ a. entered (count + 1) (rank_of validators a)) same ∙ this_entered)
-    by_test place who at within false is =
+        ap rank_in (here place (at ∙ ap (λ a. Some a) same)) ∙ entry_told ∙ sym (ap (λ a. entered (count + 1) (rank_of validators a)) same ∙ this_entered)
+    by_test place who at false is =
         let apart : who ≢ validator = λ same. true≢false (sym (same_itself who) ∙ ap (λ a. same_account who a) same ∙ is) in
-        ap rank_in (others place who at apart) ∙ told.tells place who at (omega (arith, within, long)) ∙ sym (other_entered who apart)
+        ap rank_in (others place who at apart) ∙ told.tells place who at ∙ sym (other_entered who apart)
 
-  -- at its place, where the table has an entry of it
+  -- at its place
   pub told_set : (place : ℕ) → place_in (by_account accounts) validator ≡ Some place → place < length ranks → IsNext (slice_set ranks place count)
   told_set place found within = told_with (slice_set ranks place count) (length-set ranks place count)
-      (λ at stands below. ap (λ n. get_or (slice_set ranks place count) n no_rank) (same_Some at place (sym (stand.placed validator at stands) ∙ found)) ∙ get_or-set_same ranks place count no_rank within)
+      (λ at stands. ap (λ n. get_or (slice_set ranks place count) n no_rank) (same_Some at place (sym (stand.placed validator at stands) ∙ found)) ∙ get_or-set_same ranks place count no_rank within)
       (λ at who stands apart. get_or-set_other ranks place at count no_rank
       (λ same. apart (same_Some who validator (sym stands ∙ ap (slice_get accounts) same ∙ stand.standing validator place found))))
 
-  pub told_past : (place : ℕ) → place_in (by_account accounts) validator ≡ Some place → length ranks ≤ place → IsNext ranks
-  told_past place found past = told_with ranks refl
-      (λ at stands below. absurd (omega (arith, below, past, same_Some at place (sym (stand.placed validator at stands) ∙ found))))
-      (λ at who stands apart. refl)
-
   pub told_nowhere : place_in (by_account accounts) validator ≡ None → IsNext ranks
   told_nowhere nowhere = told_with ranks refl
-      (λ at stands below. absurd (none-some at (sym nowhere ∙ stand.placed validator at stands)))
+      (λ at stands. absurd (none-some at (sym nowhere ∙ stand.placed validator at stands)))
       (λ at who stands apart. refl)
+
+  pub place_entered : (place : ℕ) → place_in (by_account accounts) validator ≡ Some place → place < length ranks
+  place_entered place found = omega (arith, told.count, slice_get_within accounts place validator (stand.standing validator place found))

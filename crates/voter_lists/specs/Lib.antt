@@ -10,6 +10,7 @@ pub mod Roles
 pub mod Standings
 pub mod Held
 pub mod Noted
+pub mod Chosen
 pub mod Links
 pub mod Rings
 pub mod Nodes

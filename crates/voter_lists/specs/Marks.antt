@@ -1,5 +1,5 @@
--- Beside the targets of a nominator stand marks, the places of those accounts, so that nobody needs to
--- find them again.
+-- Targets are named by their places. While they are looked for they have marks: their places, as far as
+-- 32 bits hold them.
 use Rattle.std.specs.Prelude.{◌≡◌, ◌≢◌, ◌||◌, ℕ, nat_eq, Bool, false, List, [], ◌∷◌, length, Some, slice_get}
 use Rattle.std.specs.List.{list_any}
 use Rattle.npos_base.specs.declared.account.AccountId.{AccountId}
@@ -18,6 +18,13 @@ pub record AreMarks (accounts : List AccountId) (marks : List ℕ) (targets : Li
   pub count : length marks ≡ length targets
   pub each : (i mark : ℕ) (target : AccountId) → slice_get marks i ≡ Some mark
       → slice_get targets i ≡ Some target → IsMark accounts mark target
+
+-- the place of each target, in their order
+pub record AreNamed (accounts : List AccountId) (places : List ℕ) (targets : List AccountId)
+    : Type 0 where
+  pub count : length places ≡ length targets
+  pub each : (i place : ℕ) (target : AccountId) → slice_get places i ≡ Some place
+      → slice_get targets i ≡ Some target → slice_get accounts place ≡ Some target
 
 -- who has a place keeps it
 abbrev pub KeepPlaces : List AccountId → List AccountId → Type 0

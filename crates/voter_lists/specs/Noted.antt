@@ -1,34 +1,61 @@
--- What is noted at the place of an account: its standing, if it has one, and the marks of those that
--- it names. A single one of them stands in the row itself.
-use Rattle.std.specs.Prelude.{ℕ, List, [], Option, Some, None}
+-- What is noted at the place of an account: what it does, and whom it names by their places.
+use Rattle.std.specs.Prelude.{◌≡◌, ◌<◌, ℕ, Bool, true, false, List, [], length, All, filter_map, slice_get, Option, Some, None}
 use Rattle.npos_base.specs.declared.account.AccountId.{AccountId}
-use Rattle.voter_lists.specs.declared.row.Named.{Named}
-use Rattle.voter_lists.specs.declared.row.Named.TheVariants as named
+use Rattle.voter_lists.specs.declared.row.Kind.{Kind}
+use Rattle.voter_lists.specs.declared.row.Kind.TheVariants as kind
 use Rattle.voter_lists.specs.declared.standing.Standing.{Standing}
 use Rattle.voter_lists.specs.declared.standing.Standing.TheVariants as standing
+use Rattle.voter_lists.specs.declared.standing.Role.{Role}
+use Rattle.voter_lists.specs.declared.standing.Role.TheVariants as role
 
-pub record Noted : Type 0 where
-  pub standing : Option Standing
-  pub marks : List ℕ
-
--- an account that has no role
-abbrev pub noted_nobody : Noted
-noted_nobody = record { standing = None; marks = [] }
-
-abbrev pub noted_validator : ℕ → Noted
-noted_validator commission = record { standing = Some (standing.Validator commission); marks = [] }
-
-abbrev pub noted_nominator : List AccountId → List ℕ → Noted
-noted_nominator targets marks = record { standing = Some (standing.Nominator targets); marks = marks }
+-- nothing, of an account without a role; a validator's commission; or the places of a nominator's targets
+pub data Noted : Type 0 where
+  Idle : Noted
+  Validating : ℕ → Noted
+  Naming : List ℕ → Noted
 
 -- what a row notes
-abbrev pub noted_in : Named → Noted
-noted_in named.Nobody = noted_nobody
-noted_in (named.Validator commission) = noted_validator commission
-noted_in (named.One target mark) = noted_nominator target mark
-noted_in (named.Many targets marks) = noted_nominator targets marks
+abbrev pub noted_in : Kind → Noted
+noted_in kind.Nobody = Idle
+noted_in (kind.Validator commission) = Validating commission
+noted_in (kind.Near places) = Naming places
+noted_in (kind.Far places) = Naming places
 
--- the standing in a row, where there is one
-abbrev pub standing_at : Option Noted → Option Standing
-standing_at None = None
-standing_at (Some row) = row.standing
+abbrev pub has_role : Noted → Bool
+has_role Idle = false
+has_role (Validating commission) = true
+has_role (Naming places) = true
+
+abbrev pub role_noted : Noted → Role
+role_noted Idle = role.Nobody
+role_noted (Validating commission) = role.Validator commission
+role_noted (Naming places) = role.Nominator
+
+abbrev pub places_noted : Noted → List ℕ
+places_noted Idle = []
+places_noted (Validating commission) = []
+places_noted (Naming places) = places
+
+-- the accounts at these places
+abbrev pub accounts_at : List AccountId → List ℕ → List AccountId
+accounts_at accounts places = filter_map (slice_get accounts) places
+
+-- there is an account at each of these places
+abbrev pub AreWithin : List AccountId → List ℕ → Type 0
+AreWithin accounts places = All (λ place. place < length accounts) places
+
+-- the standing that is noted, where there is one
+abbrev pub standing_noted : List AccountId → Noted → Option Standing
+standing_noted accounts Idle = None
+standing_noted accounts (Validating commission) = Some (standing.Validator commission)
+standing_noted accounts (Naming places) = Some (standing.Nominator (accounts_at accounts places))
+
+-- whom it names has a place
+abbrev pub IsPlaced : List AccountId → Noted → Type 0
+IsPlaced accounts noted = AreWithin accounts (places_noted noted)
+
+-- a nominator of these targets is noted
+pub record NotesTargets (accounts : List AccountId) (noted : Noted) (targets : List AccountId)
+    : Type 0 where
+  pub placed : IsPlaced accounts noted
+  pub standing : standing_noted accounts noted ≡ Some (standing.Nominator targets)

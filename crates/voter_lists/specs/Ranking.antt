@@ -1,8 +1,7 @@
 -- The ranks of the validators stand in a table by the places of all accounts.
-use Rattle.std.specs.Prelude.{◌≡◌, ◌<◌, ◌≤◌, ℕ, nat_eq, nat_lt, if◌then◌else◌, List, length, Option, Some, None, slice_get, slice_index_or}
+use Rattle.std.specs.Prelude.{◌≡◌, ℕ, nat_eq, nat_lt, if◌then◌else◌, List, length, Option, Some, None, slice_get, slice_index_or}
 use Rattle.npos_base.specs.declared.account.AccountId.{AccountId}
 use Rattle.voter_lists.specs.declared.ranking.Ranking.{Ranking}
-use Rattle.voter_lists.specs.Marks.{unknown}
 use Rattle.voter_lists.specs.Ranked.{AreRanked}
 use Rattle.voter_lists.specs.Votes.{rank_of}
 
@@ -13,16 +12,12 @@ no_rank = 65535
 abbrev pub rank_in : ℕ → Option ℕ
 rank_in entry = if nat_eq entry no_rank then None else Some entry
 
--- where the table has an entry of this place, it tells the rank
-abbrev pub Tells : List ℕ → ℕ → Option ℕ → Type 0
-Tells ranks place rank = place < length ranks → rank_in (slice_index_or ranks place no_rank) ≡ rank
-
--- each place tells the rank of its account, and no entry is that of an unknown place
+-- each place has an entry, which tells the rank of its account
 pub record AreTold (ranks : List ℕ) (accounts : List AccountId) (rank : AccountId → Option ℕ)
     : Type 0 where
-  pub short : length ranks ≤ unknown
+  pub count : length ranks ≡ length accounts
   pub tells : (place : ℕ) (who : AccountId) → slice_get accounts place ≡ Some who
-      → Tells ranks place (rank who)
+      → rank_in (slice_index_or ranks place no_rank) ≡ rank who
 
 -- a rank, where so many are entered that it is among them
 abbrev pub entered : ℕ → Option ℕ → Option ℕ

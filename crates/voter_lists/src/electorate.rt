@@ -62,6 +62,6 @@ impl<'a> Electorate<'a> {
             return Ok(());
         };
         self.guess = place.wrapping_add(1);
-        self.ranking.cast(place, &who, votes)
+        self.ranking.cast(place, votes)
     }
 }

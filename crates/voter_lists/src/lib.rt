@@ -15,6 +15,7 @@ mod roles;
 mod row;
 mod standing;
 mod standings;
+mod targets;
 mod walk;
 
 pub use bags::Bags;
@@ -22,4 +23,5 @@ pub use electorate::Electorate;
 pub use refusal::ListRefusal;
 pub use roles::Roles;
 pub use standing::{Role, Standing};
+pub use targets::Targets;
 pub use walk::Walk;

@@ -1,12 +1,13 @@
 //! The ranks of the validators, by the places of accounts.
-ghost use Rattle.std.specs.Prelude.{◌≡◌, [], Some, OnOk, IfOk, slice_get, filter_map};
-ghost use Rattle.voter_lists.specs.Marks.{AreMarks};
+ghost use Rattle.std.specs.Prelude.{◌≡◌, ◌<◌, [], length, Some, OnOk, IfOk, slice_get, filter_map};
+ghost use Rattle.npos_base.specs.declared.account.AccountId.{AccountId};
+ghost use Rattle.voter_lists.specs.Chosen.{chosen_in};
+ghost use Rattle.voter_lists.specs.Noted.{AreWithin, accounts_at};
 ghost use Rattle.voter_lists.specs.Ranked.{AreRanked};
-ghost use Rattle.voter_lists.specs.Ranking.{rank_in, Tells, AreTold, IsRanking};
+ghost use Rattle.voter_lists.specs.Ranking.{rank_in, AreTold, IsRanking};
 ghost use Rattle.voter_lists.specs.Votes.{rank_of, votes_of};
 
-use crate::marks::UNKNOWN;
-use crate::ranks::rank_among;
+use crate::row::Chosen;
 use crate::standing::Role;
 use crate::standings::Standings;
 use npos_base::{AccountId, NoMemory};
@@ -15,8 +16,7 @@ use std::alloc::Global;
 /// The entry of an account that is no validator.
 const NO_RANK: u16 = 0xffff;
 
-/// The rank of each validator in a table, at the place of its account. The table has no entry of a
-/// place that has no mark.
+/// The rank of each validator in a table, at the place of its account.
 #[derive(Drop)]
 pub(crate) struct Ranking<'a> {
     pub(crate) standings: &'a Standings,
@@ -41,13 +41,10 @@ fn table(
     ensures { IfOk result (λ ranks.
         AreTold ranks.items standings.now.accounts (rank_of validators.now)) }
 {
-    let count = standings.count().min(UNKNOWN as usize);
-    let mut ranks = vec![in alloc; NO_RANK; count]?;
+    let mut ranks = vec![in alloc; NO_RANK; standings.count()]?;
     for rank in 0..validators.len() {
         if let Some(place) = standings.place_of(validators[rank]) {
-            if place < ranks.len() {
-                ranks[place] = rank as u16;
-            }
+            ranks[place] = rank as u16;
         }
     }
     Ok(ranks)
@@ -72,34 +69,26 @@ impl<'a> Ranking<'a> {
         })
     }
 
-    /// The rank of the account at this place, which is searched for where the table has no entry.
-    fn rank_at(&self, place: usize, who: &AccountId) -> Option<u16>
+    /// The rank of the account at this place.
+    fn rank_at(&self, place: usize) -> Option<u16>
         requires ranking { IsRanking self.now }
-        requires tells { Tells self.now.ranks.items place (rank_of self.now.validators.now who.now) }
-        ensures { result ≡ rank_of self.now.validators.now who.now }
+        requires there { place < length self.now.standings.now.accounts }
+        ensures { (who : AccountId) → slice_get self.now.standings.now.accounts place ≡ Some who
+            → result ≡ rank_of self.now.validators.now who }
     {
-        if place < self.ranks.len() {
-            rank_in(self.ranks[place])
-        } else {
-            rank_among(self.validators, *who)
-        }
+        rank_in(self.ranks[place])
     }
 
-    /// Adds the votes for these targets, which have these marks.
-    fn cast_for(
-        &self,
-        marks: &[u32],
-        targets: &[AccountId],
-        votes: &mut Vec<u16>,
-    ) -> Result<(), NoMemory>
+    /// Adds the votes for the accounts at these places.
+    fn cast_for(&self, chosen: Chosen<'_>, votes: &mut Vec<u16>) -> Result<(), NoMemory>
         requires ranking { IsRanking self.now }
-        requires marks { AreMarks self.now.standings.now.accounts marks.now targets.now }
+        requires within { AreWithin self.now.standings.now.accounts (chosen_in chosen) }
         requires none { votes.old.items ≡ [] }
-        ensures { OnOk result
-            (votes.new.items ≡ filter_map (rank_of self.now.validators.now) targets.now) }
+        ensures { OnOk result (votes.new.items ≡ filter_map (rank_of self.now.validators.now)
+            (accounts_at self.now.standings.now.accounts (chosen_in chosen.entry))) }
     {
-        for i in 0..targets.len() {
-            if let Some(rank) = self.rank_at(marks[i] as usize, &targets[i]) {
+        for i in 0..chosen.len() {
+            if let Some(rank) = self.rank_at(chosen.at(i)) {
                 votes.push(rank)?;
             }
         }
@@ -107,22 +96,19 @@ impl<'a> Ranking<'a> {
     }
 
     /// Adds the votes of the account at this place.
-    pub(crate) fn cast(
-        &self,
-        place: usize,
-        who: &AccountId,
-        votes: &mut Vec<u16>,
-    ) -> Result<(), NoMemory>
+    pub(crate) fn cast(&self, place: usize, votes: &mut Vec<u16>) -> Result<(), NoMemory>
         requires ranking { IsRanking self.now }
-        requires there { slice_get self.now.standings.now.accounts place ≡ Some who.now }
+        requires there { place < length self.now.standings.now.accounts }
         requires none { votes.old.items ≡ [] }
-        ensures { OnOk result (votes.new.items ≡ votes_of self.now.standings.now.roles who.now) }
+        ensures { OnOk result ((who : AccountId)
+            → slice_get self.now.standings.now.accounts place ≡ Some who
+            → votes.new.items ≡ votes_of self.now.standings.now.roles who) }
     {
         let row = self.standings.row(place);
         match row.role() {
-            Role::Nominator => self.cast_for(row.marks(), row.targets(), votes),
+            Role::Nominator => self.cast_for(row.chosen(), votes),
             Role::Validator { .. } => {
-                if let Some(rank) = self.rank_at(place, who) {
+                if let Some(rank) = self.rank_at(place) {
                     votes.push(rank)?;
                 }
                 Ok(())

@@ -18,6 +18,7 @@ use crate::marks::{Marks, UNKNOWN};
 use crate::ranks::{enter, leave, leave_where, rank_among};
 use crate::standing::Role;
 use crate::standings::Standings;
+use crate::targets::Targets;
 use npos_base::{AccountId, List, MOST_NOMINATIONS, MOST_VALIDATORS, NoMemory, WHOLE_FRACTION};
 use std::alloc::Global;
 use std::marker::Model;
@@ -80,7 +81,7 @@ impl Roles {
             &mut self.standings,
             &mut self.validators,
             who,
-            targets,
+            targets.as_slice(),
             marks,
         )?;
         Ok(before)
@@ -138,7 +139,7 @@ impl Roles {
                     &mut self.standings,
                     &mut self.validators,
                     who,
-                    targets,
+                    targets.as_slice(),
                     marks,
                 )?;
             }
@@ -182,33 +183,26 @@ impl Roles {
     pub fn role(&self, who: AccountId) -> Role
         ensures { result ≡ role_of self.now who }
     {
-        match self.standings.get(who) {
-            Some(row) => row.role(),
-            None => Role::Nobody,
-        }
+        let (role, _) = self.standings.get(who);
+        role
     }
 
     /// The role of an account and its targets, for accounts that are asked for in about the order
     /// in which they first had one: the account may be found by the guess, which then is of the
     /// account that came next.
-    pub fn role_from(&self, guess: &mut usize, who: AccountId) -> (Role, &[AccountId])
+    pub fn role_from(&self, guess: &mut usize, who: AccountId) -> (Role, Targets<'_>)
         ensures role { result.0 ≡ role_of self.now who }
-        ensures targets { result.1.now ≡ nominated_by self.now who }
+        ensures targets { result.1 ≡ nominated_by self.now who }
     {
-        match self.standings.get_from(guess, who) {
-            Some(row) => (row.role(), row.targets()),
-            None => (Role::Nobody, &[]),
-        }
+        self.standings.get_from(guess, who)
     }
 
     /// The targets of a nominator, in the order in which it named them. Nobody else has any.
-    pub fn targets_of(&self, who: AccountId) -> &[AccountId]
-        ensures { result.now ≡ nominated_by self.now who }
+    pub fn targets_of(&self, who: AccountId) -> Targets<'_>
+        ensures { result ≡ nominated_by self.now who }
     {
-        match self.standings.get(who) {
-            Some(row) => row.targets(),
-            None => &[],
-        }
+        let (_, targets) = self.standings.get(who);
+        targets
     }
 
     /// How many validators there are, at most 2,048. They rise strictly by account.
@@ -252,19 +246,18 @@ fn put_nominator(
     standings: &mut Standings,
     validators: &mut Vec<AccountId>,
     who: AccountId,
-    targets: List<AccountId>,
+    targets: &[AccountId],
     marks: Marks,
 ) -> Result<Role, NoMemory>
     requires ranked { AreRanked standings.old.roles validators.old.items }
-    requires marks { AreMarks standings.old.accounts marks targets }
+    requires marks { AreMarks standings.old.accounts marks targets.now }
     ensures before { IfOk result (λ before. before ≡ role_of standings.old.roles who) }
-    ensures ok { OnOk result (standings.new.roles ≡ nominated standings.old.roles who targets) }
+    ensures ok { OnOk result (standings.new.roles ≡ nominated standings.old.roles who targets.now) }
     ensures err { OnErr result (standings.new.roles ≡ standings.old.roles) }
     ensures ranked { AreRanked standings.new.roles validators.new.items }
 {
     let before = standings.put_nominator(who, targets, marks)?;
-    let validates = matches!(before, Role::Validator { .. });
-    leave_where(validators, who, validates);
+    leave_where(validators, who, before.validates());
     Ok(before)
 }
 

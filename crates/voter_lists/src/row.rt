@@ -1,36 +1,34 @@
 //! What is kept at the place of an account.
-ghost use Rattle.std.specs.Prelude.{◌≡◌, is_some};
-ghost use Rattle.voter_lists.specs.Noted.{noted_nobody, noted_validator, noted_nominator};
-ghost use Rattle.voter_lists.specs.Roles.{role_in, targets_in, is_validator_in};
+ghost use Rattle.std.specs.Prelude.{◌≡◌, ◌<◌, length, slice_get, Some};
+ghost use Rattle.voter_lists.specs.Chosen.{chosen_in};
+ghost use Rattle.voter_lists.specs.Noted.{Idle, Validating, Naming, has_role, role_noted, places_noted};
 
 use crate::marks::Marks;
 use crate::standing::Role;
-use npos_base::{AccountId, List};
+use npos_base::List;
 use std::marker::Model;
 
-/// What an account does, and whom it names. A single target stands here itself, with its mark.
+/// What an account does, and the places of those whom it names: in 32 bits each, if these hold them.
 #[derive(Debug, Drop)]
-enum Named {
+enum Kind {
     Nobody,
-    Validator {
-        commission: u32,
-    },
-    One {
-        target: [AccountId; 1],
-        mark: [u32; 1],
-    },
-    Many {
-        targets: List<AccountId>,
-        marks: Marks,
-    },
+    Validator { commission: u32 },
+    Near { places: Marks },
+    Far { places: List<usize> },
 }
 
-/// What is kept of an account that has a place: what it does, if it has a role, and whom it names.
-/// Who nominates a single account, as many do, takes no memory besides. Contracts see the standing,
-/// if there is one, and the marks of those that it names.
+/// What is kept of an account that has a place: its role, and the places of those whom it names.
+/// Contracts see what is noted.
 #[derive(Debug, Drop)]
 pub(crate) struct Row {
-    named: Named,
+    kind: Kind,
+}
+
+/// The places of those whom an account names, in the order in which it named them.
+#[derive(Clone, Copy, Debug)]
+pub(crate) enum Chosen<'a> {
+    Near(&'a [u32]),
+    Far(&'a [usize]),
 }
 
 impl Model for Row {
@@ -38,95 +36,98 @@ impl Model for Row {
 
     ghost Value = { Noted };
 
-    ghost view = { λ r. noted_in r.named };
+    ghost view = { λ r. noted_in r.kind };
+}
+
+impl<'a> Chosen<'a> {
+    /// How many places there are.
+    pub(crate) fn len(self) -> usize
+        ensures { result ≡ length (chosen_in self.entry) }
+    {
+        match self {
+            Chosen::Near(places) => places.len(),
+            Chosen::Far(places) => places.len(),
+        }
+    }
+
+    /// The place of this number.
+    pub(crate) fn at(self, i: usize) -> usize
+        requires { i < length (chosen_in self) }
+        ensures { slice_get (chosen_in self.entry) i ≡ Some result }
+    {
+        match self {
+            Chosen::Near(places) => places[i] as usize,
+            Chosen::Far(places) => places[i],
+        }
+    }
 }
 
 impl Row {
     /// The row of an account that has no role. It names nobody.
     pub(crate) fn nobody() -> Row
-        ensures { result ≡ noted_nobody }
+        ensures { result ≡ Idle }
     {
-        Row {
-            named: Named::Nobody,
-        }
+        Row { kind: Kind::Nobody }
     }
 
     /// The row of a validator with this commission. It names nobody.
     pub(crate) fn validator(commission: u32) -> Row
-        ensures { result ≡ noted_validator commission }
+        ensures { result ≡ Validating commission }
     {
         Row {
-            named: Named::Validator { commission },
+            kind: Kind::Validator { commission },
         }
     }
 
-    /// The row of a nominator of these targets, which have these marks. A single one leaves the
-    /// memory of its list.
-    pub(crate) fn nominator(targets: List<AccountId>, marks: Marks) -> Row
-        ensures { result ≡ noted_nominator targets marks }
+    /// The row of a nominator of the accounts at these places.
+    pub(crate) fn near(places: Marks) -> Row
+        ensures { result ≡ Naming places }
     {
-        let named = match (targets.as_slice(), marks.as_slice()) {
-            ([target], [mark]) => Named::One {
-                target: [*target],
-                mark: [*mark],
-            },
-            _ => Named::Many { targets, marks },
-        };
-        Row { named }
+        Row {
+            kind: Kind::Near { places },
+        }
+    }
+
+    /// The row of a nominator of the accounts at these places, some of which take more than 32 bits.
+    pub(crate) fn far(places: List<usize>) -> Row
+        ensures { result ≡ Naming places }
+    {
+        Row {
+            kind: Kind::Far { places },
+        }
     }
 
     /// Whether the account has a role.
     pub(crate) fn has_role(&self) -> bool
-        ensures { result ≡ is_some self.now.standing }
+        ensures { result ≡ has_role self.now }
     {
-        match &self.named {
-            Named::Nobody => false,
+        match &self.kind {
+            Kind::Nobody => false,
             _ => true,
-        }
-    }
-
-    /// Whether the account is a validator.
-    pub(crate) fn is_validator(&self) -> bool
-        ensures { result ≡ is_validator_in self.now.standing }
-    {
-        match &self.named {
-            Named::Validator { .. } => true,
-            _ => false,
         }
     }
 
     /// The role of the account.
     pub(crate) fn role(&self) -> Role
-        ensures { result ≡ role_in self.now.standing }
+        ensures { result ≡ role_noted self.now }
     {
-        match &self.named {
-            Named::Nobody => Role::Nobody,
-            Named::Validator { commission } => Role::Validator {
+        match &self.kind {
+            Kind::Nobody => Role::Nobody,
+            Kind::Validator { commission } => Role::Validator {
                 commission: *commission,
             },
-            Named::One { .. } | Named::Many { .. } => Role::Nominator,
+            Kind::Near { .. } | Kind::Far { .. } => Role::Nominator,
         }
     }
 
-    /// Whom the account names, in the order in which it named them.
-    pub(crate) fn targets(&self) -> &[AccountId]
-        ensures { result.now ≡ targets_in self.now.standing }
+    /// The places of those whom the account names, in the order in which it named them.
+    pub(crate) fn chosen(&self) -> Chosen<'_>
+        ensures { chosen_in result ≡ places_noted self.now }
     {
-        match &self.named {
-            Named::Nobody | Named::Validator { .. } => &[],
-            Named::One { target, .. } => target,
-            Named::Many { targets, .. } => targets.as_slice(),
-        }
-    }
-
-    /// The marks of those that the account names, in the same order.
-    pub(crate) fn marks(&self) -> &[u32]
-        ensures { result.now ≡ self.now.marks }
-    {
-        match &self.named {
-            Named::Nobody | Named::Validator { .. } => &[],
-            Named::One { mark, .. } => mark,
-            Named::Many { marks, .. } => marks.as_slice(),
+        match &self.kind {
+            Kind::Nobody | Kind::Validator { .. } => Chosen::Near(&[]),
+            Kind::Near { places } => Chosen::Near(places.as_slice()),
+            Kind::Far { places } => Chosen::Far(places.as_slice()),
         }
     }
 }

@@ -1,4 +1,6 @@
 //! What an account does in elections.
+ghost use Rattle.std.specs.Prelude.{◌≡◌};
+ghost use Rattle.voter_lists.specs.Roles.{validates};
 
 use npos_base::{AccountId, List};
 
@@ -9,6 +11,18 @@ pub enum Role {
     Nobody,
     Nominator,
     Validator { commission: u32 },
+}
+
+impl Role {
+    /// Whether it is the role of a validator.
+    pub(crate) fn validates(self) -> bool
+        ensures { result ≡ validates self }
+    {
+        match self {
+            Role::Validator { .. } => true,
+            _ => false,
+        }
+    }
 }
 
 /// What an account that has a role does, as contracts see it. No code makes one: the row of the

@@ -1,17 +1,16 @@
 //! What is kept of each account that has a role.
-ghost use Rattle.std.specs.Prelude.{◌≡◌, ◌<◌, ◌≤◌, [], false, Some, None, IfOk, IfNone, OnOk, OnErr, is_some, length, slice_get};
-ghost use Rattle.std.specs.Option.{option_copied};
+ghost use Rattle.std.specs.Prelude.{◌≡◌, ◌<◌, ◌≤◌, [], false, Some, None, IfOk, IfNone, OnOk, OnErr, IfSome, is_some, length, slice_get};
 ghost use Rattle.npos_base.specs.declared.account.AccountId.{AccountId};
 ghost use Rattle.account_places.specs.Places.{place_in, by_account, Stand};
 ghost use Rattle.voter_lists.specs.declared.standing.Standing.{Standing};
-ghost use Rattle.voter_lists.specs.Marks.{IsMark, AreMarks, KeepPlaces, RepeatAlike};
-ghost use Rattle.voter_lists.specs.Noted.{standing_at};
-ghost use Rattle.voter_lists.specs.Roles.{standing_of, role_of, is_validator, nominated, validating, with_standing, without_role};
-ghost use Rattle.voter_lists.specs.Standings.{IsMarked};
+ghost use Rattle.voter_lists.specs.Marks.{IsMark, AreMarks, AreNamed, KeepPlaces, RepeatAlike};
+ghost use Rattle.voter_lists.specs.Noted.{IsPlaced, NotesTargets, standing_noted};
+ghost use Rattle.voter_lists.specs.Roles.{standing_of, role_of, nominated_by, is_validator, nominated, validating, with_standing, without_role};
 
 use crate::marks::{Marks, UNKNOWN, marks_of};
 use crate::row::Row;
 use crate::standing::Role;
+use crate::targets::Targets;
 use account_places::Places;
 use npos_base::{AccountId, List, NoMemory};
 use std::alloc::Global;
@@ -34,7 +33,7 @@ impl Model for Standings {
     ghost Value = { PlacedRoles };
 
     ghost view = { λ s. record {
-      roles = standings_placed (standings_in s.rows.items) (by_account s.places);
+      roles = standings_placed (standings_in s.places s.rows.items) (by_account s.places);
       accounts = s.places;
     } };
 
@@ -61,30 +60,6 @@ impl Standings {
         self.places.count()
     }
 
-    /// The row of an account that has a place.
-    pub(crate) fn get(&self, who: AccountId) -> Option<&Row>
-        ensures { standing_at (option_copied result) ≡ standing_of self.now.roles who }
-    {
-        match self.places.find(who) {
-            Some(place) => Some(&self.rows[place]),
-            None => None,
-        }
-    }
-
-    /// The row of an account that has a place, which may be the one at the guess. The next guess is
-    /// the row behind it.
-    pub(crate) fn get_from(&self, guess: &mut usize, who: AccountId) -> Option<&Row>
-        ensures { standing_at (option_copied result) ≡ standing_of self.now.roles who }
-    {
-        match self.places.find_from(*guess, who) {
-            Some(place) => {
-                *guess = place.wrapping_add(1);
-                Some(&self.rows[place])
-            }
-            None => None,
-        }
-    }
-
     /// The place of an account.
     pub(crate) fn place_of(&self, who: AccountId) -> Option<usize>
         ensures place { result ≡ place_in (by_account self.now.accounts) who }
@@ -106,20 +81,56 @@ impl Standings {
     pub(crate) fn row(&self, place: usize) -> &Row
         requires { place < length self.now.accounts }
         ensures standing { (who : AccountId) → slice_get self.now.accounts place ≡ Some who
-            → result.now.standing ≡ standing_of self.now.roles who }
-        ensures marked { IsMarked self.now.accounts result.now }
+            → standing_noted self.now.accounts result.now ≡ standing_of self.now.roles who }
+        ensures placed { IsPlaced self.now.accounts result.now }
     {
         &self.rows[place]
+    }
+
+    /// The role of an account that stands at this place, or nowhere, and whom it names.
+    fn noted(&self, place: Option<usize>) -> (Role, Targets<'_>)
+        requires { IfSome place (λ place. place < length self.now.accounts) }
+        ensures role { (who : AccountId) → place ≡ place_in (by_account self.now.accounts) who
+            → result.0 ≡ role_of self.now.roles who }
+        ensures targets { (who : AccountId) → place ≡ place_in (by_account self.now.accounts) who
+            → result.1 ≡ nominated_by self.now.roles who }
+    {
+        match place {
+            Some(place) => {
+                let row = self.row(place);
+                (row.role(), Targets::of(&self.places, row.chosen()))
+            }
+            None => (Role::Nobody, Targets::none(&self.places)),
+        }
+    }
+
+    /// The role of an account, and whom it names.
+    pub(crate) fn get(&self, who: AccountId) -> (Role, Targets<'_>)
+        ensures role { result.0 ≡ role_of self.now.roles who }
+        ensures targets { result.1 ≡ nominated_by self.now.roles who }
+    {
+        self.noted(self.place_of(who))
+    }
+
+    /// The role of an account, and whom it names. The account may stand at the guess; the next
+    /// guess is the place behind it.
+    pub(crate) fn get_from(&self, guess: &mut usize, who: AccountId) -> (Role, Targets<'_>)
+        ensures role { result.0 ≡ role_of self.now.roles who }
+        ensures targets { result.1 ≡ nominated_by self.now.roles who }
+    {
+        let place = self.place_from(*guess, who);
+        if let Some(place) = place {
+            *guess = place.wrapping_add(1);
+        }
+        self.noted(place)
     }
 
     /// Whether the account is a validator.
     pub(crate) fn is_validator(&self, who: AccountId) -> bool
         ensures { result ≡ is_validator self.now.roles who }
     {
-        match self.get(who) {
-            Some(row) => row.is_validator(),
-            None => false,
-        }
+        let (role, _) = self.get(who);
+        role.validates()
     }
 
     /// Whether the account is a validator, which need not be found where its place is known.
@@ -130,7 +141,7 @@ impl Standings {
         if mark == UNKNOWN {
             return self.is_validator(who);
         }
-        self.row(mark as usize).is_validator()
+        self.row(mark as usize).role().validates()
     }
 
     /// The marks of these accounts. Each is found once.
@@ -145,6 +156,8 @@ impl Standings {
     fn place_for(&mut self, who: AccountId) -> Result<usize, NoMemory>
         ensures place { OnOk result (IfOk result (λ place.
             place_in (by_account self.new.accounts) who ≡ Some place)) }
+        ensures there { OnOk result (IfOk result (λ place.
+            slice_get self.new.accounts place ≡ Some who)) }
         ensures kept { KeepPlaces self.old.accounts self.new.accounts }
         ensures roles { self.new.roles ≡ self.old.roles }
     {
@@ -160,16 +173,6 @@ impl Standings {
         }
     }
 
-    /// Each of these accounts has a place from now on.
-    fn give_places(&mut self, targets: &[AccountId]) -> Result<(), NoMemory>
-        ensures { self.new.roles ≡ self.old.roles }
-    {
-        for target in targets {
-            self.place_for(*target)?;
-        }
-        Ok(())
-    }
-
     /// The marks of these accounts, each of which has a place from now on.
     pub(crate) fn marks_for(&mut self, targets: &[AccountId]) -> Result<Marks, NoMemory>
         ensures marks { OnOk result (IfOk result (λ marks.
@@ -180,16 +183,44 @@ impl Standings {
         if !marks.as_slice().contains(&UNKNOWN) {
             return Ok(marks);
         }
-        self.give_places(targets)?;
+        self.places_for(targets)?;
         self.marks_of(targets)
+    }
+
+    /// The places of these accounts, each of which has one from now on.
+    fn places_for(&mut self, targets: &[AccountId]) -> Result<List<usize>, NoMemory>
+        ensures named { OnOk result (IfOk result (λ places.
+            AreNamed self.new.accounts places targets.now)) }
+        ensures kept { KeepPlaces self.old.accounts self.new.accounts }
+        ensures roles { self.new.roles ≡ self.old.roles }
+    {
+        let mut places = List::new(self.alloc);
+        for target in targets {
+            let place = self.place_for(*target)?;
+            places.put(place)?;
+        }
+        Ok(places)
+    }
+
+    /// The row of a nominator of these targets, which have these marks.
+    fn row_for(&mut self, targets: &[AccountId], marks: Marks) -> Result<Row, NoMemory>
+        requires { AreMarks self.old.accounts marks targets.now }
+        ensures named { OnOk result (IfOk result (λ row. NotesTargets self.new.accounts row targets.now)) }
+        ensures roles { self.new.roles ≡ self.old.roles }
+    {
+        if !marks.as_slice().contains(&UNKNOWN) {
+            return Ok(Row::near(marks));
+        }
+        let places = self.places_for(targets)?;
+        Ok(Row::far(places))
     }
 
     /// The account has this row in place of any that it had. It tells the role that the account had
     /// before.
     fn put(&mut self, who: AccountId, row: Row) -> Result<Role, NoMemory>
-        requires { IsMarked self.old.accounts row }
+        requires { IsPlaced self.old.accounts row }
         ensures before { IfOk result (λ before. before ≡ role_of self.old.roles who) }
-        ensures ok { (standing : Standing) → row.standing ≡ Some standing
+        ensures ok { (standing : Standing) → standing_noted self.old.accounts row ≡ Some standing
             → OnOk result (self.new.roles ≡ with_standing self.old.roles who standing) }
         ensures err { OnErr result (self.new.roles ≡ self.old.roles) }
     {
@@ -204,15 +235,16 @@ impl Standings {
     pub(crate) fn put_nominator(
         &mut self,
         who: AccountId,
-        targets: List<AccountId>,
+        targets: &[AccountId],
         marks: Marks,
     ) -> Result<Role, NoMemory>
-        requires { AreMarks self.old.accounts marks targets }
+        requires { AreMarks self.old.accounts marks targets.now }
         ensures before { IfOk result (λ before. before ≡ role_of self.old.roles who) }
-        ensures ok { OnOk result (self.new.roles ≡ nominated self.old.roles who targets) }
+        ensures ok { OnOk result (self.new.roles ≡ nominated self.old.roles who targets.now) }
         ensures err { OnErr result (self.new.roles ≡ self.old.roles) }
     {
-        self.put(who, Row::nominator(targets, marks))
+        let row = self.row_for(targets, marks)?;
+        self.put(who, row)
     }
 
     /// The account is a validator with this commission. It tells the role that the account had

@@ -2,9 +2,12 @@
 use Rattle.voter_lists.specs.declared.standing.Standing.TheVariants.{Nominator}
 use Rattle.voter_lists.proofs.ValidatorLemmas.{others_put}
 use Rattle.voter_lists.proofs.roles.Roles.put_role.Goals as goal
+use Rattle.voter_lists.proofs.roles.Roles.put_role.Goals.{in-Nominator+in_ok-marks-in-Nominator+in_ok-put_nominator-in-Nominator, in-Validator+in_ok-put_validator-in-Validator}
 
-pub returns-in_ok-put_nominator-in-Nominator-clause-others :
-    goal.returns-in_ok-put_nominator-in-Nominator-clause-others
-returns-in_ok-put_nominator-in-Nominator-clause-others c =
-    rw (← c.self.view_is, c.in_ok-put_nominator-in-Nominator.ensures.ok, c.marks_for.ensures.roles)
-    (others_put c.self.inside.standings.roles c.args.who (Nominator c.args.targets))
+pub returns-clause-others : goal.returns-clause-others
+returns-clause-others c = elim c.match-role.branch [
+  | in-Nominator+in_ok-marks-in-Nominator+in_ok-put_nominator-in-Nominator w ↦
+      rw (w.self-is, ← w.self.view_is, w.in_ok-put_nominator-in-Nominator.ensures.ok, w.as_slice-in-Nominator.ensures, w.marks_for.ensures.roles)
+      (others_put w.self.inside.standings.roles c.args.who (Nominator c.args.targets))
+  | in-Validator+in_ok-put_validator-in-Validator w ↦ rw w.self-is w.in_ok-put_validator-in-Validator.ensures.others
+]

@@ -1,13 +1,13 @@
 -- A row with no standing comes behind the others.
 use Rattle.std.proofs.Common.{rules, ◌≡◌, ◌++◌, ◌∷◌, [], ◌∙◌, sym}
-use Rattle.voter_lists.specs.Noted.{noted_nobody}
-use Rattle.voter_lists.proofs.MarkLemmas.{no_marks, kept_more, beside_more, row_more}
+use Rattle.voter_lists.specs.Noted.{Idle}
+use Rattle.voter_lists.proofs.MarkLemmas.{kept_more, beside_more, row_more}
 use Rattle.voter_lists.proofs.standings.Standings.place_for.Goals as goal
 
 pub invariant_of-self-2 : goal.invariant_of-self-2
 invariant_of-self-2 c =
-    let items : c.push.new.self.items ≡ c.self.inside.rows.items ++ noted_nobody ∷ [] = search rules in
-    rw (items, c.in_ok-put.ensures.ok) (beside_more c.self.inside.rows.items c.self.inside.places c.args.who noted_nobody c.self.invariant (sym c.find.ensures.place ∙ c.in_default.is) (no_marks c.self.inside.places))
+    let items : c.push.new.self.items ≡ c.self.inside.rows.items ++ Idle ∷ [] = search rules in
+    rw (items, c.in_ok-put.ensures.ok) (beside_more c.self.inside.rows.items c.self.inside.places c.args.who c.self.invariant (sym c.find.ensures.place ∙ c.in_default.is))
 
 pub returns-clause-kept : goal.returns-clause-kept
 returns-clause-kept c place who there =
@@ -15,6 +15,6 @@ returns-clause-kept c place who there =
 
 pub returns-clause-roles : goal.returns-clause-roles
 returns-clause-roles c =
-    let items : c.push.new.self.items ≡ c.self.inside.rows.items ++ noted_nobody ∷ [] = search rules in
+    let items : c.push.new.self.items ≡ c.self.inside.rows.items ++ Idle ∷ [] = search rules in
     rw (← c.self.view_is, items, c.in_ok-put.ensures.ok)
     (row_more c.self.inside.rows.items c.self.inside.places c.args.who c.self.invariant (sym c.find.ensures.place ∙ c.in_default.is))

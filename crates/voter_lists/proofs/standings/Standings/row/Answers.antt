@@ -1,4 +1,4 @@
--- The row at the place of an account has its standing, and marks whom it names.
+-- The row at the place of an account notes its standing, and names those who have a place.
 use Rattle.std.proofs.Common.{◌≡◌, ◌<◌, ◌∙◌, length, Some, slice_get, ap, sym, arith}
 use Rattle.std.proofs.lemmas.Option.{slice_get-get_or}
 use Rattle.voter_lists.proofs.MarkLemmas.{row_standing}
@@ -10,9 +10,9 @@ returns-clause-standing c who there =
     rw (← c.self.view_is)
     (row_standing c.self.inside.rows.items c.self.inside.places who c.args.place c.self.invariant (c.self.invariant.stand.placed who c.args.place stands) c.index.result.now c.index.ensures)
 
-pub returns-clause-marked : goal.returns-clause-marked
-returns-clause-marked c =
+pub returns-clause-placed : goal.returns-clause-placed
+returns-clause-placed c =
     let known : c.args.place < length c.self.inside.places = rw (← c.self.view_is) at c.requires in
     let within : c.args.place < length c.self.inside.rows.items = omega (arith, known, c.self.invariant.count) in
     rw (← c.self.view_is)
-    (c.self.invariant.marked c.args.place c.index.result.now (slice_get-get_or c.self.inside.rows.items c.args.place c.index.result.now within ∙ ap (λ row. Some row) (sym c.index.ensures)))
+    (c.self.invariant.placed c.args.place c.index.result.now (slice_get-get_or c.self.inside.rows.items c.args.place c.index.result.now within ∙ ap (λ row. Some row) (sym c.index.ensures)))
