@@ -4,7 +4,7 @@ use Rattle.std.specs.List.{list_any}
 use Rattle.std.proofs.lemmas.Bool.{or_parts, false_from_ne_true}
 use Rattle.std.proofs.lemmas.List.{get_or-map, length-map, length-set, map-set}
 use Rattle.std.proofs.lemmas.List.Elements.{All-nil}
-use Rattle.std.proofs.lemmas.Option.{none-some, same_Some, slice_get_within, slice_get-get_or}
+use Rattle.std.proofs.lemmas.Option.{none-some, same_Some, slice_get_within}
 use Rattle.npos_base.specs.declared.account.AccountId.{AccountId}
 use Rattle.npos_base.specs.Account.{same_account}
 use Rattle.npos_base.proofs.AccountOrder.{same_itself, same_exact}
@@ -14,8 +14,8 @@ use Rattle.account_places.specs.Places.{place_in, by_account, Stand}
 use Rattle.account_places.proofs.StandLemmas.{slice_left, slice_cases, stand_more}
 use Rattle.voter_lists.specs.declared.standing.Standing.{Standing}
 use Rattle.voter_lists.specs.Noted.{Noted, Idle, IsPlaced, standing_noted}
-use Rattle.voter_lists.specs.Marks.{unknown, IsMark, AreMarks, KeepPlaces, RepeatAlike}
-use Rattle.voter_lists.specs.Roles.{standing_of, targets_in, with_standing, without_role}
+use Rattle.voter_lists.specs.Marks.{unknown, AreMarks, KeepPlaces, RepeatAlike}
+use Rattle.voter_lists.specs.Roles.{standing_of, with_standing, without_role}
 use Rattle.voter_lists.specs.Standings.{AreBeside, standings_in, standings_placed}
 use Rattle.voter_lists.proofs.NamedLemmas.{kept_placed, kept_standing}
 use Rattle.voter_lists.proofs.StandingLemmas.{placed_set, placed_unset, placed_more, standing_there, standing_nowhere}

@@ -1,5 +1,5 @@
 -- Accounts that are named by their places.
-use Rattle.std.proofs.Common.{◌≡◌, ◌≢◌, ◌∙◌, ℕ, zero, suc, ◌<◌, Bool, true, false, nat_eq, ◌||◌, List, [], ◌∷◌, ◌++◌, length, filter_map, All, slice_get, get_or, Option, Some, None, is_some, refl, ap, ap₂, sym, subst, true≢false, arith}
+use Rattle.std.proofs.Common.{◌≡◌, ◌≢◌, ◌∙◌, ℕ, zero, suc, ◌<◌, false, nat_eq, List, [], ◌∷◌, length, slice_get, get_or, Option, Some, None, is_some, refl, ap, ap₂, sym, subst, true≢false, arith}
 use Rattle.std.specs.List.{list_any, cons_option}
 use Rattle.std.proofs.lemmas.Bool.{or_parts}
 use Rattle.std.proofs.lemmas.List.Elements.{All-cons, All-nil, All-head, All-tail}
@@ -8,11 +8,9 @@ use Rattle.npos_base.specs.declared.account.AccountId.{AccountId}
 use Rattle.npos_base.proofs.NumberTests.{number_same}
 use Rattle.voter_lists.specs.declared.standing.Standing.{Standing}
 use Rattle.voter_lists.specs.declared.standing.Standing.TheVariants as standing
-use Rattle.voter_lists.specs.declared.standing.Role.{Role}
-use Rattle.voter_lists.specs.declared.standing.Role.TheVariants as role
 use Rattle.voter_lists.specs.Marks.{unknown, AreMarks, AreNamed, KeepPlaces}
-use Rattle.voter_lists.specs.Noted.{Noted, Idle, Validating, Naming, accounts_at, AreWithin, IsPlaced, NotesTargets, has_role, role_noted, places_noted, standing_noted}
-use Rattle.voter_lists.specs.Roles.{role_in, targets_in, validates, is_validator_in}
+use Rattle.voter_lists.specs.Noted.{Noted, Idle, Validating, Naming, accounts_at, AreWithin, IsPlaced, NotesTargets, has_role, role_noted, places_noted, standing_noted, validates}
+use Rattle.voter_lists.specs.Roles.{role_in, targets_in, is_validator_in}
 
 -- ---- places that name accounts
 

@@ -31,6 +31,12 @@ role_noted Idle = role.Nobody
 role_noted (Validating commission) = role.Validator commission
 role_noted (Naming places) = role.Nominator
 
+-- the role is that of a validator
+abbrev pub validates : Role → Bool
+validates role.Nobody = false
+validates role.Nominator = false
+validates (role.Validator commission) = true
+
 abbrev pub places_noted : Noted → List ℕ
 places_noted Idle = []
 places_noted (Validating commission) = []

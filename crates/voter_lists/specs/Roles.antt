@@ -37,12 +37,6 @@ role_of roles who = role_in (standing_of roles who)
 abbrev pub nominated_by : RoleList → AccountId → List AccountId
 nominated_by roles who = targets_in (standing_of roles who)
 
--- the role is that of a validator
-abbrev pub validates : Role → Bool
-validates role.Nobody = false
-validates role.Nominator = false
-validates (role.Validator commission) = true
-
 abbrev pub is_validator_standing : Standing → Bool
 is_validator_standing (standing.Nominator targets) = false
 is_validator_standing (standing.Validator commission) = true

@@ -1,6 +1,6 @@
 //! What an account does in elections.
 ghost use Rattle.std.specs.Prelude.{◌≡◌};
-ghost use Rattle.voter_lists.specs.Roles.{validates};
+ghost use Rattle.voter_lists.specs.Noted.{validates};
 
 use npos_base::{AccountId, List};
 

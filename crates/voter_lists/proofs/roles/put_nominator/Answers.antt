@@ -4,7 +4,8 @@ use Rattle.npos_base.proofs.AccountOrder.{account_total}
 use Rattle.npos_base.proofs.EntryLemmas.{sorted_put}
 use Rattle.voter_lists.proofs.ValidatorLemmas.{ranked_rise, ranked_without, ranked_nominating}
 use Rattle.voter_lists.proofs.NamedLemmas.{validates_noted}
-use Rattle.voter_lists.specs.Roles.{standing_of, validates}
+use Rattle.voter_lists.specs.Noted.{validates}
+use Rattle.voter_lists.specs.Roles.{standing_of}
 use Rattle.voter_lists.specs.declared.standing.Standing.TheVariants.{Nominator}
 use Rattle.voter_lists.proofs.roles.put_nominator.Goals as goal
 

@@ -1,5 +1,5 @@
 -- A place tells the rank of its account.
-use Rattle.std.proofs.Common.{rules, ◌≡◌, ◌<◌, ◌≤◌, ◌∙◌, length, filter_map, Some, None, get_or, slice_get, take_all, ap, sym, arith}
+use Rattle.std.proofs.Common.{rules, ◌≡◌, ◌<◌, ◌∙◌, length, filter_map, Some, None, get_or, slice_get, take_all, ap, sym, arith}
 use Rattle.std.proofs.lemmas.Option.{slice_get-get_or}
 use Rattle.npos_base.specs.declared.account.AccountId.{AccountId}
 use Rattle.voter_lists.specs.Chosen.{chosen_in}

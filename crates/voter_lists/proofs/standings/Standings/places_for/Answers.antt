@@ -1,5 +1,5 @@
 -- One more target has its place.
-use Rattle.std.proofs.Common.{◌≡◌, ◌∙◌, ◌∷◌, [], ◌++◌, length, Some, slice_get, get_or, ap, sym, arith, length-append}
+use Rattle.std.proofs.Common.{◌≡◌, ◌∙◌, ◌∷◌, [], length, Some, slice_get, ap, sym, arith, length-append}
 use Rattle.std.proofs.lemmas.Option.{get_or_from_slice_get}
 use Rattle.account_places.proofs.StandLemmas.{slice_cases}
 use Rattle.voter_lists.proofs.standings.Standings.places_for.Goals as goal

@@ -1,5 +1,5 @@
 -- Marks that are all known are places.
-use Rattle.std.proofs.Common.{◌≡◌, ◌∙◌, false, nat_eq, sym, rules}
+use Rattle.std.proofs.Common.{◌≡◌, false, nat_eq, rules}
 use Rattle.std.specs.List.{list_any}
 use Rattle.voter_lists.specs.Marks.{unknown}
 use Rattle.voter_lists.proofs.NamedLemmas.{near_named, notes_named}

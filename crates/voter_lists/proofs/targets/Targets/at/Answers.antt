@@ -1,5 +1,5 @@
 -- Each target has a place.
-use Rattle.std.proofs.Common.{◌≡◌, ◌<◌, ◌∙◌, length, arith}
+use Rattle.std.proofs.Common.{◌<◌, ◌∙◌, length, arith}
 use Rattle.voter_lists.specs.Chosen.{chosen_in}
 use Rattle.voter_lists.specs.Noted.{accounts_at}
 use Rattle.voter_lists.proofs.NamedLemmas.{count_at, account_at, within_at}
