@@ -200,7 +200,7 @@ impl Index {
 
     /// A guess of the account's place among so many: what the first of its slots says that says one
     /// of them to this account. Where none does, it is the highest number.
-    fn guess(&self, who: AccountId, places: usize) -> u32 {
+    pub(crate) fn guess(&self, who: AccountId, places: usize) -> u32 {
         let (first, tag) = (slot_of(who, self.count), tag_of(who, self.count));
         for slot in first..first + TRIES {
             let guess = place_of(tag, self.mark(slot));

@@ -68,10 +68,15 @@ impl Places {
         self.find(who)
     }
 
-    /// Appends for each of these accounts a guess of its place, for `find_from`: what the first of
-    /// its slots says that says a place there is to this account. It is mostly right where the
-    /// account has a place, and nothing rests on it. The slots of all are read before the first
-    /// account is compared, so memory is waited for once and not account by account.
+    /// A guess of the account's place, for `find_from`: what the first of its slots says that says
+    /// a place there is to this account. It is mostly right where the account has a place, and
+    /// nothing rests on it. Who guesses for many accounts before the first of them is compared
+    /// waits for memory once, and not account by account.
+    pub fn guess(&self, who: AccountId) -> u32 {
+        self.index.guess(who, self.accounts.len())
+    }
+
+    /// Appends the guess for each of these accounts.
     pub fn guess_each(&self, accounts: &[AccountId], guesses: &mut Vec<u32>) -> Result<(), NoMemory>
         ensures { OnOk result (length guesses.new.items
             ≡ length guesses.old.items + length accounts.now) }

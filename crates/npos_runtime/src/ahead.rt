@@ -1,7 +1,7 @@
 //! Where accounts may stand in the books, looked up before the first of them is asked for.
 use block_wire::{Call, CallKind};
 use era_book::Backer;
-use npos_base::{AccountId, NoMemory};
+use npos_base::NoMemory;
 use stake_ledger::Book;
 use std::alloc::Global;
 
@@ -21,25 +21,25 @@ pub struct Ahead {
 }
 
 impl Ahead {
-    /// Guesses for the transfers among the first calls of a block.
+    /// Guesses for the transfers among the first calls of a block: of each the payer's, and then
+    /// that of whom it pays.
     pub fn of_transfers(alloc: Global, book: &Book, calls: &[Call]) -> Result<Ahead, NoMemory> {
-        let accounts = parties(alloc, &calls[..calls.len().min(CALLS_AHEAD)])?;
-        Ahead::of(alloc, book, accounts.as_slice())
+        let mut guesses = Vec::new(alloc);
+        for call in calls[..calls.len().min(CALLS_AHEAD)].iter().rev() {
+            if let CallKind::Transfer { to, .. } = &call.kind {
+                guesses.push(book.guess(*to))?;
+                guesses.push(book.guess(call.who))?;
+            }
+        }
+        Ok(Ahead { guesses })
     }
 
     /// Guesses for these backers, in their order.
     pub fn of_backers(alloc: Global, book: &Book, backers: &[Backer]) -> Result<Ahead, NoMemory> {
-        let mut accounts = Vec::with_capacity(alloc, backers.len())?;
+        let mut guesses = Vec::with_capacity(alloc, backers.len())?;
         for backer in backers.iter().rev() {
-            accounts.push(backer.who)?;
+            guesses.push(book.guess(backer.who))?;
         }
-        Ahead::of(alloc, book, accounts.as_slice())
-    }
-
-    /// Guesses for these accounts, of which the last is asked for first.
-    fn of(alloc: Global, book: &Book, accounts: &[AccountId]) -> Result<Ahead, NoMemory> {
-        let mut guesses = Vec::new(alloc);
-        book.guess_each(accounts, &mut guesses)?;
         Ok(Ahead { guesses })
     }
 
@@ -52,17 +52,4 @@ impl Ahead {
     pub fn pair(&mut self) -> (usize, usize) {
         (self.guess(), self.guess())
     }
-}
-
-/// The accounts of the transfers among these calls, the last first: of each whom it pays, and then
-/// the payer.
-fn parties(alloc: Global, calls: &[Call]) -> Result<Vec<AccountId>, NoMemory> {
-    let mut parties = Vec::new(alloc);
-    for call in calls.iter().rev() {
-        if let CallKind::Transfer { to, .. } = &call.kind {
-            parties.push(*to)?;
-            parties.push(call.who)?;
-        }
-    }
-    Ok(parties)
 }

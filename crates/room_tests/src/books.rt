@@ -256,23 +256,12 @@ fn guessed_readings(alloc: Global) -> Result<[(u64, usize); 2], LedgerRefusal> {
     Ok([(first, behind), (second, guess)])
 }
 
-/// The guess at this place of those for both accounts.
-fn guess_of(alloc: Global, book: &Book, place: usize) -> Result<usize, NoMemory> {
-    let mut guesses = Vec::new(alloc);
-    book.guess_each(&[FIRST, SECOND], &mut guesses)?;
-    Ok(
-        guesses
-            .get(place)
-            .map_or(usize::MAX, |guess| *guess as usize),
-    )
-}
-
 /// What both have free after the second paid 4 and got 3 back, where the second is found by its
 /// guess, and the first by none or by that of the second.
 fn guessed_transfers(alloc: Global) -> Result<(u64, u64), LedgerRefusal> {
     let mut book = bonded_book(alloc)?;
     endow(&mut book, SECOND, 10)?;
-    let second = guess_of(alloc, &book, 1)?;
+    let second = book.guess(SECOND) as usize;
     book.transfer_from((second, second), SECOND, FIRST, 4)?;
     book.transfer_from((usize::MAX, second), FIRST, SECOND, 3)?;
     Ok((book.free(FIRST), book.free(SECOND)))
@@ -281,7 +270,7 @@ fn guessed_transfers(alloc: Global) -> Result<(u64, u64), LedgerRefusal> {
 /// What is free after 7 was minted, and what a slash of 40 and one of 100 then take, by a guess.
 fn guessed_calls(alloc: Global) -> Result<(u64, [Loss; 2]), LedgerRefusal> {
     let mut book = bonded_book(alloc)?;
-    let guess = guess_of(alloc, &book, 0)?;
+    let guess = book.guess(FIRST) as usize;
     book.mint_from(guess, FIRST, 7)?;
     let losses = [
         book.slash_from(guess, FIRST, 40),

@@ -54,7 +54,10 @@ fn accounts_are_found_where_they_came(rt: HostRuntime) -> Result<(), Fail> {
         assert!(rt; are_found(&places, 5000, apart));
         let mut guesses = Vec::new(rt.alloc());
         places.guess_each(&[nth(0, apart), nth(5000, apart)], &mut guesses)?;
-        assert_eq!(rt; guesses.len(), 2);
+        assert_eq!(rt;
+            guesses.as_slice(),
+            [places.guess(nth(0, apart)), places.guess(nth(5000, apart))].as_slice()
+        );
     }
     Ok(())
 }

@@ -348,14 +348,11 @@ impl Book {
         Ok(())
     }
 
-    /// Appends a guess for each of these accounts, for calls that take one. It is mostly right where
-    /// the account is known, and nothing rests on it. Memory is waited for once, and not account by
-    /// account.
-    pub fn guess_each(&self, accounts: &[AccountId], guesses: &mut Vec<u32>) -> Result<(), NoMemory>
-        ensures { OnOk result (length guesses.new.items
-            ≡ length guesses.old.items + length accounts.now) }
-    {
-        self.rows.guess_each(accounts, guesses)
+    /// A guess of where the account stands, for calls that take one. It is mostly right where the
+    /// account is known, and nothing rests on it. Who guesses for many accounts before the first of
+    /// these calls waits for memory once, and not account by account.
+    pub fn guess(&self, who: AccountId) -> u32 {
+        self.rows.guess(who)
     }
 
     /// Makes the value, which is free for the account; its row is opened where it has none. The

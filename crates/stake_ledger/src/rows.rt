@@ -150,13 +150,9 @@ impl Rows {
         self.append(who, row)
     }
 
-    /// Appends a guess for each of these accounts. Memory is waited for once, and not account by
-    /// account.
-    pub fn guess_each(&self, accounts: &[AccountId], guesses: &mut Vec<u32>) -> Result<(), NoMemory>
-        ensures { OnOk result (length guesses.new.items
-            ≡ length guesses.old.items + length accounts.now) }
-    {
-        self.places.guess_each(accounts, guesses)
+    /// A guess of where the account's row is, for calls that take one. Nothing rests on it.
+    pub fn guess(&self, who: AccountId) -> u32 {
+        self.places.guess(who)
     }
 
     /// Gives the account the value; its row is made where it has none. It may be found by the
