@@ -15,3 +15,4 @@ pub mod DeferredLemmas
 pub mod RecordLemmas
 pub mod WholeLemmas
 pub mod BackedLemmas
+pub mod AccountLemmas

@@ -1,3 +1,4 @@
+pub mod Accounts
 pub mod Exposures
 pub mod Payouts
 pub mod Slashes

@@ -190,6 +190,7 @@ impl EraBook {
     {
         let era = Era::elected(
             self.alloc,
+            &self.latest,
             targets,
             commissions,
             supports,

@@ -10,6 +10,7 @@ ghost use Rattle.npos_base.specs.Account.{account_cmp};
 ghost use Rattle.era_book.specs.Records.{members_from, record_of};
 ghost use Rattle.era_book.specs.Calls.{claiming, keeping};
 
+use crate::accounts::Accounts;
 use crate::elected::seats_by_voter;
 use crate::member::Member;
 use crate::members::{claim, gain, keep};
@@ -26,7 +27,7 @@ use std::marker::Model;
 #[derive(Drop)]
 pub struct Era {
     /// The accounts of the backers, by place.
-    accounts: Vec<AccountId>,
+    accounts: Accounts,
     members: BTreeMap<AccountId, Seat>,
     points: u128,
 }
@@ -37,10 +38,10 @@ impl Model for Era {
 
     ghost Value = { Members };
 
-    ghost view = { λ era. members_seen era.accounts.items era.members.entries };
+    ghost view = { λ era. members_seen era.accounts era.members.entries };
 
     ghost invariant = { λ era.
-        IsCounted (members_seen era.accounts.items era.members.entries) era.points };
+        IsCounted (members_seen era.accounts era.members.entries) era.points };
 }
 
 impl Era {
@@ -49,7 +50,7 @@ impl Era {
         ensures { result ≡ [] }
     {
         Era {
-            accounts: Vec::new(alloc),
+            accounts: Accounts::none(),
             members: BTreeMap::new(alloc),
             points: 0,
         }
@@ -68,7 +69,8 @@ impl Era {
             let member = Seat::new(alloc, &mut names, &exposure)?;
             members.insert(exposure.validator, member)?;
         }
-        let accounts = names.accounts(alloc)?;
+        let named = names.accounts(alloc)?;
+        let accounts = Accounts::new(alloc, named)?;
         Ok(Era {
             accounts,
             members,
@@ -92,7 +94,8 @@ impl Era {
             members.insert(value.exposure.validator, seat)?;
             points += u128::from(value.points);
         }
-        let accounts = names.accounts(alloc)?;
+        let named = names.accounts(alloc)?;
+        let accounts = Accounts::new(alloc, named)?;
         Ok(Era {
             accounts,
             members,
@@ -113,9 +116,11 @@ impl Era {
     }
 
     /// The members of an era that begins with an elected committee, with their exposures by the
-    /// edges in the order of the voters. The voters are kept as the accounts of the backers.
+    /// edges in the order of the voters. The voters are kept as the accounts of the backers, in the
+    /// memory of those of the era before if they are the same.
     pub fn elected(
         alloc: Global,
+        before: &Era,
         targets: &[AccountId],
         commissions: &[u32],
         supports: &[u64],
@@ -140,8 +145,9 @@ impl Era {
             members,
             edges,
         )?;
+        let accounts = before.accounts.or_same(alloc, voters.into_vec())?;
         Ok(Era {
-            accounts: voters.into_vec(),
+            accounts,
             members,
             points: 0,
         })

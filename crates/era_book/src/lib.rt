@@ -4,6 +4,7 @@
 //! stands in `laws`.
 #![tactic(auto)]
 
+mod accounts;
 mod book;
 mod deferred;
 mod elected;

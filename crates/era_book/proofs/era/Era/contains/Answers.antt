@@ -10,5 +10,5 @@ pub returns : goal.returns
 returns c =
     let here : c.contains_key.result ≡ is_some (lookup (is_at (account_cmp c.args.who)) c.self.inside.members.entries) = search rules in
     here
-    ∙ (sym (seated_is_known c.self.inside.accounts.items c.args.who c.self.inside.members.entries)
+    ∙ (sym (seated_is_known c.self.inside.accounts c.args.who c.self.inside.members.entries)
     ∙ ap (λ (members : Members). is_some (member_of members c.args.who)) c.self.view_is)

@@ -9,7 +9,7 @@ use Rattle.era_book.proofs.era.Era.gain.Goals as goal
 
 pub overflow_add-self : goal.overflow_add-self
 overflow_add-self c =
-    let accounts = c.self.inside.accounts.items in
+    let accounts = c.self.inside.accounts in
     let before : Members = members_seen accounts c.self.inside.members.entries in
     let after : Members = members_seen accounts c.gain.new.members.entries in
     let each : All (λ (member : Member). member.points < 2 ^ 32) (values_of after) =
@@ -27,7 +27,7 @@ overflow_add-self c =
 
 pub invariant_of-self : goal.invariant_of-self
 invariant_of-self c =
-    let accounts = c.self.inside.accounts.items in
+    let accounts = c.self.inside.accounts in
     record {
       total = omega (arith, c.gain.ensures.added accounts, c.self.invariant.total, c.from.ensures);
       each =

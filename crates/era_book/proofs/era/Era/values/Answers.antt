@@ -10,10 +10,10 @@ use Rattle.era_book.proofs.era.Era.values.Goals as goal
 
 pub returns : goal.returns
 returns c =
-    let tell : Seat → MemberRecord = λ seat. record_of (member_seen c.self.inside.accounts.items seat) in
+    let tell : Seat → MemberRecord = λ seat. record_of (member_seen c.self.inside.accounts seat) in
     c.into_list.ensures
     ∙ (sym (append-nil c.loop-seat.values.items)
     ∙ (ap (λ left. c.loop-seat.values.items ++ map tell left) (sym c.in-None.ensures.steps.0)
     ∙ (c.loop-seat.invariant.made
-    ∙ (seats_told c.self.inside.accounts.items c.self.inside.members.entries
+    ∙ (seats_told c.self.inside.accounts c.self.inside.members.entries
     ∙ ap (λ (members : Members). map record_of (values_of members)) c.self.view_is))))

@@ -9,7 +9,7 @@ use Rattle.era_book.proofs.era.Era.values.Given as goal
 -- the values, and what is told of the seats that are left, are what is told of all; and there is room
 abbrev pub invariant-loop-seat : goal.invariant-loop-seat
 invariant-loop-seat l =
-    let tell : Seat → MemberRecord = λ seat. record_of (member_seen l.self-inside.accounts.items seat) in
+    let tell : Seat → MemberRecord = λ seat. record_of (member_seen l.self-inside.accounts seat) in
     record {
       made : l.values.items ++ map tell l.seat-iterator ≡ map tell (values_of l.self-inside.members.entries);
       spare : length l.seat-iterator ≤ l.values.spare;

@@ -27,5 +27,5 @@ loop-exposure-preserved c =
 
 pub invariant_of-result : goal.invariant_of-result
 invariant_of-result c =
-    let seen : members_seen c.in_ok-accounts.accounts.items c.loop-exposure.members.entries ≡ members_with c.loop-exposure.yielded = search rules in
+    let seen : members_seen c.in_ok-accounts.accounts c.loop-exposure.members.entries ≡ members_with c.loop-exposure.yielded = search rules in
     subst (λ (members : Members). IsCounted members 0) (sym seen) (counted_newcomers c.loop-exposure.yielded)
