@@ -32,6 +32,11 @@ all_entered validators count who most = at (rank_of validators who) refl where
   at None e = refl
   at (Some rank) e = among rank count (omega (arith, most, (position-Some (same_account who) validators rank who e).0))
 
+-- who has a place has an entry
+pub place_entered : (ranks : List ℕ) (accounts : List AccountId) (rank : AccountId → Option ℕ) (who : AccountId) (place : ℕ) → AreTold ranks accounts rank → Stand accounts (by_account accounts)
+    → place_in (by_account accounts) who ≡ Some place → place < length ranks
+place_entered ranks accounts rank who place told stand found = omega (arith, told.count, slice_get_within accounts place who (stand.standing who place found))
+
 -- one more is entered
 module _ (ranks : List ℕ) (accounts validators : List AccountId) (count : ℕ) (validator : AccountId) (stand : Stand accounts (by_account accounts)) (rising : IsStrictlySortedBy account_cmp validators)
     (there : slice_get validators count ≡ Some validator) (few : count < no_rank) (told : AreTold ranks accounts (λ who. entered count (rank_of validators who))) where
@@ -80,6 +85,3 @@ module _ (ranks : List ℕ) (accounts validators : List AccountId) (count : ℕ)
   told_nowhere nowhere = told_with ranks refl
       (λ at stands. absurd (none-some at (sym nowhere ∙ stand.placed validator at stands)))
       (λ at who stands apart. refl)
-
-  pub place_entered : (place : ℕ) → place_in (by_account accounts) validator ≡ Some place → place < length ranks
-  place_entered place found = omega (arith, told.count, slice_get_within accounts place validator (stand.standing validator place found))
