@@ -10,7 +10,7 @@ use Rattle.voter_lists.specs.declared.standing.Standing.{Standing}
 use Rattle.voter_lists.specs.declared.standing.Standing.TheVariants as standing
 use Rattle.voter_lists.specs.Marks.{unknown, AreMarks, AreNamed, KeepPlaces}
 use Rattle.voter_lists.specs.Noted.{Noted, Idle, Validating, Naming, accounts_at, AreWithin, IsPlaced, NotesTargets, has_role, role_noted, places_noted, standing_noted, validates}
-use Rattle.voter_lists.specs.Roles.{role_in, targets_in, is_validator_in}
+use Rattle.voter_lists.specs.Roles.{role_in, is_validator_in}
 
 -- ---- places that name accounts
 
@@ -48,12 +48,6 @@ pub notes_named : (accounts : List AccountId) (places : List ℕ) (targets : Lis
 notes_named accounts places targets are = record { placed = named_within accounts places targets are; standing = ap (λ named. Some (standing.Nominator named)) (named_targets accounts places targets are) }
 
 -- ---- who has a place keeps it
-
-pub kept_named : (old new : List AccountId) (places : List ℕ) (targets : List AccountId) → KeepPlaces old new → AreNamed old places targets → AreNamed new places targets
-kept_named old new places targets kept are = record {
-  count = are.count;
-  each = λ i place target there named. kept place target (are.each i place target there named);
-}
 
 kept_below : (old new : List AccountId) (place : ℕ) → KeepPlaces old new → place < length old → place < length new
 kept_below old new place kept below = slice_get_within new place (get_or old place first) (kept place (get_or old place first) (slice_get-get_or old place first below)) where
@@ -118,11 +112,6 @@ pub some_noted : (accounts : List AccountId) (noted : Noted) → is_some (standi
 some_noted accounts Idle = refl
 some_noted accounts (Validating commission) = refl
 some_noted accounts (Naming places) = refl
-
-pub targets_of_noted : (accounts : List AccountId) (noted : Noted) → targets_in (standing_noted accounts noted) ≡ accounts_at accounts (places_noted noted)
-targets_of_noted accounts Idle = refl
-targets_of_noted accounts (Validating commission) = refl
-targets_of_noted accounts (Naming places) = refl
 
 pub validates_noted : (standing : Option Standing) → validates (role_in standing) ≡ is_validator_in standing
 validates_noted None = refl

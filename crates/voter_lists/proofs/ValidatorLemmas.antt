@@ -1,5 +1,5 @@
 -- The validators by rising account, after one standing is set or taken away.
-use Rattle.std.proofs.Common.{◌≡◌, ◌≢◌, ℕ, suc, ◌+◌, ◌<◌, ◌≤◌, Bool, true, false, cond, List, [], ◌∷◌, length, refl, ap, sym, ◌∙◌, subst, arith, Option, Some, None, true≢false, if◌then◌else◌}
+use Rattle.std.proofs.Common.{◌≡◌, ℕ, suc, ◌+◌, ◌<◌, ◌≤◌, Bool, true, false, cond, List, [], ◌∷◌, length, refl, ap, sym, ◌∙◌, subst, arith, Some, None, true≢false, if◌then◌else◌}
 use Rattle.std.specs.BTreeMap.{insert_entry, is_at}
 use Rattle.std.specs.BTreeSet.{insert_key}
 use Rattle.std.specs.Set.{remove_key}
@@ -16,9 +16,8 @@ use Rattle.npos_base.proofs.EntryLemmas.{lookup_other}
 use Rattle.voter_lists.proofs.StandingLemmas.{standing_left}
 use Rattle.voter_lists.specs.declared.standing.Standing.{Standing}
 use Rattle.voter_lists.specs.declared.standing.Standing.TheVariants.{Nominator, Validator}
-use Rattle.voter_lists.specs.declared.standing.Role.TheVariants as role
 use Rattle.voter_lists.specs.Ranked.{AreRanked}
-use Rattle.voter_lists.specs.Roles.{KeepsOthers, RoleList, role_in, with_standing, without_role, validators_of, is_validator_standing, is_validator_in, is_validator}
+use Rattle.voter_lists.specs.Roles.{KeepsOthers, RoleList, with_standing, without_role, validators_of, is_validator_standing, is_validator_in, is_validator}
 
 module _ (who : AccountId) where
   all_below : (e : AccountId) (ks : List AccountId) → account_cmp who e ≡ Less → AllByRecursion (λ y. account_cmp e y ≡ Less) ks → AllByRecursion (λ y. account_cmp who y ≡ Less) ks
@@ -229,12 +228,6 @@ ranked_validating who commission rows new accounts now h room is rise now_is = r
   at : (b : Bool) → is_validator rows who ≡ b → length now ≤ 2048
   at true valid = omega (arith, ap length now_ranked, ap (λ xs. length (validators_of xs)) is, counted_once who commission rows h.rising valid, ap length h.ranked, h.few)
   at false valid = rw now_is (omega (arith, length_inserted who accounts, room valid))
-
--- whose role is not that of a validator is none
-pub other_role : (standing : Option Standing) → ((commission : ℕ) → role_in standing ≢ role.Validator commission) → is_validator_in standing ≡ false
-other_role None other = refl
-other_role (Some (Nominator targets)) other = refl
-other_role (Some (Validator commission)) other = absurd (other commission refl)
 
 -- each other account keeps its standing
 pub others_put : (roles : RoleList) (who : AccountId) (standing : Standing) → KeepsOthers roles (with_standing roles who standing) who
