@@ -74,7 +74,8 @@ pub struct Judged {
     pub verdict: Verdict,
 }
 
-/// Judges a solution that expands without a fault.
+/// Judges a solution that expands without a fault. What its bytes expand to takes the place of what
+/// it does, which is the same.
 pub fn judge(alloc: Global, checker: &mut Checker, solution: Solution) -> Result<Judged, NoMemory>
     requires { expand_fault checker.old solution ≡ None }
     ensures weights { IfOk result (λ judged.
@@ -89,12 +90,12 @@ pub fn judge(alloc: Global, checker: &mut Checker, solution: Solution) -> Result
 {
     every_snapshot_is_well_formed(checker.snapshot());
     let mut weights = Weights::with_room(alloc, checker.snapshot())?;
-    let mut again = Weights::with_room(alloc, checker.snapshot())?;
     let _yes = checker.expand(&solution, &mut weights);
     let score = weights.score();
     let bytes = solution.encode(alloc)?;
     drop(solution);
-    let verdict = checker.judge_bytes(alloc, bytes.as_slice(), &score, &mut again)?;
+    weights.clear();
+    let verdict = checker.judge_bytes(alloc, bytes.as_slice(), &score, &mut weights)?;
     Ok(Judged {
         weights,
         score,

@@ -52,9 +52,10 @@ impl Solution {
         read_whole(alloc, bytes)
     }
 
-    /// The bytes that spell the solution.
+    /// The bytes that spell the solution, which each solution has: so they are decoded as it again.
     pub fn encode(&self, alloc: Global) -> Result<List<u8>, NoMemory>
-        ensures { IfOk result (λ bytes. bytes ≡ solution_form.spelling self.now) }
+        ensures bytes { IfOk result (λ bytes. bytes ≡ solution_form.spelling self.now) }
+        ensures range { solution_form.in_range self.now }
     {
         let mut pen = Pen::new(alloc);
         // The groups have a spelling: this brings what is known of them here.
