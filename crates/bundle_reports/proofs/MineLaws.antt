@@ -13,6 +13,11 @@ use Rattle.weight_book.specs.Weights.{Weights, IsFeasible, support}
 use Rattle.weight_book.proofs.SumLemmas.{eqb_turned}
 use Rattle.seat_race.proofs.InLemmas.{in_filter, from_filter, in_range, in_has, from_has, in_permuted, all_at}
 use Rattle.seat_race.proofs.OrderLemmas.{same_list, rises_sorted, rises-filter, rises_range}
+use Rattle.scale_wire.specs.Form.{IsBytes}
+use Rattle.scale_wire.specs.WholeReading.{read_value}
+use Rattle.compact_solution.specs.Decoded.{decoded}
+use Rattle.compact_solution.specs.SolutionLaws.{solution_laws}
+use Rattle.bundle_reports.proofs.SpelledLaws.{bytes_solution}
 use Rattle.bundle_reports.specs.Verdicts.{member_line, score_line, solution_line}
 use Rattle.bundle_reports.specs.Bundles.{told}
 use Rattle.weight_book.specs.Scoring.{score_of}
@@ -21,7 +26,7 @@ use Rattle.bundle_reports.specs.Mining.{target_at, line_of, weights_lines, IsMin
 use Rattle.npos_base.specs.declared.no_memory.NoMemory.{NoMemory}
 use Rattle.compact_solution.specs.Solution.{Entry, entries_of, solution_form}
 use Rattle.election_check.specs.Steps.{size_fault}
-use Rattle.election_check.specs.Packed.{expanded, entries_fault, expand_fault, weights_unless, verdict_packed}
+use Rattle.election_check.specs.Packed.{expanded, entries_fault, expand_fault, weights_unless, weights_decoded, verdict_packed}
 use Rattle.election_check.specs.Laws.{packed_of}
 use Rattle.compact_solution.specs.declared.packing.PackFault.{PackFault}
 use Rattle.compact_solution.specs.Packing.{packed, IsPackable}
@@ -102,6 +107,13 @@ pub whole_as : (snapshot checker : Snapshot) (solution : List (List Entry)) (wei
     → weights ≡ weights_unless (expand_fault checker solution) (expanded checker solution) → weights ≡ expanded snapshot solution
 whole_as snapshot checker solution weights same none is =
     is ∙ (ap (λ (s : Snapshot). weights_unless (expand_fault s solution) (expanded s solution)) same ∙ ap (λ fault. weights_unless fault (expanded snapshot solution)) none)
+
+-- and so do the bytes that spell it
+pub decoded_whole : (snapshot checker : Snapshot) (solution : List (List Entry)) (weights : Weights) (bytes : List ℕ) → checker ≡ snapshot → expand_fault snapshot solution ≡ None
+    → solution_form.in_range solution → bytes ≡ solution_form.spelling solution → weights ≡ weights_decoded checker (decoded bytes) → weights ≡ expanded snapshot solution
+decoded_whole snapshot checker solution weights bytes same none range spelled is =
+    whole_as snapshot checker solution weights same none
+    (is ∙ ap (weights_decoded checker) (read_value solution_form solution_laws bytes solution (subst IsBytes (sym spelled) (bytes_solution solution)) range spelled))
 
 pub whole_feasible : (snapshot : Snapshot) (solution : List (List Entry)) (weights : Weights) → expand_fault snapshot solution ≡ None → weights ≡ expanded snapshot solution
     → IsFeasible snapshot weights

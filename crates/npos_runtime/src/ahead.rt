@@ -24,8 +24,9 @@ impl Ahead {
     /// Guesses for the transfers among the first calls of a block: of each the payer's, and then
     /// that of whom it pays.
     pub fn of_transfers(alloc: Global, book: &Book, calls: &[Call]) -> Result<Ahead, NoMemory> {
-        let mut guesses = Vec::new(alloc);
-        for call in calls[..calls.len().min(CALLS_AHEAD)].iter().rev() {
+        let first = &calls[..calls.len().min(CALLS_AHEAD)];
+        let mut guesses = Vec::with_capacity(alloc, 2 * first.len())?;
+        for call in first.iter().rev() {
             if let CallKind::Transfer { to, .. } = &call.kind {
                 guesses.push(book.guess(*to))?;
                 guesses.push(book.guess(call.who))?;

@@ -21,17 +21,18 @@ score-score-requires-clause-fits c =
     let here = subst (λ (s : Snapshot). IsFeasible s c.expand-yes.new.weights.plain) (sym c.snapshot.ensures) feasible in
     omega (arith, amounts_within c.snapshot.result.now c.expand-yes.new.weights.plain here, c.every_snapshot_is_well_formed.ensures.voters.total_fits)
 
+pub returns-clause-weights : goal.returns-clause-weights
+returns-clause-weights c = again c
+
 pub returns-clause-feasible : goal.returns-clause-feasible
-returns-clause-feasible c =
-    whole_feasible c.args.checker.now c.args.solution c.expand-yes.new.weights.plain c.requires
-    (whole_as c.args.checker.now c.args.checker.now c.args.solution c.expand-yes.new.weights.plain refl c.requires c.expand-yes.ensures.weights)
+returns-clause-feasible c = whole_feasible c.args.checker.now c.args.solution c.in_ok-verdict.weights.plain c.requires ?
 
 pub returns-clause-verdict : goal.returns-clause-verdict
 returns-clause-verdict c =
     let whole = whole_as c.args.checker.now c.args.checker.now c.args.solution c.expand-yes.new.weights.plain refl c.requires c.expand-yes.ensures.weights in
     let claim : c.score-score.result ≡ score_of (expanded c.args.checker.now c.args.solution) =
     c.score-score.ensures ∙ ap score_of whole in
-    let bytes : c.as_slice.result.now ≡ solution_form.spelling c.args.solution = c.as_slice.ensures ∙ c.in_ok-bytes.ensures in
+    let bytes : c.as_slice.result.now ≡ solution_form.spelling c.args.solution = c.as_slice.ensures ∙ c.in_ok-bytes.ensures.bytes in
     c.in_ok-verdict.ensures.verdict
     ∙ ap (λ (s : Snapshot). verdict_packed s c.score-score.result c.as_slice.result.now) c.expand-yes.ensures.snapshot
     ∙ ap₂ (λ (claim : Score) (spelled : List ℕ). verdict_packed c.args.checker.now claim spelled) claim bytes
