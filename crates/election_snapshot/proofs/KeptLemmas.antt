@@ -62,11 +62,6 @@ account_read [] i d e h = absurd (omega (arith, h))
 account_read (a ∷ accounts) zero d e h = refl
 account_read (a ∷ accounts) (suc i) d e h = account_read accounts i d e (omega (arith, h))
 
-pub votes_at : (votes : List (List ℕ)) (i : ℕ) (d e : List ℕ) → i < length votes → get_or votes i d ≡ get_or votes i e
-votes_at [] i d e h = absurd (omega (arith, h))
-votes_at (v ∷ votes) zero d e h = refl
-votes_at (v ∷ votes) (suc i) d e h = votes_at votes i d e (omega (arith, h))
-
 -- a stake is at most the total
 pub stake_within : (voters : List Voter) (i : ℕ) → (get_or voters i nobody).stake ≤ total_of voters
 stake_within [] i = omega arith
@@ -227,6 +222,13 @@ kept_with targets accounts stakes votes total who stake voted now_accounts now_s
           (voters_with (kept_draft targets accounts stakes votes) who stake voted h.voters ok);
     })
 
+-- fewer voters stand than there can be
+kept_few : (targets accounts : List AccountId) (stakes : List ℕ) (votes : List (List ℕ)) (total : ℕ) (who : AccountId) (stake : ℕ) (voted : List ℕ)
+    → AreKept targets accounts stakes votes total → voter_fault (kept_draft targets accounts stakes votes) who stake voted ≡ None → length votes < MOST_VOTERS
+kept_few targets accounts stakes votes total who stake voted h free =
+    subst (λ n. n < MOST_VOTERS) (kept_count accounts stakes votes h.stakes_count h.votes_count ∙ sym h.votes_count)
+    (sound (kept_draft targets accounts stakes votes) who stake voted free).room
+
 -- the stakes with one more have their sum within range
 kept_fits : (targets accounts : List AccountId) (stakes : List ℕ) (votes : List (List ℕ)) (total : ℕ) (who : AccountId) (stake : ℕ) (voted : List ℕ)
     → AreKept targets accounts stakes votes total → voter_fault (kept_draft targets accounts stakes votes) who stake voted ≡ None → total + stake < 2 ^ 64
@@ -256,6 +258,9 @@ module _ (targets : List AccountId) (old room : KeptVoters) (same : AreSame old 
     (who : AccountId) (stake : ℕ) (voted : List ℕ) (free : voter_fault (drafted targets old) who stake voted ≡ None) where
   pub room_fits : room.total + stake < 2 ^ 64
   room_fits = rw same.total (kept_fits targets old.accounts.items old.stakes.items old.ballots.items old.total who stake voted kept free)
+
+  pub room_few : length room.ballots.items < MOST_VOTERS
+  room_few = rw same.votes (kept_few targets old.accounts.items old.stakes.items old.ballots.items old.total who stake voted kept free)
 
   module _ (new : KeptVoters) (more : HaveOneMore room new who stake voted) where
     accounts : new.accounts.items ≡ old.accounts.items ++ who ∷ []

@@ -1,3 +1,4 @@
+pub mod BallotLemmas
 pub mod HasLemmas
 pub mod KeptLemmas
 pub mod PlaceLemmas

@@ -19,11 +19,11 @@ pub record AreKept (targets accounts : List AccountId) (stakes : List ℕ) (vote
   pub total_is : total ≡ sum stakes
   pub voters : AreVotersOf targets (voters_of accounts stakes votes)
 
--- each of the lists takes so many items more
+-- there is room for so many voters more
 pub record HasRoom (voters : KeptVoters) (more : ℕ) : Type 0 where
   pub accounts : vec_len voters.accounts + more ≤ vec_capacity voters.accounts
   pub stakes : vec_len voters.stakes + more ≤ vec_capacity voters.stakes
-  pub votes : vec_len voters.ballots + more ≤ vec_capacity voters.ballots
+  pub votes : more ≤ voters.ballots.spare
 
 -- the voters are as they were, whatever room there is
 pub record AreSame (old new : KeptVoters) : Type 0 where

@@ -1,3 +1,4 @@
+pub mod Ballots
 pub mod Draft
 pub mod Kept
 pub mod Snapshot

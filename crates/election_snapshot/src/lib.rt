@@ -2,7 +2,7 @@
 //! on.
 #![tactic(auto)]
 
-mod ballot;
+mod ballots;
 mod builder;
 mod fault;
 mod parts;

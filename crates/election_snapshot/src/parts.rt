@@ -194,7 +194,7 @@ impl SnapshotParts {
         requires { i < length self.now.voters }
         ensures { result.now ≡ (slice_index_or self.now.voters i nobody).votes }
     {
-        self.voters.ballots[i].votes()
+        self.voters.ballots.votes(i)
     }
 
     pub(crate) fn total(&self) -> u64

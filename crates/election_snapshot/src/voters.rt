@@ -1,9 +1,9 @@
 //! The voters of a snapshot, as lists that grow.
 ghost use Rattle.std.specs.Prelude.{◌≡◌, ◌+◌, ◌^◌, ◌<◌, ◌≤◌, [], length, OnOk};
-ghost use Rattle.npos_base.specs.declared.limits.TheConstants.{MOST_NOMINATIONS};
+ghost use Rattle.npos_base.specs.declared.limits.TheConstants.{MOST_NOMINATIONS, MOST_VOTERS};
 ghost use Rattle.election_snapshot.specs.Kept.{HasRoom, AreSame, HaveOneMore};
 
-use crate::ballot::Ballot;
+use crate::ballots::Ballots;
 use npos_base::{AccountId, NoMemory};
 use std::alloc::Global;
 
@@ -13,7 +13,7 @@ use std::alloc::Global;
 pub(crate) struct KeptVoters {
     pub(crate) accounts: Vec<AccountId>,
     pub(crate) stakes: Vec<u64>,
-    pub(crate) ballots: Vec<Ballot>,
+    pub(crate) ballots: Ballots,
     pub(crate) total: u64,
 }
 
@@ -28,7 +28,7 @@ impl KeptVoters {
         KeptVoters {
             accounts: Vec::new(alloc),
             stakes: Vec::new(alloc),
-            ballots: Vec::new(alloc),
+            ballots: Ballots::new(alloc),
             total: 0,
         }
     }
@@ -48,12 +48,13 @@ impl KeptVoters {
     pub(crate) fn push_within(&mut self, who: AccountId, stake: u64, votes: &[u16])
         requires room { HasRoom self.old 1 }
         requires few { length votes.now ≤ MOST_NOMINATIONS }
+        requires voters { length self.old.ballots.items < MOST_VOTERS }
         requires fits { self.old.total + stake < 2 ^ 64 }
         ensures { HaveOneMore self.old self.new who stake votes.now }
     {
         self.accounts.push_reserved(who);
         self.stakes.push_reserved(stake);
-        self.ballots.push_reserved(Ballot::new(votes));
+        self.ballots.push_within(votes);
         self.total += stake;
     }
 }
