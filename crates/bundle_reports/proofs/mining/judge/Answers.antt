@@ -22,7 +22,7 @@ score-score-requires-clause-fits c =
     omega (arith, amounts_within c.snapshot.result.now c.expand-yes.new.weights.plain here, c.every_snapshot_is_well_formed.ensures.voters.total_fits)
 
 pub returns-clause-weights : goal.returns-clause-weights
-returns-clause-weights c = again c
+returns-clause-weights c = ?
 
 pub returns-clause-feasible : goal.returns-clause-feasible
 returns-clause-feasible c = whole_feasible c.args.checker.now c.args.solution c.in_ok-verdict.weights.plain c.requires ?
