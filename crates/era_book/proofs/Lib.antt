@@ -2,6 +2,7 @@ pub mod PartLemmas
 pub mod LineLemmas
 pub mod MemberLemmas
 pub mod SeatLemmas
+pub mod PlaceLemmas
 pub mod EraLemmas
 pub mod HistoryLemmas
 pub mod LawLemmas

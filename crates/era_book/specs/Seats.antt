@@ -1,12 +1,16 @@
 -- How the members of an era are kept: each account once, and the backers by the places of theirs.
 use Rattle.std.specs.Prelude.{◌≡◌, ℕ, ◌<◌, ◌≤◌, Bool, true, false, ◌&&◌, List, ◌++◌, length, map, filter, All}
+use Rattle.std.specs.List.{HoldsAt}
+use Rattle.std.specs.List.Sorted.{IsStrictlySortedBy, IsPartitionPoint}
+use Rattle.std.specs.Map.{keys_of}
+use Rattle.std.specs.declared.cmp.Ordering.TheVariants.{Less, Greater}
 use Rattle.npos_base.specs.declared.account.AccountId.{AccountId}
 use Rattle.npos_base.specs.declared.figures.Edge.{Edge}
 use Rattle.era_book.specs.declared.exposure.Backer.{Backer}
 use Rattle.era_book.specs.declared.seat.Share.{Share}
 use Rattle.era_book.specs.declared.seat.Seat.{Seat}
 use Rattle.era_book.specs.Payouts.{line}
-use Rattle.npos_base.specs.Account.{account_at}
+use Rattle.npos_base.specs.Account.{account_at, account_cmp}
 use Rattle.era_book.specs.Committee.{gives_to, is_of}
 use Rattle.era_book.specs.Members.{Member, Members}
 
@@ -33,6 +37,23 @@ member_seen accounts seat =
 
 abbrev pub members_seen : List AccountId → List (AccountId × Seat) → Members
 members_seen accounts seats = map (λ entry. (entry.0, member_seen accounts entry.1)) seats
+
+-- the seats with their accounts
+abbrev pub entries_of : List Seat → List (AccountId × Seat)
+entries_of seats = map (λ seat. (seat.validator, seat)) seats
+
+-- each account is below those of the seats behind it
+abbrev pub AreRising : List Seat → Type 0
+AreRising seats = IsStrictlySortedBy account_cmp (keys_of (entries_of seats))
+
+-- the seat at the place is the account's
+abbrev pub IsSeatOf : AccountId → List Seat → ℕ → Type 0
+IsSeatOf who seats place = HoldsAt (λ seat. seat.validator ≡ who) seats place
+
+-- the account has no seat, and one of it would stand at the place
+abbrev pub IsGapFor : AccountId → List Seat → ℕ → Type 0
+IsGapFor who seats place =
+    IsPartitionPoint (λ seat. account_cmp seat.validator who ≡ Less) (λ seat. account_cmp seat.validator who ≡ Greater) seats place
 
 -- a seat as its era begins
 abbrev pub seat_of : AccountId → ℕ → ℕ → List Share → Seat

@@ -9,10 +9,10 @@ ghost use Rattle.era_book.specs.Members.{members_with};
 ghost use Rattle.era_book.specs.Seats.{members_seen, seat_of};
 
 use crate::seat::{Seat, Share};
+use crate::seats::Seats;
 use crate::shares::shares_by_target;
 use npos_base::{AccountId, Edge, List, NoMemory};
 use std::alloc::Global;
-use std::collections::BTreeMap;
 use std::mem;
 
 /// The seats of an elected committee's members, by account. Each has the validator's own share
@@ -26,12 +26,12 @@ pub fn seats_by_voter(
     voters: &[AccountId],
     members: &[u16],
     edges: &[Edge],
-) -> Result<BTreeMap<AccountId, Seat>, NoMemory>
+) -> Result<Seats, NoMemory>
     requires commissions { length commissions.now ≡ length targets.now }
     requires supports { length supports.now ≡ length targets.now }
     requires elected { IsElected targets.now voters.now commissions.now supports.now edges.now
         members.now }
-    ensures { IfOk result (λ seats. members_seen voters.now seats.entries ≡ members_with (map
+    ensures { IfOk result (λ seats. members_seen voters.now seats ≡ members_with (map
         (exposure_of targets.now commissions.now supports.now voters.now
         (edges_by_voter (length voters.now) edges.now)) members.now)) }
 {
@@ -75,22 +75,22 @@ fn seats_of(
     voters: &[AccountId],
     members: &[u16],
     edges: &[Edge],
-) -> Result<BTreeMap<AccountId, Seat>, NoMemory>
+) -> Result<Seats, NoMemory>
     requires members { All (λ member. member < length targets.now) members.now }
     requires once { IsDistinct nat_eq members.now }
     requires commissions { length commissions.now ≡ length targets.now }
     requires supports { length supports.now ≡ length targets.now }
     requires edges { All (IsWithin targets.now voters.now) edges.now }
-    ensures { IfOk result (λ seats. members_seen voters.now seats.entries ≡ members_with (map
+    ensures { IfOk result (λ seats. members_seen voters.now seats ≡ members_with (map
         (exposure_of targets.now commissions.now supports.now voters.now edges.now) members.now)) }
 {
     let mut lists = shares_by_target(alloc, targets, voters, edges)?;
-    let mut seats = BTreeMap::new(alloc);
+    let mut seats = Seats::with_room(alloc, members.len())?;
     for member in members {
         let place = usize::from(*member);
         let shares = mem::replace(&mut lists[place], List::new(alloc));
         let seat = seat_at(targets, commissions, supports, place, shares);
-        seats.insert(targets[place], seat)?;
+        seats.insert(seat)?;
     }
     Ok(seats)
 }

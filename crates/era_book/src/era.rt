@@ -13,13 +13,12 @@ ghost use Rattle.era_book.specs.Calls.{claiming, keeping};
 use crate::accounts::Accounts;
 use crate::elected::seats_by_voter;
 use crate::member::Member;
-use crate::members::{claim, gain, keep};
 use crate::names::Names;
 use crate::seat::Seat;
+use crate::seats::Seats;
 use crate::{Exposure, MemberRecord};
 use npos_base::{AccountId, Edge, List, NoMemory, Room};
 use std::alloc::Global;
-use std::collections::BTreeMap;
 use std::marker::Model;
 
 /// The members of one era, and all their points together. Contracts see the list of accounts with
@@ -28,7 +27,7 @@ use std::marker::Model;
 pub struct Era {
     /// The accounts of the backers, by place.
     accounts: Accounts,
-    members: BTreeMap<AccountId, Seat>,
+    members: Seats,
     points: u128,
 }
 
@@ -38,10 +37,10 @@ impl Model for Era {
 
     ghost Value = { Members };
 
-    ghost view = { λ era. members_seen era.accounts era.members.entries };
+    ghost view = { λ era. members_seen era.accounts era.members };
 
     ghost invariant = { λ era.
-        IsCounted (members_seen era.accounts era.members.entries) era.points };
+        IsCounted (members_seen era.accounts era.members) era.points };
 }
 
 impl Era {
@@ -51,7 +50,7 @@ impl Era {
     {
         Era {
             accounts: Accounts::none(),
-            members: BTreeMap::new(alloc),
+            members: Seats::new(alloc),
             points: 0,
         }
     }
@@ -64,10 +63,10 @@ impl Era {
             return Ok(Era::new(alloc));
         }
         let mut names = Names::new(alloc)?;
-        let mut members = BTreeMap::new(alloc);
+        let mut members = Seats::with_room(alloc, exposures.len())?;
         for exposure in exposures.into_vec() {
             let member = Seat::new(alloc, &mut names, &exposure)?;
-            members.insert(exposure.validator, member)?;
+            members.insert(member)?;
         }
         let named = names.accounts(alloc)?;
         let accounts = Accounts::new(alloc, named)?;
@@ -87,11 +86,11 @@ impl Era {
             return Ok(Era::new(alloc));
         }
         let mut names = Names::new(alloc)?;
-        let mut members = BTreeMap::new(alloc);
+        let mut members = Seats::with_room(alloc, values.len())?;
         let mut points = 0;
         for value in values.into_vec() {
             let seat = Seat::of(alloc, &mut names, &value)?;
-            members.insert(value.exposure.validator, seat)?;
+            members.insert(seat)?;
             points += u128::from(value.points);
         }
         let named = names.accounts(alloc)?;
@@ -108,7 +107,7 @@ impl Era {
         ensures { IfOk result (λ values. values ≡ map record_of (values_of self.now)) }
     {
         let mut values = Room::with_room(alloc, self.members.len())?;
-        for seat in self.members.values() {
+        for seat in self.members.as_slice() {
             let value = seat.value(alloc, self.accounts.as_slice())?;
             values.push_within(value);
         }
@@ -158,7 +157,7 @@ impl Era {
         ensures member { result ≡ member_of self.now who }
         ensures points { IfSome result (λ member. member.points ≤ total_points self.now) }
     {
-        match self.members.get(&who) {
+        match self.members.get(who) {
             Some(seat) => Some(Member::of(self.accounts.as_slice(), seat)),
             None => None,
         }
@@ -175,7 +174,7 @@ impl Era {
     fn contains(&self, who: AccountId) -> bool
         ensures { result ≡ is_some (member_of self.now who) }
     {
-        self.members.contains_key(&who)
+        self.members.contains(who)
     }
 
     /// The part of the reward that so many of the points earn.
@@ -203,20 +202,20 @@ impl Era {
     {
         // There are fewer members than 2^64, so all their points fit.
         let _count = self.members.len();
-        self.points += u128::from(gain(&mut self.members, who, points));
+        self.points += u128::from(self.members.gain(who, points));
     }
 
     /// Marks the member's part of the era's reward as claimed.
     pub fn claim(&mut self, who: AccountId)
         ensures { self.new ≡ with_member who claiming self.old }
     {
-        claim(&mut self.members, who);
+        self.members.claim(who);
     }
 
     /// Keeps the fraction for the member.
     pub fn keep(&mut self, who: AccountId, fraction: u32)
         ensures { self.new ≡ with_member who (keeping fraction) self.old }
     {
-        keep(&mut self.members, who, fraction);
+        self.members.keep(who, fraction);
     }
 }

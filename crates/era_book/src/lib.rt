@@ -12,12 +12,12 @@ mod era;
 mod exposure;
 pub mod laws;
 mod member;
-mod members;
 mod names;
 mod payout;
 mod record;
 mod refusal;
 mod seat;
+mod seats;
 mod shares;
 
 pub use book::EraBook;

@@ -27,12 +27,12 @@ loop-member-preserved c =
     c.seat_at-seat.ensures
     ∙ ap₂ (λ (at : ℕ) (shares : List Share). seat_of (account_at targets at) (get_or c.args.commissions.now at 0) (get_or c.args.supports.now at 0) shares)
     place (taken ∙ before.lists i (omega arith) c.loop-member-test.true) in
-    let put : c.insert.new.self.entries ≡ insert_entry account_cmp c.loop-member.seats.entries (account_at targets c.from-place.result) c.seat_at-seat.result = search rules in
+    let put : c.insert.new.self ≡ insert_entry account_cmp c.loop-member.seats (account_at targets c.from-place.result) c.seat_at-seat.result = search rules in
     record {
       seats =
           ap (λ entries. members_seen c.args.voters.now entries)
-          (put ∙ ap (λ (at : ℕ). insert_entry account_cmp c.loop-member.seats.entries (account_at targets at) c.seat_at-seat.result) place)
-          ∙ member_seated targets c.args.commissions.now c.args.supports.now c.args.voters.now c.args.edges.now c.loop-member.seats.entries c.seat_at-seat.result members i
+          (put ∙ ap (λ (at : ℕ). insert_entry account_cmp c.loop-member.seats (account_at targets at) c.seat_at-seat.result) place)
+          ∙ member_seated targets c.args.commissions.now c.args.supports.now c.args.voters.now c.args.edges.now c.loop-member.seats c.seat_at-seat.result members i
           c.loop-member-test.true made before.seats;
       count = grind (arith, common_steps, before.count);
       lists = λ j after below.

@@ -7,4 +7,4 @@ use Rattle.era_book.proofs.era.Era.claim.Goals as goal
 pub invariant_of-self : goal.invariant_of-self
 invariant_of-self c =
     rw (c.claim.ensures c.self.inside.accounts)
-    (counted_same c.args.who claiming (λ member. refl) (members_seen c.self.inside.accounts c.self.inside.members.entries) c.self.inside.points c.self.invariant)
+    (counted_same c.args.who claiming (λ member. refl) (members_seen c.self.inside.accounts c.self.inside.members) c.self.inside.points c.self.invariant)

@@ -10,8 +10,8 @@ use Rattle.era_book.proofs.era.Era.gain.Goals as goal
 pub overflow_add-self : goal.overflow_add-self
 overflow_add-self c =
     let accounts = c.self.inside.accounts in
-    let before : Members = members_seen accounts c.self.inside.members.entries in
-    let after : Members = members_seen accounts c.gain.new.members.entries in
+    let before : Members = members_seen accounts c.self.inside.members in
+    let after : Members = members_seen accounts c.gain.new.self in
     let each : All (λ (member : Member). member.points < 2 ^ 32) (values_of after) =
     subst (λ (rows : Members). All (λ (member : Member). member.points < 2 ^ 32) (values_of rows)) (sym (c.gain.ensures.members accounts))
     (each_gaining before c.args.who c.args.points c.self.invariant.each) in
@@ -19,9 +19,8 @@ overflow_add-self c =
     omega (
       arith,
       ap length (c.gain.ensures.members accounts) ∙ length_changed c.args.who (gaining c.args.points) before,
-      as_many accounts c.self.inside.members.entries,
-      c.len-count.ensures.small,
-      c.len-count.ensures.len,
+      as_many accounts c.self.inside.members,
+      c.len-count.ensures.few,
     ) in
     omega (arith, points_fit after each few, c.gain.ensures.added accounts, c.self.invariant.total, c.from.ensures)
 
@@ -32,5 +31,5 @@ invariant_of-self c =
       total = omega (arith, c.gain.ensures.added accounts, c.self.invariant.total, c.from.ensures);
       each =
           subst (λ (rows : Members). All (λ (member : Member). member.points < 2 ^ 32) (values_of rows)) (sym (c.gain.ensures.members accounts))
-          (each_gaining (members_seen accounts c.self.inside.members.entries) c.args.who c.args.points c.self.invariant.each);
+          (each_gaining (members_seen accounts c.self.inside.members) c.args.who c.args.points c.self.invariant.each);
     }

@@ -10,10 +10,10 @@ use Rattle.era_book.proofs.era.Era.get.Goals as goal
 
 pub returns-in-Some-clause-member : goal.returns-in-Some-clause-member
 returns-in-Some-clause-member c =
-    let found : lookup (is_at (account_cmp c.args.who)) c.self.inside.members.entries ≡ Some c.in-Some.seat.now = search rules in
+    let found : lookup (is_at (account_cmp c.args.who)) c.self.inside.members ≡ Some c.in-Some.seat.now = search rules in
     let seen : c.of.result ≡ member_seen c.self.inside.accounts c.in-Some.seat.now = search rules in
     ap (λ (m : Member). Some m) seen
-    ∙ (sym (member_found c.self.inside.accounts c.args.who c.self.inside.members.entries (Some c.in-Some.seat.now) found)
+    ∙ (sym (member_found c.self.inside.accounts c.args.who c.self.inside.members (Some c.in-Some.seat.now) found)
     ∙ ap (λ (members : Members). member_of members c.args.who) c.self.view_is)
 
 pub returns-in-Some-clause-points : goal.returns-in-Some-clause-points
@@ -22,6 +22,6 @@ returns-in-Some-clause-points c =
 
 pub returns-in-None-clause-member : goal.returns-in-None-clause-member
 returns-in-None-clause-member c =
-    let nobody : lookup (is_at (account_cmp c.args.who)) c.self.inside.members.entries ≡ None = search rules in
-    sym (member_found c.self.inside.accounts c.args.who c.self.inside.members.entries None nobody)
+    let nobody : lookup (is_at (account_cmp c.args.who)) c.self.inside.members ≡ None = search rules in
+    sym (member_found c.self.inside.accounts c.args.who c.self.inside.members None nobody)
     ∙ ap (λ (members : Members). member_of members c.args.who) c.self.view_is

@@ -13,8 +13,8 @@ loop-exposure-preserved c =
     let before = c.loop-exposure.invariant in
     let old = c.loop-exposure.names in
     let new = c.new-in-loop-exposure.new.names in
-    let seats = c.loop-exposure.members.entries in
-    let put : c.insert.new.self.entries ≡ insert_entry account_cmp seats c.in-Some.exposure.validator c.in_ok-member.member = search rules in
+    let seats = c.loop-exposure.members in
+    let put : c.insert.new.self ≡ insert_entry account_cmp seats c.in-Some.exposure.validator c.in_ok-member.member = search rules in
     record {
       seen =
           ap (members_seen new) put
@@ -27,5 +27,5 @@ loop-exposure-preserved c =
 
 pub invariant_of-result : goal.invariant_of-result
 invariant_of-result c =
-    let seen : members_seen c.in_ok-accounts.accounts c.loop-exposure.members.entries ≡ members_with c.loop-exposure.yielded = search rules in
+    let seen : members_seen c.in_ok-accounts.accounts c.loop-exposure.members ≡ members_with c.loop-exposure.yielded = search rules in
     subst (λ (members : Members). IsCounted members 0) (sym seen) (counted_newcomers c.loop-exposure.yielded)

@@ -6,6 +6,6 @@ use Rattle.era_book.proofs.era.Era.with_exposures.Given as goal
 
 abbrev pub invariant-loop-exposure : goal.invariant-loop-exposure
 invariant-loop-exposure l = record {
-  seen : members_seen l.names l.members.entries ≡ members_with l.yielded;
-  seated : AreSeated l.names l.members.entries;
+  seen : members_seen l.names l.members ≡ members_with l.yielded;
+  seated : AreSeated l.names l.members;
 }

@@ -23,17 +23,17 @@ pub loop-value-preserved : goal.loop-value-preserved
 loop-value-preserved c =
     let before = c.loop-value.invariant in
     let few : c.in-Some.value.points < 2 ^ 32 = omega (arith, c.in_ok-seat.ensures.points, ap (λ (m : Member). m.points) c.in_ok-seat.ensures.seen) in
-    let put : c.insert.new.self.entries ≡ insert_entry account_cmp c.loop-value.members.entries c.in-Some.value.exposure.validator c.in_ok-seat.seat = search rules in
+    let put : c.insert.new.self ≡ insert_entry account_cmp c.loop-value.members c.in-Some.value.exposure.validator c.in_ok-seat.seat = search rules in
     let points : c.loop-value.points + c.from-points.result ≡ c.loop-value.points + c.in-Some.value.points = omega (arith, c.from-points.ensures) in
     record {
       all = rest_behind c.args.values c.loop-value.yielded _ _ c.in-Some.value before.all c.in-Some.ensures.steps.0;
       seen =
           ap (members_seen c.of.new.names) put
-          ∙ seat_joins c.loop-value.names c.of.new.names c.loop-value.members.entries c.in_ok-seat.seat c.args.values c.loop-value.yielded _ _ c.in-Some.value
+          ∙ seat_joins c.loop-value.names c.of.new.names c.loop-value.members c.in_ok-seat.seat c.args.values c.loop-value.yielded _ _ c.in-Some.value
           c.of.ensures.grows before.seated c.in_ok-seat.ensures.seen before.seen before.all c.in-Some.ensures.steps.0 c.requires;
       seated =
           subst (AreSeated c.of.new.names) (sym put)
-          (seated_more c.loop-value.names c.of.new.names c.loop-value.members.entries c.in-Some.value.exposure.validator c.in_ok-seat.seat c.of.ensures.grows before.seated c.in_ok-seat.ensures.within);
+          (seated_more c.loop-value.names c.of.new.names c.loop-value.members c.in-Some.value.exposure.validator c.in_ok-seat.seat c.of.ensures.grows before.seated c.in_ok-seat.ensures.within);
       counted =
           subst (λ n. IsCounted (members_from (c.loop-value.yielded ++ c.in-Some.value ∷ [])) n) (sym points)
           (counted_more c.loop-value.yielded c.in-Some.value c.loop-value.points few before.counted);

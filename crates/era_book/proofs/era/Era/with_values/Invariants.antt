@@ -10,7 +10,7 @@ use Rattle.era_book.proofs.era.Era.with_values.Given as goal
 abbrev pub invariant-loop-value : goal.invariant-loop-value
 invariant-loop-value l = record {
   all : l.yielded ++ into_iter_items l.value-iterator ≡ l.fn.values;
-  seen : members_seen l.names l.members.entries ≡ members_from l.yielded;
-  seated : AreSeated l.names l.members.entries;
+  seen : members_seen l.names l.members ≡ members_from l.yielded;
+  seated : AreSeated l.names l.members;
   counted : IsCounted (members_from l.yielded) l.points;
 }
