@@ -6,7 +6,7 @@ use Rattle.election_snapshot.specs.Snapshot.{Snapshot}
 use Rattle.weight_book.specs.Weights.{IsFeasible}
 use Rattle.weight_book.specs.Scoring.{score_of}
 use Rattle.weight_book.proofs.StakeLemmas.{amounts_within}
-use Rattle.bundle_reports.proofs.MineLaws.{whole_as, whole_feasible}
+use Rattle.bundle_reports.proofs.MineLaws.{whole_as, decoded_whole, whole_feasible}
 use Rattle.bundle_reports.proofs.mining.judge.Goals as goal
 
 pub score-score-requires-clause-distinct : goal.score-score-requires-clause-distinct
@@ -22,10 +22,15 @@ score-score-requires-clause-fits c =
     omega (arith, amounts_within c.snapshot.result.now c.expand-yes.new.weights.plain here, c.every_snapshot_is_well_formed.ensures.voters.total_fits)
 
 pub returns-clause-weights : goal.returns-clause-weights
-returns-clause-weights c = ?
+returns-clause-weights c =
+    decoded_whole c.args.checker.now c.expand-yes.new.self c.args.solution c.judge_bytes.new.weights.plain c.as_slice.result.now c.expand-yes.ensures.snapshot c.requires
+    c.in_ok-bytes.ensures.range (c.as_slice.ensures ∙ c.in_ok-bytes.ensures.bytes) c.in_ok-verdict.ensures.weights
 
 pub returns-clause-feasible : goal.returns-clause-feasible
-returns-clause-feasible c = whole_feasible c.args.checker.now c.args.solution c.in_ok-verdict.weights.plain c.requires ?
+returns-clause-feasible c =
+    whole_feasible c.args.checker.now c.args.solution c.judge_bytes.new.weights.plain c.requires
+    (decoded_whole c.args.checker.now c.expand-yes.new.self c.args.solution c.judge_bytes.new.weights.plain c.as_slice.result.now c.expand-yes.ensures.snapshot c.requires
+    c.in_ok-bytes.ensures.range (c.as_slice.ensures ∙ c.in_ok-bytes.ensures.bytes) c.in_ok-verdict.ensures.weights)
 
 pub returns-clause-verdict : goal.returns-clause-verdict
 returns-clause-verdict c =
