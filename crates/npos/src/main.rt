@@ -18,6 +18,18 @@ use std::process::ExitCode;
 /// The exit status where a word of the command line cannot be had. `run` never answers it.
 const NO_WORDS: u8 = 7;
 
+/// A block of nearly 32 MiB: the C library of Linux learns from no larger one.
+const LARGE_BLOCK: usize = 32_000_000;
+
+/// Asks for a large block and gives it back at once, untouched. The C library then takes large
+/// blocks as something that comes and goes, and keeps what is given back for what is asked for
+/// next. Without that each large list is laid into new pages, and such a page costs more when it is
+/// touched first than all that is written to it. Nothing rests on this: where the block is refused,
+/// nothing happens.
+fn expect_large_blocks(alloc: Global) {
+    let _ = Vec::<u8>::with_capacity(alloc, LARGE_BLOCK);
+}
+
 /// The words of the command line, or the exit status where they cannot be had.
 fn words(rt: &HostRuntime) -> Result<Vec<String>, u8> {
     let args = match env::args(rt) {
@@ -61,6 +73,7 @@ fn finish<S: Source, K: Sink>(
 }
 
 fn main(rt: HostRuntime) -> ExitCode {
+    expect_large_blocks(rt.alloc());
     let words = words(&rt);
     let mut source = StdinSource::new(rt.stdin());
     let mut sink = StdoutSink::new(rt.stdout());
