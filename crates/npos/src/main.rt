@@ -18,16 +18,17 @@ use std::process::ExitCode;
 /// The exit status where a word of the command line cannot be had. `run` never answers it.
 const NO_WORDS: u8 = 7;
 
-/// A block of nearly 32 MiB: the C library of Linux learns from no larger one.
-const LARGE_BLOCK: usize = 32_000_000;
+/// Blocks up to this size are kept. Larger ones still go back to the system, so that no run holds
+/// much that it does not use.
+const KEPT_BLOCK: usize = 2_000_000;
 
-/// Asks for a large block and gives it back at once, untouched. The C library then takes large
-/// blocks as something that comes and goes, and keeps what is given back for what is asked for
-/// next. Without that each large list is laid into new pages, and such a page costs more when it is
-/// touched first than all that is written to it. Nothing rests on this: where the block is refused,
-/// nothing happens.
+/// Asks for a large block and gives it back at once, untouched. The C library then takes blocks of
+/// that size as something that comes and goes, and keeps what is given back for what is asked for
+/// next. Else each list of some length is laid into new pages, and such a page costs more when it
+/// is touched first than all that is written to it. Nothing rests on this: where the block is
+/// refused, nothing happens.
 fn expect_large_blocks(alloc: Global) {
-    let _ = Vec::<u8>::with_capacity(alloc, LARGE_BLOCK);
+    let _ = Vec::<u8>::with_capacity(alloc, KEPT_BLOCK);
 }
 
 /// The words of the command line, or the exit status where they cannot be had.
