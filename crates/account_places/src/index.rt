@@ -221,12 +221,13 @@ impl Index {
         }
     }
 
-    /// How many slots there should be for one account more than so many, where there are too few.
-    pub(crate) fn more_slots(&self, accounts: usize) -> Option<usize> {
+    /// How many slots there should be for one account more than so many, where there are too few:
+    /// enough for all that there is room for.
+    pub(crate) fn more_slots(&self, accounts: usize, room: usize) -> Option<usize> {
         if accounts < self.count / 2 {
-            None
-        } else {
-            Some(self.count.saturating_mul(2).max(LEAST_SLOTS))
+            return None;
         }
+        let slots = room.saturating_mul(2).checked_next_power_of_two()?;
+        Some(slots.max(LEAST_SLOTS))
     }
 }

@@ -129,6 +129,15 @@ impl Places {
         unreachable!()
     }
 
+    /// Makes room for so many accounts more, so that they come without a move of those that are
+    /// there. What is not used of it stays untouched.
+    pub fn reserve(&mut self, more: usize) -> Result<(), NoMemory>
+        ensures { self.new ≡ self.old }
+    {
+        self.accounts.reserve(more)?;
+        Ok(())
+    }
+
     /// Gives the next place to an account that has none.
     pub fn put(&mut self, who: AccountId) -> Result<(), NoMemory>
         requires { place_in (by_account self.old) who ≡ None }
@@ -139,7 +148,8 @@ impl Places {
         ensures err { OnErr result (self.new ≡ self.old) }
     {
         self.accounts.reserve(1)?;
-        widen(self.alloc, &mut self.index, self.accounts.as_slice());
+        let room = self.accounts.capacity();
+        widen(self.alloc, &mut self.index, self.accounts.as_slice(), room);
         self.index.note(who, self.accounts.len())?;
         match self.accounts.push(who) {
             Ok(()) => {}
@@ -149,16 +159,16 @@ impl Places {
     }
 }
 
-/// Notes all accounts anew in more slots, where the slots are few. They stay as they are where
-/// there is no memory for more: then more accounts are searched.
-fn widen(alloc: Global, index: &mut Index, accounts: &[AccountId])
+/// Notes all accounts anew in slots for as many as there is room for, where the slots are few. They
+/// stay as they are where there is no memory for more: then more accounts are searched.
+fn widen(alloc: Global, index: &mut Index, accounts: &[AccountId], room: usize)
     requires apart { StandOnce accounts.now }
     requires whole { Finds index.old.slots.items index.old.count index.old.crowd.entries
         accounts.now (length accounts.now) }
     ensures { Finds index.new.slots.items index.new.count index.new.crowd.entries
         accounts.now (length accounts.now) }
 {
-    let Some(count) = index.more_slots(accounts.len()) else {
+    let Some(count) = index.more_slots(accounts.len(), room) else {
         return;
     };
     let Ok(wider) = Index::of(alloc, accounts, count) else {

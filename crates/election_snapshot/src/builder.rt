@@ -46,13 +46,13 @@ impl SnapshotBuilder {
         }
     }
 
-    /// Takes room for so many voters more than stand, so that adding them moves none; the places of
-    /// their accounts grow as they come. Contracts see no change, whatever the result. After
-    /// `NoMemory` voters are added one by one as before.
+    /// Takes room for so many voters more than stand, so that adding them moves none. Contracts see
+    /// no change, whatever the result. After `NoMemory` voters are added one by one as before.
     pub fn reserve(&mut self, voters: usize) -> Result<(), NoMemory>
         ensures same { self.new ≡ self.old }
     {
-        self.parts.reserve(voters)
+        self.parts.reserve(voters)?;
+        self.voters.reserve(voters)
     }
 
     /// Adds a target behind those that stand.

@@ -49,15 +49,36 @@ fn endow_all(book: &mut Book, endowments: &[Endowment]) -> Result<(), GenesisFau
     Ok(())
 }
 
-/// Bags with nobody in them, between the thresholds of the params.
-fn empty_bags(alloc: Global, params: &Option<Params>) -> Result<Bags, NoMemory>
+/// Books with nobody in them, and room for so many accounts: so the endowments of a genesis come
+/// without a move of those before them.
+fn empty_book(alloc: Global, room: usize) -> Result<Book, NoMemory>
+    ensures { IfOk result (λ book. book ≡ empty_ledger) }
+{
+    let mut book = Book::new(alloc);
+    book.reserve(room)?;
+    Ok(book)
+}
+
+/// Roles of nobody, with room for those of so many accounts.
+fn empty_roles(alloc: Global, room: usize) -> Result<Roles, NoMemory>
+    ensures { IfOk result (λ roles. roles ≡ []) }
+{
+    let mut roles = Roles::new(alloc);
+    roles.reserve(room)?;
+    Ok(roles)
+}
+
+/// Bags with nobody in them, between the thresholds of the params, with room for so many accounts.
+fn empty_bags(alloc: Global, params: &Option<Params>, room: usize) -> Result<Bags, NoMemory>
     requires sound { AreSound params.now }
     requires few { length (thresholds_in params.now) ≤ MOST_THRESHOLDS }
     ensures { IfOk result (λ bags. bags
         ≡ record { thresholds = thresholds_in params.now; order = [] }) }
 {
     let thresholds = copy_thresholds(alloc, params)?;
-    Bags::new(alloc, thresholds)
+    let mut bags = Bags::new(alloc, thresholds)?;
+    bags.reserve(room)?;
+    Ok(bags)
 }
 
 /// The chain that starts from a genesis, or the first fault that the genesis has.
@@ -78,16 +99,18 @@ pub fn begin(alloc: Global, genesis: Genesis) -> Result<Chain, GenesisFault>
             defer_eras,
         } => (endowments, Some(params), defer_eras),
     };
-    let mut book = Book::new(alloc);
+    let accounts = endowments.len();
+    let mut book = empty_book(alloc, accounts)?;
     endow_all(&mut book, endowments.as_slice())?;
     check_terms(&params, defer)?;
-    let bags = empty_bags(alloc, &params)?;
+    let roles = empty_roles(alloc, accounts)?;
+    let bags = empty_bags(alloc, &params, accounts)?;
     let queue = Queue::new(alloc, places_of(&params))?;
     Ok(Chain {
         params,
         defer,
         book,
-        roles: Roles::new(alloc),
+        roles,
         bags,
         round: None,
         queue,

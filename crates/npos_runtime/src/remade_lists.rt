@@ -57,6 +57,7 @@ fn roles_of(alloc: Global, rows: List<RoleRow>) -> Result<Roles, NoMemory>
     ensures { IfOk result (λ roles. roles ≡ roles_in rows) }
 {
     let mut roles = Roles::new(alloc);
+    roles.reserve(rows.len())?;
     for row in rows.into_vec() {
         take_role(alloc, &mut roles, row)?;
     }
@@ -113,6 +114,7 @@ fn bags_of(alloc: Global, params: &Option<Params>, rows: &[RoleRow]) -> Result<B
 {
     let thresholds = copy_thresholds(alloc, params)?;
     let mut bags = Bags::new(alloc, thresholds)?;
+    bags.reserve(rows.len())?;
     let between = copy_thresholds(alloc, params)?;
     join_all(&mut bags, between.as_slice(), rows)?;
     Ok(bags)

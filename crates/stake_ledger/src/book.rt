@@ -83,6 +83,14 @@ impl Book {
         }
     }
 
+    /// Makes room for so many accounts more, so that they come without a move of those that are
+    /// there. What is not used of it stays untouched.
+    pub fn reserve(&mut self, more: usize) -> Result<(), NoMemory>
+        ensures { self.new ≡ self.old }
+    {
+        self.rows.reserve(more)
+    }
+
     /// The book with these rows, with what the genesis gave, what was minted and what was burned
     /// since. A row is bad where its account is not above the one before, a chunk is 0, there are
     /// more than 32 chunks, or their releases do not rise strictly. It refuses with `BadRow` and the

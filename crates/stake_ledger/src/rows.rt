@@ -62,6 +62,15 @@ impl Rows {
         }
     }
 
+    /// Makes room for the rows of so many accounts more.
+    pub fn reserve(&mut self, more: usize) -> Result<(), NoMemory>
+        ensures { self.new ≡ self.old }
+    {
+        self.places.reserve(more)?;
+        self.rows.reserve(more)?;
+        Ok(())
+    }
+
     /// The row of an account.
     #[tactic(auto, using(crate::proofs::PlaceLemmas::row_placed, crate::proofs::PlaceLemmas::row_unplaced))]
     pub fn get(&self, who: AccountId) -> Option<&Row>
@@ -88,6 +97,7 @@ impl Rows {
         ensures { IfOk result (λ rows. rows ≡ map entry_of values) }
     {
         let mut rows = Rows::new(alloc);
+        rows.reserve(values.len())?;
         for value in values.into_vec() {
             let who = value.who;
             rows.append(who, Row::from_value(value))?;

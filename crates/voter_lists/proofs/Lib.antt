@@ -17,6 +17,7 @@ pub mod OneAnswerLemmas
 pub mod TakenLemmas
 pub mod RoleLemmas
 pub mod RepeatLemmas
+pub mod ClassLemmas
 pub mod MarkLemmas
 pub mod NamedLemmas
 pub mod VoteLemmas

@@ -50,6 +50,14 @@ impl Bags {
         Ok(Bags { thresholds, nodes })
     }
 
+    /// Makes room for so many accounts more, so that they come without a move of those that are
+    /// there. What is not used of it stays untouched.
+    pub fn reserve(&mut self, more: usize) -> Result<(), NoMemory>
+        ensures { self.new ≡ self.old }
+    {
+        self.nodes.reserve(more)
+    }
+
     /// The account joins the tail of the bag of its score.
     pub fn insert(&mut self, who: AccountId, score: u64) -> Result<(), NoMemory>
         requires { is_listed self.old.order who ≡ false }

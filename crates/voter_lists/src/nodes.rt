@@ -41,6 +41,16 @@ impl Nodes {
         })
     }
 
+    /// Makes room for so many accounts more.
+    pub(crate) fn reserve(&mut self, more: usize) -> Result<(), NoMemory>
+        ensures rings { self.new.rings ≡ self.old.rings }
+        ensures places { self.new.places ≡ self.old.places }
+        ensures bags { self.new.bags ≡ self.old.bags }
+    {
+        self.places.reserve(more)?;
+        self.rings.reserve(more)
+    }
+
     /// The place of a listed account, and its bag.
     pub(crate) fn find(&self, who: AccountId) -> Option<(usize, usize)>
         requires { IsStanding self.now }

@@ -92,6 +92,15 @@ impl Rings {
         })
     }
 
+    /// Makes room for so many keys more, of which none is there for that.
+    pub(crate) fn reserve(&mut self, more: usize) -> Result<(), NoMemory>
+        ensures { self.new ≡ self.old }
+    {
+        self.links.reserve(more)?;
+        self.owners.reserve(more)?;
+        Ok(())
+    }
+
     /// Makes room for the key and each key below it.
     pub(crate) fn reserve_key(&mut self, key: usize) -> Result<(), NoMemory>
         requires { key < 2 ^ 63 }

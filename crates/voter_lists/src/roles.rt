@@ -1,5 +1,5 @@
 //! The roles of accounts, after Substrate's staking pallet.
-ghost use Rattle.std.specs.Prelude.{◌≡◌, ◌≢◌, ◌<◌, ◌≤◌, [], ◌∷◌, length, None, Some, IfOk, IfErr, OnOk, OnErr, slice_get, position, is_some};
+ghost use Rattle.std.specs.Prelude.{◌≡◌, ◌≢◌, ◌<◌, ◌≤◌, ◌+◌, [], ◌∷◌, length, drop, nat_eq, None, Some, IfOk, IfErr, OnOk, OnErr, slice_get, slice_index_or, position, is_some};
 ghost use Rattle.std.specs.List.{list_any};
 ghost use Rattle.std.specs.List.Sorted.{IsStrictlySortedBy};
 ghost use Rattle.npos_base.specs.Account.{account_cmp, same_account};
@@ -22,6 +22,9 @@ use crate::targets::Targets;
 use npos_base::{AccountId, List, MOST_NOMINATIONS, MOST_VALIDATORS, NoMemory, WHOLE_FRACTION};
 use std::alloc::Global;
 use std::marker::Model;
+
+/// The classes of marks, by what is left of them behind so many.
+const CLASSES: usize = 256;
 
 /// Who is a validator and who a nominator. Contracts see the list of accounts with their standings,
 /// by rising account.
@@ -52,6 +55,15 @@ impl Roles {
             standings: Standings::new(alloc),
             validators: Vec::new(alloc),
         }
+    }
+
+    /// Makes room for the roles of so many accounts more, so that they come without a move of those
+    /// that are there. What is not used of it stays untouched.
+    pub fn reserve(&mut self, more: usize) -> Result<(), NoMemory>
+        ensures { self.new ≡ self.old }
+    {
+        self.standings.reserve(more)?;
+        Ok(())
     }
 
     /// The account becomes a nominator of these targets, in place of any role that it had.
@@ -327,16 +339,27 @@ fn repeats_account(accounts: &[AccountId]) -> bool
     false
 }
 
-/// Whether some mark stands twice. The marks are few.
+/// Whether some mark stands twice. It goes from the last mark to the first, and mostly the classes of
+/// those behind a mark tell that it is none of them.
 fn repeats_mark(marks: &[u32]) -> bool
     ensures { result ≡ has_repeated_mark marks.now }
 {
-    let mut rest = marks;
-    while let Some((first, others)) = rest.split_first() {
-        if others.contains(first) {
+    let mut is_met = [false; CLASSES];
+    for i in (0..marks.len()).rev() {
+        let class = marks[i] as usize % CLASSES;
+        if is_met[class] && stands_again(marks, i) {
             return true;
         }
-        rest = others;
+        is_met[class] = true;
     }
     false
+}
+
+/// Whether the mark at this place stands behind it again.
+fn stands_again(marks: &[u32], i: usize) -> bool
+    requires { i < length marks.now }
+    ensures { result ≡ list_any (λ other. nat_eq other (slice_index_or marks.now i 0))
+        (drop (i + 1) marks.now) }
+{
+    marks[i + 1..].contains(&marks[i])
 }

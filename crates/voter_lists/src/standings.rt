@@ -52,6 +52,15 @@ impl Standings {
         }
     }
 
+    /// Makes room for so many accounts more.
+    pub(crate) fn reserve(&mut self, more: usize) -> Result<(), NoMemory>
+        ensures { self.new ≡ self.old }
+    {
+        self.places.reserve(more)?;
+        self.rows.reserve(more)?;
+        Ok(())
+    }
+
     /// How many accounts have a place: at least as many as have a standing.
     pub(crate) fn count(&self) -> usize
         ensures count { result ≡ length self.now.accounts }
