@@ -1,8 +1,9 @@
 -- The tables of a checker. What they hold between two checks says nothing.
-use Rattle.std.specs.Prelude.{◌≡◌, ℕ, ◌*◌, Bool, false, not, ◌&&◌, nat_le, List, length, sum_by, slice_index_or, Option, option_map, find}
+use Rattle.std.specs.Prelude.{◌≡◌, ℕ, ◌*◌, ◌≤◌, Bool, false, not, ◌&&◌, nat_le, List, length, sum_by, slice_index_or, Option, option_map, find}
 use Rattle.std.specs.List.{range_with_len}
+use Rattle.std.specs.Vec.{vec_capacity}
 use Rattle.npos_base.specs.declared.limits.TheConstants.{MOST_NOMINATIONS}
-use Rattle.election_snapshot.specs.Snapshot.{Snapshot, has}
+use Rattle.election_snapshot.specs.Snapshot.{Snapshot}
 use Rattle.weight_book.specs.Passing.{nominators}
 pub use Rattle.seat_race.specs.Tables.{AreMarks}
 use Rattle.election_check.specs.declared.fault.Fault.{Fault}
@@ -11,7 +12,7 @@ use Rattle.election_check.specs.declared.tables.Tables.{Tables}
 
 pub record AreTablesOf (snapshot : Snapshot) (tables : Tables) : Type 0 where
   pub members : length tables.is_member.items ≡ length snapshot.targets
-  pub pairs : length tables.is_seen.items ≡ length snapshot.voters * MOST_NOMINATIONS
+  pub pairs : length snapshot.voters * MOST_NOMINATIONS ≤ vec_capacity tables.is_seen
   pub stakes : length tables.left.items ≡ length snapshot.voters
   pub prescores : length tables.prescores.items ≡ length snapshot.targets
   pub entries : length tables.has_entry.items ≡ length snapshot.voters

@@ -10,10 +10,10 @@ ghost use Rattle.election_check.specs.Seats.{IsReordered};
 use crate::fault::Fault;
 use crate::plain::{check_edges, check_members, check_spending};
 use crate::prescores::{check_prescores, check_size};
-use crate::tables::Tables;
+use crate::tables::{Tables, lay};
 use crate::{Elected, Verdict};
 use election_snapshot::Snapshot;
-use npos_base::NoMemory;
+use npos_base::{MOST_NOMINATIONS, NoMemory};
 use std::alloc::Global;
 use std::marker::Model;
 use weight_book::Weights;
@@ -84,6 +84,10 @@ impl Checker {
     {
         let Checker { snapshot, tables } = self;
         check_members(snapshot, weights.committee(), &mut tables.is_member)?;
+        lay(
+            &mut tables.is_seen,
+            snapshot.voter_count() * MOST_NOMINATIONS,
+        );
         check_edges(snapshot, weights, &tables.is_member, &mut tables.is_seen)?;
         check_spending(snapshot, weights.edges(), &mut tables.left)?;
         check_size(snapshot, weights)?;

@@ -43,16 +43,18 @@ pub(crate) fn check_prescores(
         snapshot,
         weights,
         &mut tables.is_member,
+        &mut tables.rates,
         &mut tables.left,
         &mut tables.prescores,
     )
 }
 
-/// The same, by tables of members, slacks and prescores.
+/// The same, by tables of members, rates, slacks and prescores.
 fn check_outside(
     snapshot: &Snapshot,
     weights: &Weights,
     is_member: &mut [bool],
+    rates: &mut [u64],
     left: &mut [u64],
     prescores: &mut [u64],
 ) -> Result<(), Fault>
@@ -62,10 +64,12 @@ fn check_outside(
     requires targets { length prescores.old ≡ length snapshot.now.targets }
     ensures { result ≡ answer_of (outweighed snapshot.now weights.now.plain) }
 {
+    let seat_price = snapshot.threshold();
     mark(weights.committee(), is_member);
-    fill_slacks(snapshot, weights, left);
+    fill_rates(seat_price, weights, rates);
+    fill_slacks(snapshot, weights, rates, left);
     fill_sums(snapshot, left, prescores);
-    check_reached(snapshot.threshold(), is_member, prescores)
+    check_reached(seat_price, is_member, prescores)
 }
 
 /// Marks the members alone.
@@ -79,8 +83,29 @@ fn mark(members: &[u16], is_member: &mut [bool])
     }
 }
 
+/// By member, what its edges pay of each unit, in parts of 2^64, where they do not pay all. A payment
+/// is guessed by it, and nothing rests on that.
+fn fill_rates(price: u64, weights: &Weights, rates: &mut [u64]) {
+    for member in weights.committee() {
+        if let Some(rate) = rates.get_mut(usize::from(*member)) {
+            *rate = rate_of(price, weights.support(*member));
+        }
+    }
+}
+
+/// The price by the support, in parts of 2^64 and rounded down.
+fn rate_of(price: u64, support: u128) -> u64 {
+    if support <= u128::from(price) {
+        return u64::MAX;
+    }
+    match u64::try_from(u128::from(price) * (1 << 64) / support) {
+        Ok(rate) => rate,
+        Err(_) => u64::MAX,
+    }
+}
+
 /// By voter, its stake less what its edges pay.
-fn fill_slacks(snapshot: &Snapshot, weights: &Weights, left: &mut [u64])
+fn fill_slacks(snapshot: &Snapshot, weights: &Weights, rates: &[u64], left: &mut [u64])
     requires feasible { IsFeasible snapshot.now weights.now.plain }
     requires stakes { length left.old ≡ length snapshot.now.voters }
     ensures { (voter : ℕ) → voter < length snapshot.now.voters
@@ -89,19 +114,50 @@ fn fill_slacks(snapshot: &Snapshot, weights: &Weights, left: &mut [u64])
     let price = snapshot.threshold();
     left.copy_from_slice(snapshot.stakes());
     for edge in weights.edges() {
-        left[edge.voter as usize] -= pay(edge, price, weights.support(edge.target));
+        let guess = guess_of(edge, rates);
+        left[edge.voter as usize] -= pay(edge, price, weights.support(edge.target), guess);
+    }
+}
+
+/// The guess of what an edge pays.
+fn guess_of(edge: &Edge, rates: &[u64]) -> u64 {
+    match rates.get(usize::from(edge.target)) {
+        Some(rate) => (u128::from(edge.amount) * u128::from(*rate) >> 64) as u64,
+        None => 0,
     }
 }
 
 /// The edge's part of the price of its member's seat, rounded down.
-fn pay(edge: &Edge, price: u64, support: u128) -> u64
+fn pay(edge: &Edge, price: u64, support: u128, guess: u64) -> u64
     requires { edge.now.amount ≤ support }
     ensures { result ≡ edge.now.amount * min price support / support }
 {
     if support <= u128::from(price) {
         return edge.amount;
     }
-    (u128::from(edge.amount) * u128::from(price) / support) as u64
+    let product = u128::from(edge.amount) * u128::from(price);
+    match u64::try_from(support) {
+        Ok(support) => quotient(product, support, guess) as u64,
+        Err(_) => (product / support) as u64,
+    }
+}
+
+/// How many times the divisor goes into the number. Mostly that is the guess or one more, which a
+/// product tells; a division takes several times as long.
+fn quotient(number: u128, divisor: u64, guess: u64) -> u128
+    requires { 0 < divisor }
+    ensures { result ≡ number / divisor }
+{
+    let (divisor, guess) = (u128::from(divisor), u128::from(guess));
+    if let Some(rest) = number.checked_sub(guess * divisor) {
+        if rest < divisor {
+            return guess;
+        }
+        if rest - divisor < divisor {
+            return guess + 1;
+        }
+    }
+    number / divisor
 }
 
 /// Tells the lowest target that is not marked and whose prescore reaches the price of a seat.

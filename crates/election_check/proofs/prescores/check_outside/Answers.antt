@@ -13,6 +13,6 @@ returns c =
     let marked : AreMarks c.mark.new.is_member c.args.weights.now.plain.committee = rw (sym c.committee.ensures) c.mark.ensures in
     let size : length c.fill_sums.new.sums ≡ length c.args.snapshot.now.targets = search rules in
     c.check_reached.ensures
-    ∙ ap (λ price. answer_of (reached price c.mark.new.is_member c.fill_sums.new.sums)) c.threshold.ensures.threshold
+    ∙ ap (λ price. answer_of (reached price c.mark.new.is_member c.fill_sums.new.sums)) c.threshold-seat_price.ensures.threshold
     ∙ ap answer_of (reached_is_outweighed snapshot plain c.mark.new.is_member c.fill_sums.new.sums marked
     (λ target h. c.fill_sums.ensures target h ∙ left_is_prescore (threshold snapshot) snapshot plain.edges c.fill_slacks.new.left c.fill_slacks.ensures target) size)
