@@ -1,4 +1,5 @@
 pub mod ElectionLaws
+pub mod ReadingLemmas
 pub mod MineLaws
 pub mod SpelledLaws
 pub mod MinedLaws

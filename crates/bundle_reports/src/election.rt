@@ -10,7 +10,10 @@ use npos_base::{AccountId, NoMemory};
 use std::alloc::Global;
 
 /// Adds the targets in order, up to the first fault.
-fn add_targets(builder: &mut SnapshotBuilder, targets: &[AccountId]) -> Result<(), SnapshotFault>
+pub fn add_targets(
+    builder: &mut SnapshotBuilder,
+    targets: &[AccountId],
+) -> Result<(), SnapshotFault>
     ensures done { OnOk result (with_targets targets.now builder.old ≡ Ok builder.new) }
     ensures fault { IfErr result (λ fault. fault ≢ NoMemoryFault
         → with_targets targets.now builder.old ≡ Err fault) }
@@ -22,7 +25,7 @@ fn add_targets(builder: &mut SnapshotBuilder, targets: &[AccountId]) -> Result<(
 }
 
 /// Adds one voter.
-fn add_voter(builder: &mut SnapshotBuilder, voter: &BundleVoter) -> Result<(), SnapshotFault>
+pub fn add_voter(builder: &mut SnapshotBuilder, voter: &BundleVoter) -> Result<(), SnapshotFault>
     ensures { Meets NoMemoryFault (fault_of builder.old voter.now)
         (draft_with builder.old voter.now) builder.old builder.new result }
 {

@@ -3,10 +3,12 @@
 
 mod answers;
 mod asked;
+mod bundle_parts;
 mod checking;
 mod demo;
 mod election;
 mod ending;
+mod growing;
 pub mod laws;
 mod mining;
 mod numbers;

@@ -1,15 +1,15 @@
 //! The election that the bytes of a bundle spell.
-ghost use Rattle.std.specs.Prelude.{◌≡◌, Ok, Err, IfOk};
-ghost use Rattle.bundle_reports.specs.Bundles.{read_election, election_in};
+ghost use Rattle.std.specs.Prelude.{IfOk};
+ghost use Rattle.bundle_reports.specs.Bundles.{election_in};
 ghost use Rattle.bundle_reports.specs.Answer.{IsReading};
+ghost use Rattle.bundle_reports.specs.Growing.{IsReadingOf};
 
 use crate::answers::{Answer, long, refused, unelectable};
-use crate::election::snapshot_of;
-use block_wire::{Bundle, Work};
-use election_snapshot::{Snapshot, SnapshotFault};
+use crate::bundle_parts::{Parts, read_parts};
+use block_wire::Work;
+use election_snapshot::Snapshot;
 use npos_base::NoMemory;
 use scale_wire::fault::ReadFault;
-use scale_wire::read_whole;
 use std::alloc::Global;
 
 /// The most bytes of a bundle.
@@ -29,15 +29,17 @@ pub enum Reading {
     Refused(Answer),
 }
 
-/// The election of a bundle. Its targets and voters go once the election is built.
-fn read_bundle(alloc: Global, bundle: Bundle) -> Result<Reading, NoMemory>
-    ensures { IfOk result (IsReading (read_election (Ok bundle))) }
+/// The election of a bundle, of which these parts are kept.
+fn reading_of(alloc: Global, parts: Parts) -> Result<Reading, NoMemory>
+    ensures { IfOk result (λ reading. IsReadingOf parts reading) }
 {
-    let built = snapshot_of(alloc, &bundle);
-    let Bundle { work, .. } = bundle;
-    match built {
+    let Parts {
+        seats,
+        growing,
+        work,
+    } = parts;
+    match growing.finish(seats) {
         Ok(snapshot) => Ok(Reading::Stands(Election { snapshot, work })),
-        Err(SnapshotFault::NoMemory) => Err(NoMemory),
         Err(fault) => Ok(Reading::Refused(unelectable(alloc, fault)?)),
     }
 }
@@ -49,10 +51,10 @@ pub fn read_election(alloc: Global, bytes: Vec<u8>) -> Result<Reading, NoMemory>
     if bytes.len() > MOST_BUNDLE {
         return Ok(Reading::Refused(long(alloc)?));
     }
-    let read = read_whole::<Bundle>(alloc, bytes.as_slice());
+    let read = read_parts(alloc, bytes.as_slice());
     drop(bytes);
     match read {
-        Ok(bundle) => read_bundle(alloc, bundle),
+        Ok(parts) => reading_of(alloc, parts),
         Err(ReadFault::Wire(fault)) => Ok(Reading::Refused(refused(alloc, fault)?)),
         Err(ReadFault::NoMemory) => Err(NoMemory),
     }
