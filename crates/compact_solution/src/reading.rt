@@ -183,7 +183,7 @@ fn read_shares(
     let mut here = cursor.fork();
     let mut shares = Vec::with_capacity(alloc, count)?;
     for _ in 0..count {
-        shares.push(take_share(&mut here)?)?;
+        shares.push_reserved(take_share(&mut here)?);
     }
     *cursor = here;
     Ok(List::from_vec(shares))

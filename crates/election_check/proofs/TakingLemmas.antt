@@ -1,9 +1,9 @@
 -- A packed solution while its entries are taken.
-use Rattle.std.proofs.Common.{◌≡◌, ℕ, zero, suc, ◌+◌, ◌-◌, ◌*◌, ◌/◌, ◌%◌, ◌<◌, ◌≤◌, Bool, true, false, cond, ◌||◌, nat_eq, nat_lt, nat_le, List, [], ◌∷◌, ◌++◌, length, take, drop, filter, get_or, Option, Some, None, find, All, inl, inr, refl, sym, ap, ◌∙◌, subst, lit<, append-nil, append_assoc, length-append, slice_set, arith}
+use Rattle.std.proofs.Common.{◌≡◌, ℕ, zero, suc, ◌+◌, ◌-◌, ◌*◌, ◌/◌, ◌%◌, ◌<◌, ◌≤◌, Bool, true, false, cond, not, ◌||◌, nat_eq, nat_lt, nat_le, List, [], ◌∷◌, ◌++◌, length, take, drop, filter, get_or, Option, Some, None, find, All, inl, inr, refl, sym, ap, ◌∙◌, subst, lit<, append-nil, append_assoc, length-append, slice_set, arith}
 use Rattle.std.specs.Prelude.{if◌then◌else◌, Ok, Err}
 use Rattle.std.specs.List.{range_with_len}
 use Rattle.std.proofs.Math.Nat.{mul-add-div_right}
-use Rattle.std.proofs.lemmas.Bool.{cases_Bool, true≢false, or_left, or_right, eqb-true, eq-eqb, lt-ltb, leb-false}
+use Rattle.std.proofs.lemmas.Bool.{cases_Bool, true≢false, or_left, or_right, eqb-true, eq-eqb, lt-ltb, lt-leb, leb-false}
 use Rattle.std.proofs.Math.Bool.{or-false}
 use Rattle.std.proofs.Math.Seq.{drop-cons}
 use Rattle.std.proofs.lemmas.List.{map-append, take_more, take-append-drop, get_or-set_other}
@@ -12,7 +12,8 @@ use Rattle.std.proofs.lemmas.List.Elements.{filter_agree}
 use Rattle.std.proofs.lemmas.List.Sums.{length-filter, count_by-le-length}
 use Rattle.std.proofs.lemmas.List.FromFn.{length-range_with_len}
 use Rattle.std.proofs.lemmas.Grind.{flat_map-append, get_or-set_at}
-use Rattle.election_snapshot.specs.Snapshot.{Snapshot, has, stake_of}
+use Rattle.election_snapshot.specs.Snapshot.{Snapshot, IsWellFormed, nobody, has, nominates, stake_of, votes_of}
+use Rattle.election_snapshot.proofs.HasLemmas.{all_has}
 use Rattle.npos_base.specs.declared.figures.Edge.{Edge}
 use Rattle.weight_book.specs.Weights.{Weights}
 use Rattle.weight_book.specs.Room.{WeightBook, HasRoom, KeepsRoom, vote_count}
@@ -48,6 +49,23 @@ pub targets_known : (snapshot : Snapshot) (entry : Entry) → find (λ target. n
 targets_known snapshot entry none k d below =
     leb-false (length snapshot.targets) (get_or (targets_of entry) k d)
     (find_none_all (λ target. nat_le (length snapshot.targets) target) (targets_of entry) none k d below)
+
+-- where all targets are among the votes, none is past the last target of the snapshot, since no vote is
+nominated_known : (votes : List ℕ) (n : ℕ) → All (λ vote. vote < n) votes → (targets : List ℕ) → find (λ target. not (has votes target)) targets ≡ None
+    → find (λ target. nat_le n target) targets ≡ None
+nominated_known votes n within [] none = refl
+nominated_known votes n within (target ∷ targets) none = elim (cases_Bool (has votes target)) [
+  | inl t ↦
+      let below : target < n = all_has (λ (vote : ℕ). vote < n) votes target within t in
+      rw (lt-leb n target below) (nominated_known votes n within targets (rw t at none))
+  | inr t ↦ absurd (let some : Some target ≡ None = rw t at none in cc)
+]
+
+-- an entry none of whose targets is a stray one has none that is unknown
+pub none_unknown : (snapshot : Snapshot) (entry : Entry) → IsWellFormed snapshot → entry.voter < length snapshot.voters
+    → find (λ target. not (nominates snapshot entry.voter target)) (targets_of entry) ≡ None → find (λ target. nat_le (length snapshot.targets) target) (targets_of entry) ≡ None
+none_unknown snapshot entry formed voter none =
+    nominated_known (votes_of snapshot entry.voter) (length snapshot.targets) (formed.voters.each_voter entry.voter nobody voter).votes_in_range (targets_of entry) none
 
 -- ## Members
 

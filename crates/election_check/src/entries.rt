@@ -1,7 +1,7 @@
 //! The steps of a check of a packed solution: its entries, their edges, the listed targets.
 ghost use Rattle.std.specs.Prelude.{◌≡◌, ◌≢◌, ◌<◌, ◌≤◌, ◌+◌, ◌*◌, ◌/◌, ◌++◌, [], ℕ, None, true, false, nat_lt, if◌then◌else◌, length, filter, find, not, nat_le, sum, take, slice_index_or, slice_set, IfNone, OnOk, All};
 ghost use Rattle.std.specs.List.{range_with_len};
-ghost use Rattle.election_snapshot.specs.Snapshot.{has, nominates};
+ghost use Rattle.election_snapshot.specs.Snapshot.{IsWellFormed, has, nominates};
 ghost use Rattle.weight_book.specs.Weights.{no_weights, IsFeasible};
 ghost use Rattle.weight_book.specs.Room.{HasRoom, KeepsRoom};
 ghost use Rattle.compact_solution.specs.Solution.{targets_of, parts_of, entries_of};
@@ -192,7 +192,8 @@ fn check_entry(
     if voter as usize >= snapshot.voter_count() {
         return Err(Fault::NoVoter(voter));
     }
-    if let Some(target) = first_unknown(snapshot, entry) {
+    let stray = first_unnominated(snapshot, entry);
+    if let Some(target) = first_unknown(snapshot, entry, stray) {
         return Err(Fault::NoTarget(target));
     }
     if has_entry[voter as usize] {
@@ -201,7 +202,7 @@ fn check_entry(
     if let Some(target) = stamp_targets(entry, voter + 1, stamps) {
         return Err(Fault::TargetTwice(target));
     }
-    if let Some(target) = first_unnominated(snapshot, entry) {
+    if let Some(target) = stray {
         return Err(Fault::NotNominated { voter, target });
     }
     if has_bad_share(entry) {
@@ -211,12 +212,27 @@ fn check_entry(
     Ok(())
 }
 
-/// The first target past the last one of the snapshot.
-fn first_unknown(snapshot: &Snapshot, entry: &Entry) -> Option<u16>
+/// The first target past the last one of the snapshot. There is none where the voter nominates all
+/// of them, and then no target is looked at.
+fn first_unknown(snapshot: &Snapshot, entry: &Entry, stray: Option<u16>) -> Option<u16>
+    requires well_formed { IsWellFormed snapshot.now }
+    requires voter { entry.now.voter < length snapshot.now.voters }
+    requires stray { stray
+        ≡ find (λ target. not (nominates snapshot.now entry.now.voter target))
+        (targets_of entry.now) }
     ensures { result
         ≡ find (λ target. nat_le (length snapshot.now.targets) target) (targets_of entry.now) }
 {
-    let count = snapshot.target_count();
+    match stray {
+        Some(_) => first_beyond(snapshot.target_count(), entry),
+        None => None,
+    }
+}
+
+/// The first target that is not below this count.
+fn first_beyond(count: usize, entry: &Entry) -> Option<u16>
+    ensures { result ≡ find (λ target. nat_le count target) (targets_of entry.now) }
+{
     for share in entry.shares() {
         if usize::from(share.target) >= count {
             return Some(share.target);
@@ -262,16 +278,28 @@ fn first_unnominated(snapshot: &Snapshot, entry: &Entry) -> Option<u16>
         (targets_of entry.now) }
 {
     let votes = snapshot.votes(entry.voter());
-    for share in entry.shares() {
-        if !is_vote(votes, share.target) {
+    for (place, share) in entry.shares().iter().enumerate() {
+        if !is_vote_near(votes, place, share.target) {
             return Some(share.target);
         }
     }
     let last = entry.last();
-    if is_vote(votes, last) {
+    if is_vote_near(votes, entry.shares().len(), last) {
         None
     } else {
         Some(last)
+    }
+}
+
+/// Whether the target is among the votes. An entry mostly names all votes in their order, so the
+/// one at its own place is looked at first; nothing rests on it.
+#[inline(always)]
+fn is_vote_near(votes: &[u16], place: usize, target: u16) -> bool
+    ensures { result ≡ has votes.now target }
+{
+    match votes.get(place) {
+        Some(vote) if *vote == target => true,
+        _ => is_vote(votes, target),
     }
 }
 

@@ -22,13 +22,28 @@ const NO_WORDS: u8 = 7;
 /// much that it does not use.
 const KEPT_BLOCK: usize = 2_000_000;
 
+/// What is kept where work is checked: the edges of the largest solution take 4 MB, and they come
+/// where the bytes of the bundle were.
+const KEPT_IN_A_CHECK: usize = 4_300_000;
+
+/// Up to which size blocks are kept in a run over these words.
+fn kept_block(words: &Result<Vec<String>, u8>) -> usize {
+    let Ok(words) = words else {
+        return KEPT_BLOCK;
+    };
+    match words.first() {
+        Some(word) if word.as_str() == "check" => KEPT_IN_A_CHECK,
+        _ => KEPT_BLOCK,
+    }
+}
+
 /// Asks for a large block and gives it back at once, untouched. The C library then takes blocks of
 /// that size as something that comes and goes, and keeps what is given back for what is asked for
 /// next. Else each list of some length is laid into new pages, and such a page costs more when it
 /// is touched first than all that is written to it. Nothing rests on this: where the block is
 /// refused, nothing happens.
-fn expect_large_blocks(alloc: Global) {
-    let _ = Vec::<u8>::with_capacity(alloc, KEPT_BLOCK);
+fn expect_large_blocks(alloc: Global, size: usize) {
+    let _ = Vec::<u8>::with_capacity(alloc, size);
 }
 
 /// The words of the command line, or the exit status where they cannot be had.
@@ -74,8 +89,8 @@ fn finish<S: Source, K: Sink>(
 }
 
 fn main(rt: HostRuntime) -> ExitCode {
-    expect_large_blocks(rt.alloc());
     let words = words(&rt);
+    expect_large_blocks(rt.alloc(), kept_block(&words));
     let mut source = StdinSource::new(rt.stdin());
     let mut sink = StdoutSink::new(rt.stdout());
     finish(rt.alloc(), words, &mut source, &mut sink)
