@@ -14,8 +14,8 @@ returns-in-Ok c =
     sym (subst (λ xs. insert_key account_cmp xs c.args.who ≡ xs) e
     (hit_same account_cmp account_total c.args.who c.as_slice.result.now c.in-Ok.field-0 c.in-Ok.ensures.bound (subst (λ xs. IsStrictlySortedBy account_cmp xs) (sym e) c.requires.rising) c.in-Ok.ensures.ok))
 
-pub returns-in-Ok-insert : goal.returns-in-Ok-insert
-returns-in-Ok-insert c =
+pub returns-in-Err : goal.returns-in-Err
+returns-in-Err c =
     let e = c.as_slice.ensures.value in
-    c.in-Ok-insert.ensures.items ∙ subst (λ xs. insert xs c.in-Err.place c.args.who ≡ insert_key account_cmp xs c.args.who) e
+    c.put_at.ensures ∙ subst (λ xs. insert xs c.in-Err.place c.args.who ≡ insert_key account_cmp xs c.args.who) e
     (missed account_cmp account_total c.args.who c.as_slice.result.now c.in-Err.place c.in-Err.ensures.bound (subst (λ xs. IsStrictlySortedBy account_cmp xs) (sym e) c.requires.rising) c.in-Err.ensures.position)
