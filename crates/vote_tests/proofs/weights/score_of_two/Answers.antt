@@ -1,7 +1,7 @@
 use Rattle.std.proofs.Common.{arith, ◌≡◌, [], ◌∷◌, nat_eq, refl, ap, ◌∙◌}
 use Rattle.std.specs.List.{IsDistinct}
 use Rattle.weight_book.specs.Weights.{Weights}
-use Rattle.room_tests.proofs.weights.score_of_two.Goals as goal
+use Rattle.vote_tests.proofs.weights.score_of_two.Goals as goal
 
 two_distinct : IsDistinct nat_eq (65535 ∷ 0 ∷ [])
 unfolding IsDistinct

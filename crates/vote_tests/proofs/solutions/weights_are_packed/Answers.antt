@@ -1,7 +1,7 @@
 -- The worked weights can be packed.
 use Rattle.std.proofs.Common.{[], ◌∷◌, refl}
-use Rattle.room_tests.proofs.PackTests.{packable}
-use Rattle.room_tests.proofs.solutions.weights_are_packed.Goals as goal
+use Rattle.vote_tests.proofs.PackTests.{packable}
+use Rattle.vote_tests.proofs.solutions.weights_are_packed.Goals as goal
 
 pub pack-requires : goal.pack-requires
 pack-requires g c = rw (c.edge.ensures, c.edge-2.ensures, c.edge-3.ensures) (packable (60 ∷ 40 ∷ []) (1 ∷ 0 ∷ []) _ refl)

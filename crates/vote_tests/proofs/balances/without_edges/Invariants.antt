@@ -1,5 +1,5 @@
 use Rattle.std.proofs.Common.{◌≡◌}
-use Rattle.room_tests.proofs.balances.without_edges.Given as goal
+use Rattle.vote_tests.proofs.balances.without_edges.Given as goal
 
 -- the backing is one of this election
 abbrev pub invariant-loop-member : goal.invariant-loop-member
