@@ -31,6 +31,14 @@ fn fault_of(alloc: Global, seats: u32) -> Result<Option<SnapshotFault>, Snapshot
     }
 }
 
+/// The election of this many seats.
+fn finished(builder: SnapshotBuilder, seats: u32) -> Result<Snapshot, Fail> {
+    match builder.finish(seats) {
+        Ok(snapshot) => Ok(snapshot),
+        Err(_) => Err(Fail::from("no snapshot")),
+    }
+}
+
 /// As many targets or voters as a snapshot takes.
 fn full(alloc: Global, targets: u16, voters: u16) -> Result<SnapshotBuilder, SnapshotFault> {
     let mut builder = SnapshotBuilder::new(alloc);
@@ -43,65 +51,88 @@ fn full(alloc: Global, targets: u16, voters: u16) -> Result<SnapshotBuilder, Sna
     Ok(builder)
 }
 
-#[test]
-fn a_snapshot_has_what_was_added(rt: HostRuntime) -> Result<(), Fail> {
-    let mut builder = two_voters(rt.alloc())?;
-    let mut parts = SnapshotParts::new(rt.alloc());
-    assert_eq!(rt; parts.reserve(2), Ok(()));
-    assert_eq!(rt; builder.reserve(2), Ok(()));
-    assert_eq!(rt; builder.position(at(3)), Some(2));
-    let Ok(snapshot) = builder.finish(2) else {
-        return Err(Fail::from("no snapshot"));
-    };
-    assert_eq!(rt; snapshot.target_count(), 3);
-    assert_eq!(rt; snapshot.target(2), at(3));
-    assert_eq!(rt; snapshot.voter_count(), 2);
-    assert_eq!(rt; snapshot.voter(1), at(5));
-    assert_eq!(rt; snapshot.stake(1), 40);
-    assert_eq!(rt; snapshot.stakes(), [60, 40].as_slice());
-    assert_eq!(rt; snapshot.votes(1), [1].as_slice());
-    assert!(rt; snapshot.nominates(0, 0) && !snapshot.nominates(0, 1));
-    assert_eq!(rt; snapshot.seats(), 2);
-    assert_eq!(rt; snapshot.total(), 100);
-    assert_eq!(rt; snapshot.threshold(), 50);
-    Ok(())
+/// Whether the targets and the seats are those that were added.
+fn has_the_targets(snapshot: &Snapshot) -> bool {
+    snapshot.target_count() == 3 && snapshot.target(2) == at(3) && snapshot.seats() == 2
+}
+
+/// Whether the voters and their stakes are those that were added.
+fn has_the_voters(snapshot: &Snapshot) -> bool {
+    snapshot.voter_count() == 2
+        && snapshot.voter(1) == at(5)
+        && snapshot.stake(1) == 40
+        && snapshot.stakes() == [60, 40].as_slice()
+}
+
+/// Whether the votes are those that were added.
+fn has_the_votes(snapshot: &Snapshot) -> bool {
+    snapshot.voter_count() == 2
+        && snapshot.target_count() == 3
+        && snapshot.votes(1) == [1].as_slice()
+        && snapshot.nominates(0, 0)
+        && !snapshot.nominates(0, 1)
+}
+
+/// Whether room can be asked for, and the last target is found.
+fn has_room(alloc: Global, builder: &mut SnapshotBuilder) -> bool {
+    let mut parts = SnapshotParts::new(alloc);
+    parts.reserve(2).is_ok() && builder.reserve(2).is_ok() && builder.position(at(3)) == Some(2)
 }
 
 #[test]
+fn a_snapshot_has_what_was_added(rt: HostRuntime) -> Result<(), Fail> {
+    let mut builder = two_voters(rt.alloc())?;
+    assert!(rt; has_room(rt.alloc(), &mut builder));
+    let snapshot = finished(builder, 2)?;
+    assert!(rt; has_the_targets(&snapshot));
+    assert!(rt; has_the_voters(&snapshot));
+    assert!(rt; has_the_votes(&snapshot));
+    assert_eq!(rt; (snapshot.total(), snapshot.threshold()), (100, 50));
+    Ok(())
+}
+
+/// Numbers of seats for two voters of 100 and three targets, and the fault of each.
+static SEATS: [(u32, Option<SnapshotFault>); 4] = [
+    (0, Some(SnapshotFault::BadSeats(0))),
+    (513, Some(SnapshotFault::BadSeats(513))),
+    (
+        4,
+        Some(SnapshotFault::Few {
+            targets: 3,
+            seats: 4,
+        }),
+    ),
+    (3, None),
+];
+
+#[test]
 fn seats_are_refused_for_their_first_fault(rt: HostRuntime) -> Result<(), Fail> {
-    let few = SnapshotFault::Few {
-        targets: 3,
-        seats: 4,
-    };
-    assert_eq!(rt; fault_of(rt.alloc(), 0)?, Some(SnapshotFault::BadSeats(0)));
-    assert_eq!(rt;
-        fault_of(rt.alloc(), 513)?,
-        Some(SnapshotFault::BadSeats(513))
-    );
-    assert_eq!(rt; fault_of(rt.alloc(), 4)?, Some(few));
-    assert_eq!(rt; fault_of(rt.alloc(), 3)?, None);
+    for (seats, fault) in &SEATS {
+        assert_eq!(rt; fault_of(rt.alloc(), *seats)?, *fault);
+    }
     let poor = SnapshotFault::Poor { total: 3, seats: 2 };
     let builder = full(rt.alloc(), 2, 3)?;
     assert!(rt; matches!(builder.finish(2), Err((_, fault)) if fault == poor));
     Ok(())
 }
 
+/// Voters that are refused behind two others: account, stake, votes and fault.
+static REFUSED: [(u16, u64, &[u16], SnapshotFault); 8] = [
+    (4, 0, &[], SnapshotFault::RepeatedVoter(2)),
+    (6, 0, &[], SnapshotFault::ZeroStake(2)),
+    (6, 1, &[], SnapshotFault::NoVotes(2)),
+    (6, 1, &[0; 25], SnapshotFault::TooManyVotes(2)),
+    (6, 1, &[0, 0, 3], SnapshotFault::UnknownTarget(2)),
+    (6, u64::MAX, &[0, 1, 0], SnapshotFault::RepeatedVote(2)),
+    (6, u64::MAX - 99, &[0], SnapshotFault::TotalTooLarge(2)),
+    (5, 1, &[0], SnapshotFault::RepeatedVoter(2)),
+];
+
 #[test]
 fn voters_are_refused_for_their_first_fault(rt: HostRuntime) -> Result<(), Fail> {
     let mut builder = two_voters(rt.alloc())?;
-    let many = [0; 25];
-    let table: [(AccountId, u64, &[u16], SnapshotFault); 8] = [
-        (at(4), 0, &[], SnapshotFault::RepeatedVoter(2)),
-        (at(6), 0, &[], SnapshotFault::ZeroStake(2)),
-        (at(6), 1, &[], SnapshotFault::NoVotes(2)),
-        (at(6), 1, &many, SnapshotFault::TooManyVotes(2)),
-        (at(6), 1, &[0, 0, 3], SnapshotFault::UnknownTarget(2)),
-        (at(6), u64::MAX, &[0, 1, 0], SnapshotFault::RepeatedVote(2)),
-        (at(6), u64::MAX - 99, &[0], SnapshotFault::TotalTooLarge(2)),
-        (at(5), 1, &[0], SnapshotFault::RepeatedVoter(2)),
-    ];
-    for (who, stake, votes, fault) in table {
-        assert_eq!(rt; builder.add_voter(who, stake, votes), Err(fault));
+    for (who, stake, votes, fault) in &REFUSED {
+        assert_eq!(rt; builder.add_voter(at(*who), *stake, votes), Err(*fault));
     }
     assert_eq!(rt;
         builder.add_target(at(2)),
@@ -123,10 +154,8 @@ fn a_voter_has_up_to_24_votes(rt: HostRuntime) -> Result<(), Fail> {
         builder.add_voter(at(2), 1, &votes),
         Err(SnapshotFault::TooManyVotes(1))
     );
-    let Ok(snapshot) = builder.finish(1) else {
-        return Err(Fail::from("no snapshot"));
-    };
-    assert_eq!(rt; snapshot.votes(0), most);
+    let snapshot = finished(builder, 1)?;
+    assert!(rt; snapshot.voter_count() == 1 && snapshot.votes(0) == most);
     Ok(())
 }
 
