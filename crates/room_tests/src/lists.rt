@@ -51,16 +51,19 @@ fn the_walk_goes_from_the_highest_bag_down(rt: HostRuntime) -> Result<(), Fail> 
     assert!(rt; walks(&bags, &[at(4), at(3), at(1), at(2), at(5)]));
     assert_eq!(rt; bags.put_in_front(at(2), 100, at(1), 50), Ok(()));
     assert!(rt; walks(&bags, &[at(4), at(3), at(2), at(1), at(5)]));
-    assert_eq!(rt;
-        bags.put_in_front(at(5), 70, at(2), 100),
-        Err(ListRefusal::NotHeavier)
-    );
-    assert_eq!(rt;
-        bags.put_in_front(at(1), 50, at(3), 101),
-        Err(ListRefusal::OtherBag)
-    );
-    assert_eq!(rt; bags.rebag(at(1), 50), Err(ListRefusal::SameBag));
-    assert_eq!(rt; bags.rebag(at(6), 50), Err(ListRefusal::NotListed));
+    Ok(())
+}
+
+#[test]
+fn moves_are_refused(rt: HostRuntime) -> Result<(), Fail> {
+    let mut bags = five_in_bags(rt.alloc())?;
+    bags.put_in_front(at(2), 100, at(1), 50)?;
+    let lighter = bags.put_in_front(at(5), 70, at(2), 100);
+    assert!(rt; lighter == Err(ListRefusal::NotHeavier));
+    let apart = bags.put_in_front(at(1), 50, at(3), 101);
+    assert!(rt; apart == Err(ListRefusal::OtherBag));
+    assert!(rt; bags.rebag(at(1), 50) == Err(ListRefusal::SameBag));
+    assert!(rt; bags.rebag(at(6), 50) == Err(ListRefusal::NotListed));
     Ok(())
 }
 
@@ -78,44 +81,76 @@ fn accounts_move_and_leave(rt: HostRuntime) -> Result<(), Fail> {
     Ok(())
 }
 
-#[test]
-fn roles_come_and_go(rt: HostRuntime) -> Result<(), Fail> {
-    let alloc = rt.alloc();
+/// The accounts of the two validators.
+const ONE: AccountId = AccountId { hi: 0, lo: 1 };
+
+const TWO: AccountId = AccountId { hi: 0, lo: 2 };
+
+/// Accounts, the role of each and whom it names, where the first two validate and two nominate.
+static TOLD: [(u8, Role, &[AccountId]); 5] = [
+    (2, Role::Validator { commission: 7 }, &[]),
+    (1, Role::Validator { commission: 9 }, &[]),
+    (3, Role::Nominator, &[TWO, ONE]),
+    (4, Role::Nominator, &[ONE]),
+    (9, Role::Nobody, &[]),
+];
+
+/// Two validators.
+fn two_validators(alloc: Global) -> Result<Roles, Fail> {
     let mut roles = Roles::new(alloc);
-    assert_eq!(rt; roles.validate(at(2), 7), Ok(()));
-    assert_eq!(rt; roles.validate(at(1), 9), Ok(()));
-    assert_eq!(rt; roles.validator_count(), 2);
-    assert_eq!(rt; roles.validator_at(0), at(1));
-    assert_eq!(rt;
-        roles.nominate(at(3), list_of(alloc, &[at(2), at(1)])?),
-        Ok(())
-    );
-    let named = roles.targets_of(at(3)).to_list(alloc)?;
-    assert_eq!(rt; named.as_slice(), [at(2), at(1)].as_slice());
-    assert_eq!(rt; roles.nominate(at(4), list_of(alloc, &[at(1)])?), Ok(()));
+    roles.validate(TWO, 7)?;
+    roles.validate(ONE, 9)?;
+    Ok(roles)
+}
+
+/// Two validators, and a nominator of both and one of the last.
+fn two_of_each(alloc: Global) -> Result<Roles, Fail> {
+    let mut roles = two_validators(alloc)?;
+    roles.nominate(at(3), list_of(alloc, &[TWO, ONE])?)?;
+    roles.nominate(at(4), list_of(alloc, &[ONE])?)?;
+    Ok(roles)
+}
+
+/// Whether an account has the role and names the targets of its row.
+fn is_told(
+    alloc: Global,
+    roles: &Roles,
+    guess: &mut usize,
+    row: &(u8, Role, &[AccountId]),
+) -> Result<bool, NoMemory> {
+    let (told, named) = roles.role_from(guess, at(row.0));
+    let accounts = named.to_list(alloc)?;
+    Ok(told == row.1 && accounts.as_slice() == row.2 && named.is_empty() == row.2.is_empty())
+}
+
+#[test]
+fn roles_come(rt: HostRuntime) -> Result<(), Fail> {
+    let roles = two_validators(rt.alloc())?;
+    assert!(rt; roles.validator_count() == 2 && roles.validator_at(0) == ONE);
+    Ok(())
+}
+
+#[test]
+fn roles_are_told(rt: HostRuntime) -> Result<(), Fail> {
+    let roles = two_of_each(rt.alloc())?;
+    let named = roles.targets_of(at(3)).to_list(rt.alloc())?;
+    assert!(rt; named.as_slice() == [TWO, ONE].as_slice());
     let mut guess = 0;
-    let table: [(u8, Role, &[AccountId]); 5] = [
-        (2, Role::Validator { commission: 7 }, &[]),
-        (1, Role::Validator { commission: 9 }, &[]),
-        (3, Role::Nominator, &[at(2), at(1)]),
-        (4, Role::Nominator, &[at(1)]),
-        (9, Role::Nobody, &[]),
-    ];
-    for (who, role, targets) in table {
-        let (told, named) = roles.role_from(&mut guess, at(who));
-        assert_eq!(rt; told, role);
-        assert_eq!(rt; named.to_list(alloc)?.as_slice(), targets);
-        assert_eq!(rt; named.is_empty(), targets.is_empty());
+    for row in &TOLD {
+        assert!(rt; is_told(rt.alloc(), &roles, &mut guess, row)?);
     }
     assert_eq!(rt; guess, 4);
-    assert_eq!(rt; roles.role(at(2)), Role::Validator { commission: 7 });
-    assert_eq!(rt; roles.chill(at(2)), Ok(()));
-    assert_eq!(rt; roles.role(at(2)), Role::Nobody);
-    assert_eq!(rt; roles.chill(at(2)), Err(ListRefusal::NotListed));
-    assert_eq!(rt;
-        roles.validate(at(2), 1_000_000_001),
-        Err(ListRefusal::BadFraction)
-    );
+    Ok(())
+}
+
+#[test]
+fn roles_go(rt: HostRuntime) -> Result<(), Fail> {
+    let mut roles = two_of_each(rt.alloc())?;
+    assert!(rt; roles.role(TWO) == Role::Validator { commission: 7 });
+    assert!(rt; roles.chill(TWO) == Ok(()));
+    assert!(rt; roles.role(TWO) == Role::Nobody);
+    assert!(rt; roles.chill(TWO) == Err(ListRefusal::NotListed));
+    assert!(rt; roles.validate(TWO, 1_000_000_001) == Err(ListRefusal::BadFraction));
     Ok(())
 }
 
