@@ -261,26 +261,24 @@ fn fault(alloc: Global, endowments: &[(u128, u64)], bonding_eras: u32) -> Option
     pool_of(alloc, endowments, bonding_eras).err()
 }
 
+/// Endowments, how many eras a bond stays, and the fault.
+static FAULTS: [(&[(u128, u64)], u32, Option<PoolFault>); 6] = [
+    (&[(1, 5), (1, MOST)], 0, Some(PoolFault::RepeatedAccount(1))),
+    (&[(1, 5), (POOL, MOST)], 0, Some(PoolFault::TooMuch(1))),
+    (
+        &[(1, 5), (POOL, 5), (1, 5)],
+        0,
+        Some(PoolFault::PoolEndowed(1)),
+    ),
+    (&[(1, 5)], 0, Some(PoolFault::BadBonding(0))),
+    (&[(1, 5)], 85, Some(PoolFault::BadBonding(85))),
+    (&[(1, 5)], 84, None),
+];
+
 #[test]
 fn the_first_fault_is_found(rt: HostRuntime) -> Result<(), Fail> {
-    let alloc = rt.alloc();
-    assert_eq!(rt;
-        fault(alloc, &[(1, 5), (1, MOST)], 0),
-        Some(PoolFault::RepeatedAccount(1))
-    );
-    assert_eq!(rt;
-        fault(alloc, &[(1, 5), (POOL, MOST)], 0),
-        Some(PoolFault::TooMuch(1))
-    );
-    assert_eq!(rt;
-        fault(alloc, &[(1, 5), (POOL, 5), (1, 5)], 0),
-        Some(PoolFault::PoolEndowed(1))
-    );
-    assert_eq!(rt; fault(alloc, &[(1, 5)], 0), Some(PoolFault::BadBonding(0)));
-    assert_eq!(rt;
-        fault(alloc, &[(1, 5)], 85),
-        Some(PoolFault::BadBonding(85))
-    );
-    assert_eq!(rt; fault(alloc, &[(1, 5)], 84), None);
+    for (endowments, bonding_eras, due) in &FAULTS {
+        assert_eq!(rt; fault(rt.alloc(), endowments, *bonding_eras), *due);
+    }
     Ok(())
 }
