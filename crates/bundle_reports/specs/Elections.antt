@@ -1,11 +1,10 @@
 -- The election of a bundle: its targets are added in their order, then its voters in theirs, and
 -- then it gets its seats.
-use Rattle.std.specs.Prelude.{◌≡◌, ◌≢◌, List, [], ◌∷◌, Option, Some, None, Result, Ok, Err}
+use Rattle.std.specs.Prelude.{List, [], ◌∷◌, Option, Some, None, Result, Ok, Err}
 use Rattle.npos_base.specs.declared.account.AccountId.{AccountId}
 use Rattle.block_wire.specs.declared.bundle.Bundle.{Bundle}
 use Rattle.block_wire.specs.declared.bundle.BundleVoter.{BundleVoter}
 use Rattle.election_snapshot.specs.declared.fault.SnapshotFault.{SnapshotFault}
-use Rattle.election_snapshot.specs.declared.fault.SnapshotFault.TheVariants.{NoMemory}
 use Rattle.election_snapshot.specs.Snapshot.{Snapshot}
 use Rattle.election_snapshot.specs.Draft.{Draft, target_fault, with_target, voter_fault, with_voter, finish_fault, seated}
 
@@ -46,8 +45,3 @@ draft_of bundle = and_then (with_targets bundle.targets empty_draft) (with_voter
 abbrev pub snapshot_of : Bundle → Result Snapshot SnapshotFault
 snapshot_of bundle =
     and_then (draft_of bundle) (λ draft. unless (finish_fault draft bundle.seats) (seated draft bundle.seats))
-
--- want of memory is free, and any other answer is this one
-abbrev pub IsElection : {A : Type 0} → Result A SnapshotFault → Result A SnapshotFault → Type 0
-IsElection due (Ok value) = due ≡ Ok value
-IsElection due (Err fault) = fault ≢ NoMemory → due ≡ Err fault

@@ -1,18 +1,16 @@
 //! What is answered on a bundle: a text and a ending.
 ghost use Rattle.std.specs.Prelude.{◌≡◌, ◌++◌, IfOk};
-ghost use Rattle.bundle_reports.specs.Texts.{fault_line};
-ghost use Rattle.bundle_reports.specs.Verdicts.{no_solution_line, long_line, snapshot_line};
+ghost use Rattle.bundle_reports.specs.Verdicts.{no_solution_line};
 ghost use Rattle.bundle_reports.specs.Bundles.{faulty, told, verdict_ending};
 ghost use Rattle.bundle_reports.specs.Mining.{lost_report};
-ghost use Rattle.bundle_reports.specs.Answer.{report_of};
+ghost use Rattle.bundle_reports.specs.Answer.{report_of, no_election_report};
 
 use crate::Ending;
 use crate::numbers::{tell_lost, tell_snapshot_fault, tell_verdict};
+use crate::reading::NoElection;
 use crate::telling::tell_fault;
 use election_check::Verdict;
-use election_snapshot::SnapshotFault;
 use npos_base::NoMemory;
-use scale_wire::fault::WireFault;
 use std::alloc::Global;
 use told_lines::{Piece, tell};
 
@@ -23,36 +21,16 @@ pub struct Answer {
     pub ending: Ending,
 }
 
-/// The answer of a bundle that is too long.
-pub fn long(alloc: Global) -> Result<Answer, NoMemory>
-    ensures { IfOk result (λ answer. report_of answer ≡ faulty long_line) }
+/// The answer of bytes that spell no election.
+pub fn no_election(alloc: Global, why: NoElection) -> Result<Answer, NoMemory>
+    ensures { IfOk result (λ answer. report_of answer ≡ no_election_report why) }
 {
     let mut text = Vec::new(alloc);
-    tell(&mut text, &[Piece::Words("fault 16777216 long\n")])?;
-    Ok(Answer {
-        text,
-        ending: Ending::BadInput,
-    })
-}
-
-/// The answer of bytes that spell no bundle.
-pub fn refused(alloc: Global, fault: WireFault) -> Result<Answer, NoMemory>
-    ensures { IfOk result (λ answer. report_of answer ≡ faulty (fault_line fault.at fault.why)) }
-{
-    let mut text = Vec::new(alloc);
-    tell_fault(&mut text, fault.at, fault.why)?;
-    Ok(Answer {
-        text,
-        ending: Ending::BadInput,
-    })
-}
-
-/// The answer of a bundle whose election has a fault.
-pub fn unelectable(alloc: Global, fault: SnapshotFault) -> Result<Answer, NoMemory>
-    ensures line { IfOk result (λ answer. report_of answer ≡ faulty (snapshot_line fault)) }
-{
-    let mut text = Vec::new(alloc);
-    tell_snapshot_fault(&mut text, fault)?;
+    match why {
+        NoElection::Long => tell(&mut text, &[Piece::Words("fault 16777216 long\n")])?,
+        NoElection::Refused(fault) => tell_fault(&mut text, fault.at, fault.why)?,
+        NoElection::Unelectable(fault) => tell_snapshot_fault(&mut text, fault)?,
+    }
     Ok(Answer {
         text,
         ending: Ending::BadInput,

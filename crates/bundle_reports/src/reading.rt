@@ -4,12 +4,11 @@ ghost use Rattle.bundle_reports.specs.Bundles.{election_in};
 ghost use Rattle.bundle_reports.specs.Answer.{IsReading};
 ghost use Rattle.bundle_reports.specs.Growing.{IsReadingOf};
 
-use crate::answers::{Answer, long, refused, unelectable};
 use crate::bundle_parts::{Parts, read_parts};
 use block_wire::Work;
-use election_snapshot::Snapshot;
+use election_snapshot::{Snapshot, SnapshotFault};
 use npos_base::NoMemory;
-use scale_wire::fault::ReadFault;
+use scale_wire::fault::{ReadFault, WireFault};
 use std::alloc::Global;
 
 /// The most bytes of a bundle.
@@ -22,16 +21,27 @@ pub struct Election {
     pub work: Work,
 }
 
-/// What was read: an election, or the answer of the first fault.
+/// Why bytes spell no election.
+#[derive(Clone, Copy, Debug)]
+pub enum NoElection {
+    /// There are more bytes than a bundle has.
+    Long,
+    /// The bytes spell no bundle.
+    Refused(WireFault),
+    /// The election of the bundle has this fault.
+    Unelectable(SnapshotFault),
+}
+
+/// What was read: an election, or why there is none.
 #[derive(Drop)]
 pub enum Reading {
     Stands(Election),
-    Refused(Answer),
+    Refused(NoElection),
 }
 
-/// The election of a bundle, of which these parts are kept.
-fn reading_of(alloc: Global, parts: Parts) -> Result<Reading, NoMemory>
-    ensures { IfOk result (λ reading. IsReadingOf parts reading) }
+/// The election of a bundle, of which these parts are kept. It takes no memory.
+fn reading_of(parts: Parts) -> Reading
+    ensures { IsReadingOf parts result }
 {
     let Parts {
         seats,
@@ -39,23 +49,21 @@ fn reading_of(alloc: Global, parts: Parts) -> Result<Reading, NoMemory>
         work,
     } = parts;
     match growing.finish(seats) {
-        Ok(snapshot) => Ok(Reading::Stands(Election { snapshot, work })),
-        Err(fault) => Ok(Reading::Refused(unelectable(alloc, fault)?)),
+        Ok(snapshot) => Reading::Stands(Election { snapshot, work }),
+        Err(fault) => Reading::Refused(NoElection::Unelectable(fault)),
     }
 }
 
-/// The election that these bytes spell. They go once they are read.
-pub fn read_election(alloc: Global, bytes: Vec<u8>) -> Result<Reading, NoMemory>
-    ensures { IfOk result (IsReading (election_in bytes.items)) }
+/// The election that these bytes spell, or why they spell none: the first fault.
+pub fn read_election(alloc: Global, bytes: &[u8]) -> Result<Reading, NoMemory>
+    ensures { IfOk result (IsReading (election_in bytes.now)) }
 {
     if bytes.len() > MOST_BUNDLE {
-        return Ok(Reading::Refused(long(alloc)?));
+        return Ok(Reading::Refused(NoElection::Long));
     }
-    let read = read_parts(alloc, bytes.as_slice());
-    drop(bytes);
-    match read {
-        Ok(parts) => reading_of(alloc, parts),
-        Err(ReadFault::Wire(fault)) => Ok(Reading::Refused(refused(alloc, fault)?)),
+    match read_parts(alloc, bytes) {
+        Ok(parts) => Ok(reading_of(parts)),
+        Err(ReadFault::Wire(fault)) => Ok(Reading::Refused(NoElection::Refused(fault))),
         Err(ReadFault::NoMemory) => Err(NoMemory),
     }
 }

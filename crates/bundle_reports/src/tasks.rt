@@ -7,7 +7,7 @@ ghost use Rattle.bundle_reports.specs.Tasks.{IsTaskReport, IsBundleReport, IsSou
 ghost use Rattle.bundle_reports.specs.Answer.{report_of};
 ghost use Rattle.bundle_reports.specs.Rounds.{TaskHasRounds};
 
-use crate::answers::Answer;
+use crate::answers::{Answer, no_election};
 use crate::asked::Task;
 use crate::checking::check_work;
 use crate::laws::every_snapshot_is_well_formed;
@@ -56,8 +56,10 @@ pub fn answer_bytes(alloc: Global, bytes: Vec<u8>, task: Task) -> Result<Answer,
         → IfOk result (λ answer. answer.ending ≢ endings.No) }
 {
     let size = bytes.len() as u64;
-    match read_election(alloc, bytes)? {
+    let read = read_election(alloc, bytes.as_slice())?;
+    drop(bytes);
+    match read {
         Reading::Stands(election) => answer_election(alloc, election, task, size),
-        Reading::Refused(answer) => Ok(answer),
+        Reading::Refused(why) => no_election(alloc, why),
     }
 }

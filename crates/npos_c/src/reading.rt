@@ -1,15 +1,12 @@
 //! The election that the bytes of a bundle spell.
-ghost use Rattle.std.specs.Prelude.{◌≡◌, Ok, IfOk};
-ghost use Rattle.bundle_reports.specs.Bundles.{read_election, election_in};
-ghost use Rattle.npos_c.specs.Findings.{IsReading};
+ghost use Rattle.std.specs.Prelude.{◌≡◌, IfOk};
+ghost use Rattle.bundle_reports.specs.Answer.{no_election_report};
+ghost use Rattle.bundle_reports.specs.Bundles.{election_in};
+ghost use Rattle.npos_c.specs.Findings.{IsReading, reported};
 
 use crate::finding::Finding;
-use block_wire::Bundle;
-use bundle_reports::{Election, MOST_BUNDLE, snapshot_of};
-use election_snapshot::SnapshotFault;
+use bundle_reports::{Election, NoElection};
 use npos_base::NoMemory;
-use scale_wire::fault::ReadFault;
-use scale_wire::read_whole;
 use std::alloc::Global;
 
 /// What was read: an election, or the first fault.
@@ -19,16 +16,14 @@ pub enum Reading {
     Refused(Finding),
 }
 
-/// The election of a bundle. Its targets and voters go once the election is built.
-fn read_bundle(alloc: Global, bundle: Bundle) -> Result<Reading, NoMemory>
-    ensures { IfOk result (IsReading (read_election (Ok bundle))) }
+/// What is found where there is no election.
+fn found(why: NoElection) -> Finding
+    ensures { reported result ≡ no_election_report why }
 {
-    let built = snapshot_of(alloc, &bundle);
-    let Bundle { work, .. } = bundle;
-    match built {
-        Ok(snapshot) => Ok(Reading::Stands(Election { snapshot, work })),
-        Err(SnapshotFault::NoMemory) => Err(NoMemory),
-        Err(fault) => Ok(Reading::Refused(Finding::Unelectable(fault))),
+    match why {
+        NoElection::Long => Finding::Long,
+        NoElection::Refused(fault) => Finding::Refused(fault),
+        NoElection::Unelectable(fault) => Finding::Unelectable(fault),
     }
 }
 
@@ -36,12 +31,8 @@ fn read_bundle(alloc: Global, bundle: Bundle) -> Result<Reading, NoMemory>
 pub fn read_election(alloc: Global, bytes: &[u8]) -> Result<Reading, NoMemory>
     ensures { IfOk result (IsReading (election_in bytes.now)) }
 {
-    if bytes.len() > MOST_BUNDLE {
-        return Ok(Reading::Refused(Finding::Long));
-    }
-    match read_whole::<Bundle>(alloc, bytes) {
-        Ok(bundle) => read_bundle(alloc, bundle),
-        Err(ReadFault::Wire(fault)) => Ok(Reading::Refused(Finding::Refused(fault))),
-        Err(ReadFault::NoMemory) => Err(NoMemory),
+    match bundle_reports::read_election(alloc, bytes)? {
+        bundle_reports::Reading::Stands(election) => Ok(Reading::Stands(election)),
+        bundle_reports::Reading::Refused(why) => Ok(Reading::Refused(found(why))),
     }
 }

@@ -1,4 +1,4 @@
-use Rattle.std.proofs.Common.{subst}
+use Rattle.std.proofs.Common.{◌≡◌, ℕ, List, Ok, subst}
 use Rattle.bundle_reports.specs.declared.reading.Reading.{Reading}
 use Rattle.bundle_reports.specs.Answer.{IsReading}
 use Rattle.bundle_reports.specs.Bundles.{election_in}
@@ -6,5 +6,8 @@ use Rattle.bundle_reports.proofs.SoundLaws.{sound_reading}
 use Rattle.bundle_reports.proofs.tasks.answer_bytes.Goals as goal
 
 pub returns-in-Stands-clause-sound : goal.returns-in-Stands-clause-sound
-returns-in-Stands-clause-sound c = sound_reading c.args.task c.args.bytes.items c.in-Stands.election c.answer_election.result
-    (subst (λ (r : Reading). IsReading (election_in c.args.bytes.items) r) c.in-Stands.is c.in_ok-election.ensures) c.answer_election.ensures.sound
+returns-in-Stands-clause-sound c =
+    let read : election_in c.as_slice.result.now ≡ Ok c.in-Stands.election =
+    subst (λ (r : Reading). IsReading (election_in c.as_slice.result.now) r) c.in-Stands.is c.in_ok-read.ensures in
+    sound_reading c.args.task c.args.bytes.items c.in-Stands.election c.answer_election.result
+    (subst (λ (bytes : List ℕ). election_in bytes ≡ Ok c.in-Stands.election) c.as_slice.ensures.value read) c.answer_election.ensures.sound
