@@ -22,17 +22,17 @@ const NO_WORDS: u8 = 7;
 /// much that it does not use.
 const KEPT_BLOCK: usize = 2_000_000;
 
-/// What is kept where work is checked: the edges of the largest solution take 4 MB, and they come
-/// where the bytes of the bundle were.
-const KEPT_IN_A_CHECK: usize = 4_300_000;
+/// The same where work is checked or mined: the edges of the largest election take 4 MB, and they
+/// come where the bytes of the bundle were.
+const KEPT_FOR_EDGES: usize = 4_300_000;
 
-/// Up to which size blocks are kept in a run over these words.
+/// Up to which size blocks are kept in a run over these words, of which the first is the program's.
 fn kept_block(words: &Result<Vec<String>, u8>) -> usize {
     let Ok(words) = words else {
         return KEPT_BLOCK;
     };
-    match words.first() {
-        Some(word) if word.as_str() == "check" => KEPT_IN_A_CHECK,
+    match words.get(1) {
+        Some(verb) if verb.as_str() == "check" || verb.as_str() == "mine" => KEPT_FOR_EDGES,
         _ => KEPT_BLOCK,
     }
 }
