@@ -22,8 +22,8 @@ const NO_WORDS: u8 = 7;
 /// much that it does not use.
 const KEPT_BLOCK: usize = 2_000_000;
 
-/// The same where work is checked or mined: the edges of the largest election take 4 MB, and they
-/// come where the bytes of the bundle were.
+/// The same where work is checked or mined: the edges of 16,384 voters with 16 votes each take
+/// 4 MB, and they come where the bytes of the bundle were.
 const KEPT_FOR_EDGES: usize = 4_300_000;
 
 /// Up to which size blocks are kept in a run over these words, of which the first is the program's.
