@@ -1,4 +1,3 @@
-pub mod ElectionLaws
 pub mod ReadingLemmas
 pub mod MineLaws
 pub mod SpelledLaws
