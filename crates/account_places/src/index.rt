@@ -5,6 +5,7 @@ ghost use Rattle.std.specs.Vec.{vec_capacity};
 ghost use Rattle.npos_base.specs.declared.account.AccountId.{AccountId};
 ghost use Rattle.account_places.specs.Index.{mixed, spread_in, slot_in, tag_in, mark_at, IsMark, IsFree, AreTaken, Finds, StandOnce};
 
+use crate::order::Order;
 use npos_base::{AccountId, NoMemory};
 use std::alloc::Global;
 use std::collections::BTreeMap;
@@ -14,6 +15,9 @@ const LEAST_SLOTS: usize = 256;
 
 /// An account marks its place in one of so many slots, of which its bytes choose the first.
 const TRIES: usize = 4;
+
+/// The crowd is asked where one in so many accounts does not stand where its slots say.
+const MANY: usize = 4;
 
 /// An account marks its place in the first of its slots that is free. An account that finds all of
 /// them taken, or whose place has no mark, is in the crowd, which is searched by its order: so no
@@ -29,6 +33,8 @@ pub(crate) struct Index {
     // at so many slots a search may begin: a power of two, if any
     count: usize,
     crowd: BTreeMap<AccountId, usize>,
+    // places of most of the crowd, for guesses on which nothing rests
+    order: Order,
 }
 
 /// The halves of the account, and the halves of these, mixed into one number.
@@ -95,6 +101,20 @@ fn place_of(tag: u32, mark: u32) -> u32
     mark.wrapping_sub(tag)
 }
 
+/// How many of the accounts do not stand where the guesses say.
+fn strays(accounts: &[AccountId], whose: &[AccountId], guesses: &[u32]) -> usize
+    requires { length guesses.now ≡ length whose.now }
+    ensures { result ≤ length whose.now }
+{
+    let mut strays = 0;
+    for i in 0..whose.len() {
+        if !stands_at(accounts, guesses[i] as usize, whose[i]) {
+            strays += 1;
+        }
+    }
+    strays
+}
+
 impl Index {
     /// No slots: all accounts are searched.
     pub(crate) fn new(alloc: Global) -> Index
@@ -105,6 +125,7 @@ impl Index {
             slots: Vec::new(alloc),
             count: 0,
             crowd: BTreeMap::new(alloc),
+            order: Order::new(alloc),
         }
     }
 
@@ -117,6 +138,7 @@ impl Index {
             slots: vec![in alloc; 0; count.saturating_add(TRIES - 1)]?,
             count,
             crowd: BTreeMap::new(alloc),
+            order: Order::new(alloc),
         })
     }
 
@@ -174,6 +196,7 @@ impl Index {
             return Ok(());
         }
         self.crowd.insert(who, place)?;
+        self.order.follow(&self.crowd);
         Ok(())
     }
 
@@ -212,12 +235,28 @@ impl Index {
     }
 
     /// Appends the guess for each of these accounts. No read waits for another here.
-    pub(crate) fn guess_each(&self, accounts: &[AccountId], places: usize, guesses: &mut Vec<u32>)
-        requires { vec_len guesses.old + length accounts.now ≤ vec_capacity guesses.old }
-        ensures { length guesses.new.items ≡ length guesses.old.items + length accounts.now }
+    pub(crate) fn guess_each(&self, whose: &[AccountId], places: usize, guesses: &mut Vec<u32>)
+        requires { vec_len guesses.old + length whose.now ≤ vec_capacity guesses.old }
+        ensures { length guesses.new.items ≡ length guesses.old.items + length whose.now }
     {
-        for account in accounts {
+        for account in whose {
             guesses.push_reserved(self.guess(*account, places));
+        }
+    }
+
+    /// Guesses anew where these accounts stand, as if all of them were in the crowd, if many of
+    /// them do not stand where the guesses say.
+    pub(crate) fn guess_crowd(
+        &self,
+        accounts: &[AccountId],
+        whose: &[AccountId],
+        guesses: &mut [u32],
+    )
+        requires { length guesses.old ≡ length whose.now }
+        ensures { length guesses.new ≡ length guesses.old }
+    {
+        if strays(accounts, whose, guesses) > whose.len() / MANY {
+            self.order.guess_each(whose, guesses);
         }
     }
 

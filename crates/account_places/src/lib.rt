@@ -3,6 +3,7 @@
 #![tactic(auto)]
 
 mod index;
+mod order;
 mod places;
 
 pub use places::Places;

@@ -76,14 +76,17 @@ impl Places {
         self.index.guess(who, self.accounts.len())
     }
 
-    /// Appends the guess for each of these accounts.
-    pub fn guess_each(&self, accounts: &[AccountId], guesses: &mut Vec<u32>) -> Result<(), NoMemory>
+    /// Appends the guess for each of these accounts. Where many of them crowd the slots of others,
+    /// they are sought in order, step by step all together.
+    pub fn guess_each(&self, whose: &[AccountId], guesses: &mut Vec<u32>) -> Result<(), NoMemory>
         ensures { OnOk result (length guesses.new.items
-            ≡ length guesses.old.items + length accounts.now) }
+            ≡ length guesses.old.items + length whose.now) }
     {
-        guesses.reserve(accounts.len())?;
+        guesses.reserve(whose.len())?;
+        let before = guesses.len();
+        self.index.guess_each(whose, self.accounts.len(), guesses);
         self.index
-            .guess_each(accounts, self.accounts.len(), guesses);
+            .guess_crowd(self.accounts.as_slice(), whose, &mut guesses[before..]);
         Ok(())
     }
 

@@ -52,13 +52,20 @@ fn accounts_are_found_where_they_came(rt: HostRuntime) -> Result<(), Fail> {
     for apart in [0, 1, 3 << 40, 0x9e37_79b9_7f4a_7c15, 0xffff_ffff_ffff_ffff] {
         let places = crowd(rt.alloc(), 5000, apart)?;
         assert!(rt; are_found(&places, 5000, apart));
-        let mut guesses = Vec::new(rt.alloc());
-        places.guess_each(&[nth(0, apart), nth(5000, apart)], &mut guesses)?;
-        assert_eq!(rt;
-            guesses.as_slice(),
-            [places.guess(nth(0, apart)), places.guess(nth(5000, apart))].as_slice()
-        );
     }
+    Ok(())
+}
+
+// The first account has no mark, so the next four have the slots where all begin.
+#[test]
+fn a_crowd_is_guessed_in_order(rt: HostRuntime) -> Result<(), Fail> {
+    let apart = 0xffff_ffff_ffff_ffff;
+    let places = crowd(rt.alloc(), 300, apart)?;
+    let mut guesses = Vec::new(rt.alloc());
+    let whose = [nth(90, apart), nth(0, apart), nth(199, apart)];
+    places.guess_each(&whose, &mut guesses)?;
+    assert_eq!(rt; guesses.as_slice(), [90, 0, 199].as_slice());
+    assert_eq!(rt; places.guess(nth(1, apart)), 1);
     Ok(())
 }
 
