@@ -16,8 +16,8 @@ const LEAST_SLOTS: usize = 256;
 /// An account marks its place in one of so many slots, of which its bytes choose the first.
 const TRIES: usize = 4;
 
-/// The crowd is asked where one in so many accounts does not stand where its slots say.
-const MANY: usize = 4;
+/// One in so many accounts is looked at, to see whether they crowd the slots of others.
+const EVERY: usize = 4;
 
 /// An account marks its place in the first of its slots that is free. An account that finds all of
 /// them taken, or whose place has no mark, is in the crowd, which is searched by its order: so no
@@ -101,14 +101,14 @@ fn place_of(tag: u32, mark: u32) -> u32
     mark.wrapping_sub(tag)
 }
 
-/// How many of the accounts do not stand where the guesses say.
+/// How many of the accounts do not stand where the guesses say, of those that are looked at: every
+/// fourth.
 fn strays(accounts: &[AccountId], whose: &[AccountId], guesses: &[u32]) -> usize
     requires { length guesses.now ≡ length whose.now }
-    ensures { result ≤ length whose.now }
 {
     let mut strays = 0;
-    for i in 0..whose.len() {
-        if !stands_at(accounts, guesses[i] as usize, whose[i]) {
+    for i in 0..whose.len() / EVERY {
+        if !stands_at(accounts, guesses[i * EVERY] as usize, whose[i * EVERY]) {
             strays += 1;
         }
     }
@@ -244,8 +244,8 @@ impl Index {
         }
     }
 
-    /// Guesses anew where these accounts stand, as if all of them were in the crowd, if many of
-    /// them do not stand where the guesses say.
+    /// Guesses anew where these accounts stand, as if all of them were in the crowd, if more than
+    /// half of those that are looked at do not stand where the guesses say.
     pub(crate) fn guess_crowd(
         &self,
         accounts: &[AccountId],
@@ -255,7 +255,7 @@ impl Index {
         requires { length guesses.old ≡ length whose.now }
         ensures { length guesses.new ≡ length guesses.old }
     {
-        if strays(accounts, whose, guesses) > whose.len() / MANY {
+        if strays(accounts, whose, guesses) > whose.len() / (2 * EVERY) {
             self.order.guess_each(whose, guesses);
         }
     }

@@ -17,15 +17,14 @@ pub(crate) struct Order {
     places: Vec<u32>,
 }
 
-/// Whether one account is below the other. Mostly the first of their words differ, which takes no
-/// branch that is hard to foresee.
-fn is_below(one: AccountId, other: AccountId) -> bool {
-    let (first, second) = ((one.hi >> 64) as u64, (other.hi >> 64) as u64);
+/// 1 where the account is not below the other one, and else 0. Mostly their first words differ,
+/// which takes no branch: which way it goes is anyone's choice, and hard to foresee.
+fn moves_up(who: AccountId, other: AccountId) -> u32 {
+    let (first, second) = ((who.hi >> 64) as u64, (other.hi >> 64) as u64);
     if first == second {
-        one < other
-    } else {
-        first < second
+        return u32::from(who >= other);
     }
+    u32::from(first > second)
 }
 
 impl Order {
@@ -81,14 +80,12 @@ impl Order {
         requires { length ranks.old ≡ length whose.now }
         ensures { length ranks.new ≡ length ranks.old }
     {
+        let accounts = self.accounts.as_slice();
         for i in 0..whose.len() {
-            let (rank, above) = (ranks[i], ranks[i].wrapping_add(by));
-            if let Some(account) = self.accounts.get(above as usize) {
-                ranks[i] = if is_below(whose[i], *account) {
-                    rank
-                } else {
-                    above
-                };
+            let above = ranks[i].wrapping_add(by);
+            if let Some(account) = accounts.get(above as usize) {
+                let up = moves_up(whose[i], *account);
+                ranks[i] = ranks[i].wrapping_add(up.wrapping_mul(by));
             }
         }
     }
