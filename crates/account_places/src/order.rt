@@ -17,14 +17,16 @@ pub(crate) struct Order {
     places: Vec<u32>,
 }
 
-/// 1 where the account is not below the other one, and else 0. Mostly their first words differ,
-/// which takes no branch: which way it goes is anyone's choice, and hard to foresee.
-fn moves_up(who: AccountId, other: AccountId) -> u32 {
+/// Which of these bits are left where the account is not below the other one; else none is. Mostly
+/// their first words differ, and then a difference tells without a branch: which way it goes is
+/// anyone's choice, and hard to foresee.
+fn bits_unless_below(who: AccountId, other: AccountId, bits: u32) -> u32 {
     let (first, second) = ((who.hi >> 64) as u64, (other.hi >> 64) as u64);
     if first == second {
-        return u32::from(who >= other);
+        return if who < other { 0 } else { bits };
     }
-    u32::from(first > second)
+    let gap = u128::from(second).wrapping_sub(u128::from(first));
+    bits & ((gap >> 64) & 0xffff_ffff) as u32
 }
 
 impl Order {
@@ -84,8 +86,7 @@ impl Order {
         for i in 0..whose.len() {
             let above = ranks[i].wrapping_add(by);
             if let Some(account) = accounts.get(above as usize) {
-                let up = moves_up(whose[i], *account);
-                ranks[i] = ranks[i].wrapping_add(up.wrapping_mul(by));
+                ranks[i] = ranks[i].wrapping_add(bits_unless_below(whose[i], *account, by));
             }
         }
     }
