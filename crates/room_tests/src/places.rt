@@ -62,9 +62,14 @@ fn a_crowd_is_guessed_in_order(rt: HostRuntime) -> Result<(), Fail> {
     let apart = 0xffff_ffff_ffff_ffff;
     let places = crowd(rt.alloc(), 300, apart)?;
     let mut guesses = Vec::new(rt.alloc());
-    let whose = [nth(90, apart), nth(0, apart), nth(199, apart)];
+    let whose = [
+        nth(90, apart),
+        nth(0, apart),
+        nth(199, apart),
+        nth(5, apart),
+    ];
     places.guess_each(&whose, &mut guesses)?;
-    assert_eq!(rt; guesses.as_slice(), [90, 0, 199].as_slice());
+    assert_eq!(rt; guesses.as_slice(), [90, 0, 199, 5].as_slice());
     assert_eq!(rt; places.guess(nth(1, apart)), 1);
     Ok(())
 }
