@@ -29,14 +29,39 @@ pub(crate) fn bad_era(
 {
     let known = accounts_of(alloc, rows)?;
     for (place, era) in eras.iter().enumerate() {
-        if !has_params
-            || is_bad_number(current, &eras[..place], era)
-            || are_bad_members(alloc, &known, rows, era.members.as_slice())?
-        {
+        if is_bad_era(
+            alloc,
+            &known,
+            has_params,
+            current,
+            rows,
+            &eras[..place],
+            era,
+        )? {
             return Ok(Some(place));
         }
     }
     Ok(None)
+}
+
+/// Whether there are no params, or the number or a member is wrong.
+fn is_bad_era(
+    alloc: Global,
+    known: &Seen,
+    has_params: bool,
+    current: u32,
+    rows: &[BookRow],
+    before: &[EraRow],
+    era: &EraRow,
+) -> Result<bool, NoMemory>
+    requires { AreNoted (by_account known.now.accounts) (map (λ row. row.who) rows.now) }
+    ensures { IfOk result (λ bad. bad
+        ≡ is_bad_era has_params current rows.now before.now era.now) }
+{
+    if !has_params || is_bad_number(current, before, era) {
+        return Ok(true);
+    }
+    are_bad_members(alloc, known, rows, era.members.as_slice())
 }
 
 /// Whether the era is the first one, later than the current one, no longer kept, or not above the
