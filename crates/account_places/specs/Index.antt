@@ -33,6 +33,11 @@ mark_at slots slot = slice_index_or slots slot 1
 abbrev pub AreTaken : List ℕ → ℕ → ℕ → Type 0
 AreTaken slots first end = (slot : ℕ) → first ≤ slot → slot < end → mark_at slots slot ≢ 0
 
+-- no slot from the first up to another is free any more, and what was taken stays as it was
+pub record AreFilled (old new : List ℕ) (first end : ℕ) : Type 0 where
+  pub taken : AreTaken new first end
+  pub kept : (slot : ℕ) → mark_at old slot ≢ 0 → mark_at new slot ≡ mark_at old slot
+
 -- the first free one of four slots
 pub record IsFree (slots : List ℕ) (first slot : ℕ) : Type 0 where
   pub after : first ≤ slot
@@ -47,11 +52,17 @@ pub record IsMarked (slots : List ℕ) (first tag place slot : ℕ) : Type 0 whe
   pub mark : IsMark tag place (mark_at slots slot)
   pub taken : AreTaken slots first slot
 
+-- all four slots of the account are taken, and the crowd tells its place
+pub record IsCrowded (slots : List ℕ) (first : ℕ) (crowd : List (AccountId × ℕ)) (who : AccountId)
+    (place : ℕ) : Type 0 where
+  pub taken : AreTaken slots first (first + 4)
+  pub told : place_in crowd who ≡ Some place
+
 -- a slot of the account has the mark of its place, or the account is in the crowd
 abbrev pub IsFound : List ℕ → ℕ → List (AccountId × ℕ) → AccountId → ℕ → Type 0
 IsFound slots count crowd who place =
     ((slot : ℕ) × IsMarked slots (slot_in count who) (tag_in count who) place slot)
-    ⊎ (place_in crowd who ≡ Some place)
+    ⊎ IsCrowded slots (slot_in count who) crowd who place
 
 -- each account at a place below the limit is found, and who is in the crowd stands where it says
 pub record Finds (slots : List ℕ) (count : ℕ) (crowd : List (AccountId × ℕ)) (accounts : List AccountId)

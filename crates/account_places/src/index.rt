@@ -3,9 +3,10 @@
 ghost use Rattle.std.specs.Prelude.{◌≡◌, ◌≢◌, ◌+◌, ◌^◌, ◌<◌, ◌≤◌, ℕ, List, length, true, Some, IfOk, IfSome, IfNone, OnOk, OnErr, slice_get, vec_len};
 ghost use Rattle.std.specs.Vec.{vec_capacity};
 ghost use Rattle.npos_base.specs.declared.account.AccountId.{AccountId};
-ghost use Rattle.account_places.specs.Index.{mixed, spread_in, slot_in, tag_in, mark_at, IsMark, IsFree, AreTaken, Finds, StandOnce};
+ghost use Rattle.account_places.specs.Places.{place_in};
+ghost use Rattle.account_places.specs.Index.{mixed, spread_in, slot_in, tag_in, mark_at, IsMark, IsFree, AreTaken, AreFilled, Finds, StandOnce};
 
-use crate::order::Order;
+use crate::second::Second;
 use npos_base::{AccountId, NoMemory};
 use std::alloc::Global;
 use std::collections::BTreeMap;
@@ -16,12 +17,10 @@ const LEAST_SLOTS: usize = 256;
 /// An account marks its place in one of so many slots, of which its bytes choose the first.
 const TRIES: usize = 4;
 
-/// One in so many accounts is looked at, to see whether they crowd the slots of others.
-const EVERY: usize = 4;
-
 /// An account marks its place in the first of its slots that is free. An account that finds all of
-/// them taken, or whose place has no mark, is in the crowd, which is searched by its order: so no
-/// choice of accounts makes a search long.
+/// them taken is in the crowd, which is searched by its order: so no choice of accounts makes a
+/// search long. So is one whose place has no mark, and it fills its slots: who has a free slot is
+/// not there.
 ///
 /// A mark is the sum of the place and the account's tag. While places are fewer than slots, as they
 /// are but for want of memory, it says to an account with another tag a place beyond all that there
@@ -34,7 +33,7 @@ pub(crate) struct Index {
     count: usize,
     crowd: BTreeMap<AccountId, usize>,
     // places of most of the crowd, for guesses on which nothing rests
-    order: Order,
+    second: Second,
 }
 
 /// The halves of the account, and the halves of these, mixed into one number.
@@ -101,18 +100,24 @@ fn place_of(tag: u32, mark: u32) -> u32
     mark.wrapping_sub(tag)
 }
 
-/// How many of the accounts do not stand where the guesses say, of those that are looked at: every
-/// fourth.
-fn strays(accounts: &[AccountId], whose: &[AccountId], guesses: &[u32]) -> usize
-    requires { length guesses.now ≡ length whose.now }
+/// The place that the crowd tells of the account.
+fn crowd_place(crowd: &BTreeMap<AccountId, usize>, who: AccountId) -> Option<usize>
+    ensures { result ≡ place_in crowd.now.entries who }
 {
-    let mut strays = 0;
-    for i in 0..whose.len() / EVERY {
-        if !stands_at(accounts, guesses[i * EVERY] as usize, whose[i * EVERY]) {
-            strays += 1;
+    crowd.get(&who).copied()
+}
+
+/// Fills those of an account's slots that are free with the mark of nobody in particular. All of
+/// them are taken already, but where the place of the account has no mark.
+fn fill_slots(slots: &mut Vec<u32>, first: usize)
+    requires { first < 2 ^ 32 }
+    ensures { AreFilled slots.old.items slots.new.items first (first + 4) }
+{
+    for slot in first..first + TRIES {
+        if slot < slots.len() && slots[slot] == 0 {
+            slots[slot] = 1;
         }
     }
-    strays
 }
 
 impl Index {
@@ -125,7 +130,7 @@ impl Index {
             slots: Vec::new(alloc),
             count: 0,
             crowd: BTreeMap::new(alloc),
-            order: Order::new(alloc),
+            second: Second::new(alloc),
         }
     }
 
@@ -138,7 +143,7 @@ impl Index {
             slots: vec![in alloc; 0; count.saturating_add(TRIES - 1)]?,
             count,
             crowd: BTreeMap::new(alloc),
-            order: Order::new(alloc),
+            second: Second::new(alloc),
         })
     }
 
@@ -196,11 +201,13 @@ impl Index {
             return Ok(());
         }
         self.crowd.insert(who, place)?;
-        self.order.follow(&self.crowd);
+        fill_slots(&mut self.slots, slot_of(who, self.count));
+        self.second.follow(&self.crowd, who, place);
         Ok(())
     }
 
     /// The place of the account among these, all of which were noted.
+    #[tactic(auto, using(crate::proofs::IndexLemmas::free_absent, crate::proofs::IndexLemmas::crowd_told))]
     pub(crate) fn find(&self, accounts: &[AccountId], who: AccountId) -> Option<usize>
         requires { Finds self.now.slots.items self.now.count self.now.crowd.entries
             accounts.now (length accounts.now) }
@@ -211,14 +218,18 @@ impl Index {
         for slot in first..first + TRIES {
             let mark = self.mark(slot);
             if mark == 0 {
-                break;
+                return None;
             }
             let place = place_of(tag, mark) as usize;
             if stands_at(accounts, place, who) {
                 return Some(place);
             }
         }
-        self.crowd.get(&who).copied()
+        let guess = self.second.guess(who) as usize;
+        if stands_at(accounts, guess, who) {
+            return Some(guess);
+        }
+        crowd_place(&self.crowd, who)
     }
 
     /// A guess of the account's place among so many: what the first of its slots says that says one
@@ -244,8 +255,7 @@ impl Index {
         }
     }
 
-    /// Guesses anew where these accounts stand, as if all of them were in the crowd, if more than
-    /// half of those that are looked at do not stand where the guesses say.
+    /// Guesses anew, by the second slots, where these accounts do not stand where the guesses say.
     pub(crate) fn guess_crowd(
         &self,
         accounts: &[AccountId],
@@ -255,8 +265,13 @@ impl Index {
         requires { length guesses.old ≡ length whose.now }
         ensures { length guesses.new ≡ length guesses.old }
     {
-        if strays(accounts, whose, guesses) > whose.len() / (2 * EVERY) {
-            self.order.guess_each(whose, guesses);
+        if self.second.is_empty() {
+            return;
+        }
+        for i in 0..whose.len() {
+            if !stands_at(accounts, guesses[i] as usize, whose[i]) {
+                guesses[i] = self.second.guess(whose[i]);
+            }
         }
     }
 

@@ -3,7 +3,7 @@
 #![tactic(auto)]
 
 mod index;
-mod order;
 mod places;
+mod second;
 
 pub use places::Places;

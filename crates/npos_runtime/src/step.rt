@@ -48,7 +48,8 @@ fn take_call(
 {
     let Call { who, kind } = call;
     let told = lines.len();
-    lines.push(Line::CallOk { index })?;
+    lines.reserve(1)?;
+    lines.push_reserved(Line::CallOk { index });
     match act(alloc, chain, lines, ahead, who, kind) {
         Ok(()) => Ok(()),
         Err(Stop::Refused(refusal)) => {

@@ -1,6 +1,6 @@
 -- The account marks a slot, or joins the crowd.
-use Rattle.std.proofs.Common.{IfSome, subst}
-use Rattle.account_places.specs.Index.{tag_in, IsMark}
+use Rattle.std.proofs.Common.{◌+◌, IfSome, subst}
+use Rattle.account_places.specs.Index.{tag_in, AreFilled, IsMark}
 use Rattle.account_places.proofs.IndexLemmas.{finds_slot, finds_crowd}
 use Rattle.account_places.proofs.index.Index.note.Goals as goal
 
@@ -12,4 +12,4 @@ returns-in-Some-Some-clause-ok c accounts apart here finds =
 
 pub returns-clause-ok : goal.returns-clause-ok
 returns-clause-ok c accounts apart here finds =
-    rw c.in_ok-insert.ensures.entries (finds_crowd _ _ _ accounts c.args.who c.args.place here finds apart)
+    rw c.in_ok-insert.ensures.entries (finds_crowd _ _ _ accounts c.args.who c.args.place here finds _ (subst (λ first. AreFilled c.args.self.now.slots.items c.fill_slots.new.slots.items first (first + 4)) c.slot_of.ensures.first c.fill_slots.ensures) apart)
