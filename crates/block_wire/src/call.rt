@@ -193,6 +193,7 @@ fn read_fields(alloc: Global, tag: u8, cursor: &mut Cursor<'_>) -> Result<CallKi
     }
 }
 
+// A stream has more of these than of all others. A pair would be copied once more.
 fn read_transfer(alloc: Global, cursor: &mut Cursor<'_>) -> Result<CallKind, ReadFault>
     ensures { Reads (behind_tag kinds kind_choice 0) cursor.old result cursor.new }
 {
@@ -203,7 +204,6 @@ fn read_transfer(alloc: Global, cursor: &mut Cursor<'_>) -> Result<CallKind, Rea
     Ok(CallKind::Transfer { to, value })
 }
 
-#[inline(never)]
 fn read_bond(alloc: Global, cursor: &mut Cursor<'_>) -> Result<CallKind, ReadFault>
     ensures { Reads (behind_tag kinds kind_choice 1) cursor.old result cursor.new }
 {
@@ -211,7 +211,6 @@ fn read_bond(alloc: Global, cursor: &mut Cursor<'_>) -> Result<CallKind, ReadFau
     Ok(CallKind::Bond { value })
 }
 
-#[inline(never)]
 fn read_bond_extra(alloc: Global, cursor: &mut Cursor<'_>) -> Result<CallKind, ReadFault>
     ensures { Reads (behind_tag kinds kind_choice 2) cursor.old result cursor.new }
 {
@@ -219,7 +218,6 @@ fn read_bond_extra(alloc: Global, cursor: &mut Cursor<'_>) -> Result<CallKind, R
     Ok(CallKind::BondExtra { value })
 }
 
-#[inline(never)]
 fn read_unbond(alloc: Global, cursor: &mut Cursor<'_>) -> Result<CallKind, ReadFault>
     ensures { Reads (behind_tag kinds kind_choice 3) cursor.old result cursor.new }
 {
@@ -227,7 +225,6 @@ fn read_unbond(alloc: Global, cursor: &mut Cursor<'_>) -> Result<CallKind, ReadF
     Ok(CallKind::Unbond { value })
 }
 
-#[inline(never)]
 fn read_rebond(alloc: Global, cursor: &mut Cursor<'_>) -> Result<CallKind, ReadFault>
     ensures { Reads (behind_tag kinds kind_choice 4) cursor.old result cursor.new }
 {
@@ -235,7 +232,6 @@ fn read_rebond(alloc: Global, cursor: &mut Cursor<'_>) -> Result<CallKind, ReadF
     Ok(CallKind::Rebond { value })
 }
 
-#[inline(never)]
 fn read_nominate(alloc: Global, cursor: &mut Cursor<'_>) -> Result<CallKind, ReadFault>
     ensures { Reads (behind_tag kinds kind_choice 6) cursor.old result cursor.new }
 {
@@ -243,7 +239,6 @@ fn read_nominate(alloc: Global, cursor: &mut Cursor<'_>) -> Result<CallKind, Rea
     Ok(CallKind::Nominate { targets })
 }
 
-#[inline(never)]
 fn read_validate(alloc: Global, cursor: &mut Cursor<'_>) -> Result<CallKind, ReadFault>
     ensures { Reads (behind_tag kinds kind_choice 7) cursor.old result cursor.new }
 {
@@ -251,7 +246,6 @@ fn read_validate(alloc: Global, cursor: &mut Cursor<'_>) -> Result<CallKind, Rea
     Ok(CallKind::Validate { commission })
 }
 
-#[inline(never)]
 fn read_rebag(alloc: Global, cursor: &mut Cursor<'_>) -> Result<CallKind, ReadFault>
     ensures { Reads (behind_tag kinds kind_choice 9) cursor.old result cursor.new }
 {
@@ -259,7 +253,6 @@ fn read_rebag(alloc: Global, cursor: &mut Cursor<'_>) -> Result<CallKind, ReadFa
     Ok(CallKind::Rebag { whom })
 }
 
-#[inline(never)]
 fn read_put_in_front(alloc: Global, cursor: &mut Cursor<'_>) -> Result<CallKind, ReadFault>
     ensures { Reads (behind_tag kinds kind_choice 10) cursor.old result cursor.new }
 {
@@ -267,7 +260,6 @@ fn read_put_in_front(alloc: Global, cursor: &mut Cursor<'_>) -> Result<CallKind,
     Ok(CallKind::PutInFront { lighter })
 }
 
-#[inline(never)]
 fn read_submit(alloc: Global, cursor: &mut Cursor<'_>) -> Result<CallKind, ReadFault>
     ensures { Reads (behind_tag kinds kind_choice 11) cursor.old result cursor.new }
 {
@@ -280,7 +272,6 @@ fn read_submit(alloc: Global, cursor: &mut Cursor<'_>) -> Result<CallKind, ReadF
     })
 }
 
-#[inline(never)]
 fn read_points(alloc: Global, cursor: &mut Cursor<'_>) -> Result<CallKind, ReadFault>
     ensures { Reads (behind_tag kinds kind_choice 12) cursor.old result cursor.new }
 {
@@ -288,7 +279,6 @@ fn read_points(alloc: Global, cursor: &mut Cursor<'_>) -> Result<CallKind, ReadF
     Ok(CallKind::Points { items })
 }
 
-#[inline(never)]
 fn read_payout(alloc: Global, cursor: &mut Cursor<'_>) -> Result<CallKind, ReadFault>
     ensures { Reads (behind_tag kinds kind_choice 13) cursor.old result cursor.new }
 {
@@ -296,7 +286,6 @@ fn read_payout(alloc: Global, cursor: &mut Cursor<'_>) -> Result<CallKind, ReadF
     Ok(CallKind::Payout { era, validator })
 }
 
-#[inline(never)]
 fn read_offence(alloc: Global, cursor: &mut Cursor<'_>) -> Result<CallKind, ReadFault>
     ensures { Reads (behind_tag kinds kind_choice 14) cursor.old result cursor.new }
 {
@@ -308,7 +297,6 @@ fn read_offence(alloc: Global, cursor: &mut Cursor<'_>) -> Result<CallKind, Read
     })
 }
 
-#[inline(never)]
 fn read_cancel_slash(alloc: Global, cursor: &mut Cursor<'_>) -> Result<CallKind, ReadFault>
     ensures { Reads (behind_tag kinds kind_choice 15) cursor.old result cursor.new }
 {
