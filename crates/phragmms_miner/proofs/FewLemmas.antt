@@ -9,7 +9,6 @@ use Rattle.election_snapshot.specs.Snapshot.{Snapshot, stake_of, nominates}
 use Rattle.weight_book.specs.Weights.{edges_from, spent}
 use Rattle.weight_book.specs.Passing.{pay, slack, nominators}
 use Rattle.weight_book.proofs.SumLemmas.{sum_filter-cons, sum_filter_more, sum_filter-take-le, sum_le}
-use Rattle.seat_race.specs.Tables.{AreNominators}
 use Rattle.seat_race.proofs.InLemmas.{all_in, from_filter}
 use Rattle.seat_race.proofs.NominatorLemmas.{nominates_in_range}
 use Rattle.seat_race.proofs.PaidLemmas.{pay_within}
@@ -114,11 +113,6 @@ module _ (price : ℕ) (snapshot : Snapshot) (edges : List Edge) (voter : ℕ) w
 pub nominators_within : (snapshot : Snapshot) (target : ℕ) → All (λ voter. voter < length snapshot.voters) (nominators snapshot target)
 nominators_within snapshot target = all_in (λ voter. voter < length snapshot.voters) (nominators snapshot target)
     (λ voter i. nominates_in_range snapshot voter target (from_filter (λ n. nominates snapshot n target) (range_with_len 0 (length snapshot.voters)) voter i).1)
-
--- the list of a target is that of its nominators
-pub listed_are : (snapshot : Snapshot) (lists : List (List ℕ)) → AreNominators snapshot lists → length lists ≡ length snapshot.targets
-    → (target : ℕ) → target < length snapshot.targets → (voters : List ℕ) → voters ≡ get_or lists target voters → voters ≡ nominators snapshot target
-listed_are snapshot lists are size target h voters is = is ∙ get_or_default lists target voters [] (omega (arith, h, size)) ∙ are target h
 
 -- the table tells the values of the first of these numbers
 abbrev pub AreTold : (ℕ → ℕ) → List ℕ → ℕ → List ℕ → Type 0

@@ -8,7 +8,8 @@ ghost use Rattle.phragmms_miner.specs.Passes.{AreSpare, AreRates, ArePrescores};
 
 use crate::pass::{fill_prescores, fill_rates, pay};
 use election_snapshot::Snapshot;
-use npos_base::{Edge, List};
+use npos_base::Edge;
+use seat_race::Nominators;
 
 /// Nominators are few where they are at most this part of the voters. The edges of each are
 /// searched for, so that for more of them a pass over all edges takes less time.
@@ -21,7 +22,7 @@ pub(crate) fn test_price(
     snapshot: &Snapshot,
     edges: &[Edge],
     supports: &[u128],
-    nominators: &[List<u32>],
+    nominators: &Nominators,
     alive: &[u16],
     rates: &mut [u64],
     left: &mut [u64],
@@ -48,12 +49,12 @@ pub(crate) fn test_price(
 
 /// Whether the targets have few nominators in all, among so many voters. Another answer would cost
 /// time alone, so nothing is said of it.
-pub(crate) fn are_few(voters: usize, nominators: &[List<u32>], alive: &[u16]) -> bool
+pub(crate) fn are_few(voters: usize, nominators: &Nominators, alive: &[u16]) -> bool
     requires { All (λ target. target < length nominators.now) alive.now }
 {
     let mut room = voters / FEW_PART;
     for target in alive {
-        let count = nominators[usize::from(*target)].len();
+        let count = nominators.of(*target).len();
         if count > room {
             return false;
         }
@@ -69,7 +70,7 @@ fn fill_few(
     edges: &[Edge],
     supports: &[u128],
     rates: &[u64],
-    nominators: &[List<u32>],
+    nominators: &Nominators,
     alive: &[u16],
     prescores: &mut [u64],
 )
@@ -84,7 +85,7 @@ fn fill_few(
 {
     for target in alive {
         let place = usize::from(*target);
-        let voters = nominators[place].as_slice();
+        let voters = nominators.of(*target);
         prescores[place] = slack_sum(price, snapshot, edges, supports, rates, voters);
     }
 }

@@ -9,8 +9,8 @@ ghost use Rattle.phragmms_miner.specs.Run.{IsRun, IsNext};
 
 use crate::search::best_outside;
 use election_snapshot::Snapshot;
-use npos_base::{List, NoMemory};
-use seat_race::{fill_sums, nominators_of};
+use npos_base::NoMemory;
+use seat_race::{Nominators, fill_sums};
 use std::alloc::Global;
 use support_balance::Backing;
 use weight_book::Weights;
@@ -29,7 +29,7 @@ pub(crate) struct Tables {
     /// By target, what its nominators have in all.
     approvals: Vec<u64>,
     /// By target, who nominates it.
-    nominators: Vec<List<u32>>,
+    nominators: Nominators,
     /// About where the next greatest score lies.
     pub(crate) hint: u64,
 }
@@ -58,7 +58,7 @@ impl Tables {
     pub(crate) fn new(alloc: Global, snapshot: &Snapshot) -> Result<Tables, NoMemory>
         ensures { IfOk result (λ tables. AreTables snapshot.now
             tables.rates.items tables.left.items tables.prescores.items tables.outside.items
-            tables.approvals.items tables.nominators.items) }
+            tables.approvals.items tables.nominators) }
     {
         let rates = vec![in alloc; 0; snapshot.target_count()]?;
         let left = vec![in alloc; 0; snapshot.voter_count()]?;
@@ -66,7 +66,7 @@ impl Tables {
         let mut approvals = vec![in alloc; 0; snapshot.target_count()]?;
         fill_sums(snapshot, snapshot.stakes(), &mut approvals);
         let prescores = Vec::from_slice(alloc, &approvals)?;
-        let nominators = nominators_of(alloc, snapshot)?;
+        let nominators = Nominators::new(alloc, snapshot)?;
         Ok(Tables {
             rates,
             left,
@@ -94,7 +94,7 @@ pub(crate) fn seat_one(
     requires tables { AreTables snapshot.now
         tables.old.rates.items tables.old.left.items tables.old.prescores.items
         tables.old.outside.items
-        tables.old.approvals.items tables.old.nominators.items }
+        tables.old.approvals.items tables.old.nominators }
     ensures snapshot { backing.new.snapshot ≡ snapshot.now }
     ensures next { OnOk result
         (IsNext snapshot.now rounds backing.old.weights backing.new.weights) }
@@ -103,7 +103,7 @@ pub(crate) fn seat_one(
     ensures tables { AreTables snapshot.now
         tables.new.rates.items tables.new.left.items tables.new.prescores.items
         tables.new.outside.items
-        tables.new.approvals.items tables.new.nominators.items }
+        tables.new.approvals.items tables.new.nominators }
 {
     let pick = pick_next(
         snapshot,
@@ -116,7 +116,7 @@ pub(crate) fn seat_one(
         &mut tables.prescores,
         &mut tables.hint,
     );
-    backing.add_member(pick, tables.nominators[usize::from(pick)].as_slice())?;
+    backing.add_member(pick, tables.nominators.of(pick))?;
     let _made = backing.balance(rounds);
     Ok(())
 }
@@ -126,7 +126,7 @@ fn pick_next(
     snapshot: &Snapshot,
     backing: &Backing<'_>,
     approvals: &[u64],
-    nominators: &[List<u32>],
+    nominators: &Nominators,
     outside: &mut [u16],
     rates: &mut [u64],
     left: &mut [u64],

@@ -8,7 +8,8 @@ ghost use Rattle.phragmms_miner.specs.Search.{IsBestOf, AreRising};
 
 use crate::few::{are_few, test_price};
 use election_snapshot::Snapshot;
-use npos_base::{Edge, List};
+use npos_base::Edge;
+use seat_race::Nominators;
 
 /// So many tests of a search go where the prescores point, before one halves what is left.
 const POINTED_TESTS: u8 = 4;
@@ -22,7 +23,7 @@ pub(crate) fn best_outside(
     edges: &[Edge],
     supports: &[u128],
     approvals: &[u64],
-    nominators: &[List<u32>],
+    nominators: &Nominators,
     outside: &mut [u16],
     rates: &mut [u64],
     left: &mut [u64],
@@ -69,7 +70,7 @@ fn best_of(
     edges: &[Edge],
     supports: &[u128],
     approvals: &[u64],
-    nominators: &[List<u32>],
+    nominators: &Nominators,
     outside: &mut [u16],
     rates: &mut [u64],
     left: &mut [u64],

@@ -38,7 +38,7 @@ module _ (snapshot : Snapshot) (picks : List ℕ) (race : Race) (book : WeightBo
       → AreSums snapshot left_now backings_now
       → length backings_now ≡ length race.backings.items
       → next.is_picked.items ≡ set race.is_picked.items target true
-      → next.nominators.items ≡ race.nominators.items
+      → next.nominators ≡ race.nominators
       → new.plain.committee ≡ book.plain.committee ++ target ∷ []
       → new.plain.edges ≡ book.plain.edges
       → KeepsRoom book new

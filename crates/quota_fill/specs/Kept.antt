@@ -19,8 +19,8 @@ pub record IsAfter (snapshot : Snapshot) (picks : List ℕ) (race : Race) : Type
   pub backings_size : length race.backings.items ≡ length snapshot.targets
   pub marks : AreMarks race.is_picked.items picks
   pub marks_size : length race.is_picked.items ≡ length snapshot.targets
-  pub nominators_are : AreNominators snapshot race.nominators.items
-  pub nominators_size : length race.nominators.items ≡ length snapshot.targets
+  pub nominators_are : AreNominators snapshot race.nominators
+  pub nominators_size : length race.nominators ≡ length snapshot.targets
 
 -- ## Draws, in the order in which they are made
 

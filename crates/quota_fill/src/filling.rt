@@ -59,7 +59,7 @@ fn fill_seat(
     draw_from_all(
         snapshot,
         target,
-        race.nominators[usize::from(target)].as_slice(),
+        race.nominators.of(target),
         &mut race.left,
         &mut race.backings,
         draws,

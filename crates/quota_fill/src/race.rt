@@ -3,8 +3,8 @@ ghost use Rattle.std.specs.Prelude.{[], IfOk};
 ghost use Rattle.quota_fill.specs.Kept.{IsAfter};
 
 use election_snapshot::Snapshot;
-use npos_base::{List, NoMemory};
-use seat_race::{fill_sums, nominators_of};
+use npos_base::NoMemory;
+use seat_race::{Nominators, fill_sums};
 use std::alloc::Global;
 
 /// The state of a fill. What the voters have left and what the targets' nominators have left are
@@ -18,7 +18,7 @@ pub(crate) struct Race {
     /// By target, whether it was picked.
     pub(crate) is_picked: Vec<bool>,
     /// By target, its nominators in rising order.
-    pub(crate) nominators: Vec<List<u32>>,
+    pub(crate) nominators: Nominators,
 }
 
 impl Race {
@@ -32,7 +32,7 @@ impl Race {
         let mut backings = vec![in alloc; 0; targets]?;
         fill_sums(snapshot, &left, &mut backings);
         let is_picked = vec![in alloc; false; targets]?;
-        let nominators = nominators_of(alloc, snapshot)?;
+        let nominators = Nominators::new(alloc, snapshot)?;
         Ok(Race {
             left,
             backings,

@@ -1,3 +1,4 @@
 pub mod Giving
+pub mod Parts
 pub mod Picks
 pub mod Tables

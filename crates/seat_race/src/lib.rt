@@ -7,5 +7,5 @@ mod nominators;
 mod votes;
 
 pub use edges::put_by_voter;
-pub use nominators::nominators_of;
+pub use nominators::Nominators;
 pub use votes::{fill_sums, lower_at, raise_at, raise_wide_at};

@@ -81,8 +81,8 @@ module _ (snapshot : Snapshot) (picks : List ℕ) (race : Race) (after : IsAfter
     floors_size = ap length floors_are ∙ size ∙ after.floors_size;
     marks = λ number. ap (λ v. get_or v.items number false) marks ∙ after.marks number;
     marks_size = ap (λ v. length v.items) marks ∙ after.marks_size;
-    nominators_are = λ target h. ap (λ v. get_or v.items target []) nominators ∙ after.nominators_are target h;
-    nominators_size = ap (λ v. length v.items) nominators ∙ after.nominators_size;
+    nominators_are = λ target h. ap (λ v. get_or v target []) nominators ∙ after.nominators_are target h;
+    nominators_size = ap length nominators ∙ after.nominators_size;
   }
 
 -- ---- one seat more
@@ -119,7 +119,7 @@ module _ (snapshot : Snapshot) (picks : List ℕ) (race : Race) (book : WeightBo
       → length floors_now ≡ length race.floors.items
       → next.approvals.items ≡ race.approvals.items
       → next.is_picked.items ≡ set race.is_picked.items target true
-      → next.nominators.items ≡ race.nominators.items
+      → next.nominators ≡ race.nominators
       → new.plain.committee ≡ book.plain.committee ++ target ∷ []
       → new.plain.edges ≡ book.plain.edges
       → KeepsRoom book new

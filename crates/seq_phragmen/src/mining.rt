@@ -101,7 +101,7 @@ fn take_seat(
         snapshot,
         target,
         score,
-        race.nominators[usize::from(target)].as_slice(),
+        race.nominators.of(target),
         &mut race.loads,
         &mut race.lasts,
         &mut race.burdens,

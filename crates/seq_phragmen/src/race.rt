@@ -3,8 +3,8 @@ ghost use Rattle.std.specs.Prelude.{◌≡◌, ℕ, [], false, length, slice_ind
 ghost use Rattle.seq_phragmen.specs.Kept.{AreApprovals, IsAfter};
 
 use election_snapshot::Snapshot;
-use npos_base::{List, NoMemory};
-use seat_race::{fill_sums, nominators_of};
+use npos_base::NoMemory;
+use seat_race::{Nominators, fill_sums};
 use std::alloc::Global;
 
 /// The state of a run. Loads and what they come to by target are raised together, so that no sum is
@@ -25,7 +25,7 @@ pub(crate) struct Race {
     /// By target, whether it was picked.
     pub(crate) is_picked: Vec<bool>,
     /// By target, its nominators in rising order.
-    pub(crate) nominators: Vec<List<u32>>,
+    pub(crate) nominators: Nominators,
 }
 
 impl Race {
@@ -40,7 +40,7 @@ impl Race {
         let burdens = no_burdens(alloc, targets)?;
         let floors = zeros(alloc, targets)?;
         let is_picked = no_marks(alloc, targets)?;
-        let nominators = nominators_of(alloc, snapshot)?;
+        let nominators = Nominators::new(alloc, snapshot)?;
         Ok(Race {
             loads,
             lasts,

@@ -5,7 +5,7 @@ ghost use Rattle.weight_book.specs.Room.{HasRoom};
 
 use election_snapshot::{Snapshot, SnapshotBuilder};
 use npos_base::{AccountId, Edge, NoMemory};
-use seat_race::nominators_of;
+use seat_race::Nominators;
 use std::alloc::Global;
 use std::test::Fail;
 use support_balance::{Backing, balance, laws};
@@ -108,11 +108,11 @@ fn without_edges(alloc: Global, snapshot: &Snapshot, members: &[u16]) -> Result<
     ensures room { IfOk result (HasRoom snapshot.now) }
     ensures follows { IfOk result (λ weights. Follows snapshot.now weights.plain) }
 {
-    let nominators = nominators_of(alloc, snapshot)?;
+    let nominators = Nominators::new(alloc, snapshot)?;
     let mut backing = Backing::new(alloc, snapshot)?;
     for member in members {
         if usize::from(*member) < snapshot.target_count() && !backing.is_member(*member) {
-            backing.add_member(*member, nominators[usize::from(*member)].as_slice())?;
+            backing.add_member(*member, nominators.of(*member))?;
         }
     }
     let mut weights = Weights::with_room(alloc, snapshot)?;

@@ -1,8 +1,8 @@
-use Rattle.std.proofs.Common.{arith, ◌≡◌, ◌<◌, length, sum_by, ap, ◌∙◌}
+use Rattle.std.proofs.Common.{arith, ◌≡◌, ◌<◌, [], length, get_or, sum_by, ap, sym, ◌∙◌}
 use Rattle.std.proofs.lemmas.List.{length-set}
 use Rattle.weight_book.specs.Passing.{slack, prescore, nominators}
 use Rattle.seat_race.proofs.NominatorLemmas.{stakes_to_fit}
-use Rattle.phragmms_miner.proofs.FewLemmas.{nominators_within, listed_are, told_next}
+use Rattle.phragmms_miner.proofs.FewLemmas.{nominators_within, told_next}
 use Rattle.phragmms_miner.proofs.few.fill_few.Goals as goal
 
 pub slack_sum-requires-clause-voters : goal.slack_sum-requires-clause-voters
@@ -10,8 +10,8 @@ slack_sum-requires-clause-voters c =
     let snapshot = c.args.snapshot.now in
     let place = c.from-place.result in
     let within : place < length snapshot.targets = rw c.from-place.ensures (c.requires.alive c.loop-target.target-index 0 c.loop-target-test.true) in
-    let are : c.as_slice-voters.result.now ≡ nominators snapshot place = c.as_slice-voters.ensures
-    ∙ listed_are snapshot c.args.nominators.now c.requires.nominators c.requires.nominated place within c.index-nominators-place.result c.index-nominators-place.is in
+    let are : c.of-voters.result.now ≡ nominators snapshot place = c.of-voters.ensures
+    ∙ ap (λ n. get_or c.args.nominators.now n []) (sym c.from-place.ensures) ∙ c.requires.nominators place within in
     rw are (nominators_within snapshot place)
 
 pub slack_sum-requires-clause-fits : goal.slack_sum-requires-clause-fits
@@ -19,8 +19,8 @@ slack_sum-requires-clause-fits c =
     let snapshot = c.args.snapshot.now in
     let place = c.from-place.result in
     let within : place < length snapshot.targets = rw c.from-place.ensures (c.requires.alive c.loop-target.target-index 0 c.loop-target-test.true) in
-    let are : c.as_slice-voters.result.now ≡ nominators snapshot place = c.as_slice-voters.ensures
-    ∙ listed_are snapshot c.args.nominators.now c.requires.nominators c.requires.nominated place within c.index-nominators-place.result c.index-nominators-place.is in
+    let are : c.of-voters.result.now ≡ nominators snapshot place = c.of-voters.ensures
+    ∙ ap (λ n. get_or c.args.nominators.now n []) (sym c.from-place.ensures) ∙ c.requires.nominators place within in
     rw are (omega (arith, stakes_to_fit snapshot place, c.requires.fits))
 
 pub loop-target-preserved : goal.loop-target-preserved
@@ -28,8 +28,8 @@ loop-target-preserved c =
     let snapshot = c.args.snapshot.now in
     let place = c.from-place.result in
     let within : place < length snapshot.targets = rw c.from-place.ensures (c.requires.alive c.loop-target.target-index 0 c.loop-target-test.true) in
-    let are : c.as_slice-voters.result.now ≡ nominators snapshot place = c.as_slice-voters.ensures
-    ∙ listed_are snapshot c.args.nominators.now c.requires.nominators c.requires.nominated place within c.index-nominators-place.result c.index-nominators-place.is in
+    let are : c.of-voters.result.now ≡ nominators snapshot place = c.of-voters.ensures
+    ∙ ap (λ n. get_or c.args.nominators.now n []) (sym c.from-place.ensures) ∙ c.requires.nominators place within in
     let told : c.slack_sum.result ≡ prescore c.args.price snapshot c.args.edges.now place = c.slack_sum.ensures
     ∙ ap (sum_by (slack c.args.price snapshot c.args.edges.now)) are in (
       told_next (prescore c.args.price snapshot c.args.edges.now) c.args.alive.now c.loop-target.target-index c.loop-target.prescores c.loop-target.invariant.0

@@ -1,6 +1,6 @@
-use Rattle.std.proofs.Common.{rules, arith, ◌≡◌, ℕ, ◌-◌, ◌<◌, true, [], ◌++◌, Option, Some, None, length, get_or, set, reverse, refl, ap, sym, subst, ◌∙◌}
+use Rattle.std.proofs.Common.{rules, ◌≡◌, ℕ, ◌-◌, ◌<◌, true, ◌++◌, Option, Some, None, length, set, reverse, refl, ap, sym, subst, ◌∙◌}
 use Rattle.std.specs.List.{cons_option}
-use Rattle.std.proofs.lemmas.List.{get_or_default, with_items_is}
+use Rattle.std.proofs.lemmas.List.{with_items_is}
 use Rattle.weight_book.specs.Passing.{nominators}
 use Rattle.std.specs.Vec.{with_items, with_item}
 use Rattle.quota_fill.specs.declared.race.Race.{Race}
@@ -30,13 +30,9 @@ returns c =
     let in_range : c.in-Some.target < length c.args.snapshot.now.targets = search rules in
     let left : (voter : ℕ) → says c.draw_from_all.new.left voter ≡ says race.left.items voter - draw snapshot (says race.left.items) c.in-Some.target voter
     = rw c.deref_mut.ensures.value at c.in_ok-draw_from_all.ensures.left in
-    let drawn : c.draw_from_all.new.draws.items ≡ c.args.draws.now.items ++ draws_of snapshot (says race.left.items) c.in-Some.target c.as_slice.result.now
+    let drawn : c.draw_from_all.new.draws.items ≡ c.args.draws.now.items ++ draws_of snapshot (says race.left.items) c.in-Some.target c.of.result.now
     = rw c.deref_mut.ensures.value at c.in_ok-draw_from_all.ensures.draws in
-    let same : c.from-2.result ≡ c.in-Some.target = search rules in
-    let below : c.from-2.result < length race.nominators.items = omega (arith, same, in_range, c.requires.state.after.nominators_size) in
-    let voters : c.as_slice.result.now ≡ nominators snapshot c.in-Some.target
-    = c.as_slice.ensures ∙ c.index.ensures ∙ get_or_default race.nominators.items c.from-2.result c.index.result.now [] below ∙ ap (λ n. get_or race.nominators.items n []) same
-    ∙ c.requires.state.after.nominators_are c.in-Some.target in_range in
+    let voters : c.of.result.now ≡ nominators snapshot c.in-Some.target = c.of.ensures ∙ c.requires.state.after.nominators_are c.in-Some.target in_range in
     let marked : c.from.result ≡ c.in-Some.target = search rules in
     let left_size : length c.draw_from_all.new.left ≡ length race.left.items = search rules in
     let left_len : length c.draw_from_all.new.left ≡ race.left.len = search rules in

@@ -1,6 +1,6 @@
-use Rattle.std.proofs.Common.{rules, arith, ◌≡◌, ℕ, ◌*◌, ◌^◌, ◌<◌, true, [], ◌++◌, cond, List, Option, Some, None, length, get_or, set, map, reverse, refl, ap, sym, subst, ◌∙◌}
+use Rattle.std.proofs.Common.{rules, arith, ◌≡◌, ℕ, ◌*◌, ◌^◌, ◌<◌, true, ◌++◌, cond, List, Option, Some, None, length, set, map, reverse, refl, ap, sym, subst, ◌∙◌}
 use Rattle.std.specs.List.{cons_option}
-use Rattle.std.proofs.lemmas.List.{get_or_default, with_items_is}
+use Rattle.std.proofs.lemmas.List.{with_items_is}
 use Rattle.std.specs.Vec.{with_items, with_item}
 use Rattle.election_snapshot.specs.Snapshot.{Snapshot, nominates, total_stake}
 use Rattle.weight_book.specs.Passing.{nominators}
@@ -135,13 +135,9 @@ returns c =
     = rw c.deref_mut-2.ensures.value at c.in_ok-raise_loads.ensures.loads in
     let lasts : (voter : ℕ) → says c.raise_loads.new.lasts voter ≡ cond (nominates snapshot voter c.in-Some.field-0.target) c.in-Some.field-0.target (says race.lasts.items voter)
     = rw c.deref_mut-3.ensures.value at c.in_ok-raise_loads.ensures.lasts in
-    let noted : c.raise_loads.new.rises.items ≡ c.args.rises.now.items ++ map (rise_of (says race.loads.items) c.in-Some.field-0.target c.in-Some.field-0.score) c.as_slice.result.now
+    let noted : c.raise_loads.new.rises.items ≡ c.args.rises.now.items ++ map (rise_of (says race.loads.items) c.in-Some.field-0.target c.in-Some.field-0.score) c.of.result.now
     = rw c.deref_mut-2.ensures.value at c.in_ok-raise_loads.ensures.rises in
-    let same : c.from-3.result ≡ c.in-Some.field-0.target = search rules in
-    let below : c.from-3.result < length race.nominators.items = omega (arith, same, in_range, c.requires.state.after.nominators_size) in
-    let voters : c.as_slice.result.now ≡ nominators snapshot c.in-Some.field-0.target
-    = c.as_slice.ensures ∙ c.index.ensures ∙ get_or_default race.nominators.items c.from-3.result c.index.result.now [] below ∙ ap (λ n. get_or race.nominators.items n []) same
-    ∙ c.requires.state.after.nominators_are c.in-Some.field-0.target in_range in
+    let voters : c.of.result.now ≡ nominators snapshot c.in-Some.field-0.target = c.of.ensures ∙ c.requires.state.after.nominators_are c.in-Some.field-0.target in_range in
     let marked : c.from.result ≡ c.in-Some.field-0.target = search rules in
     let loads_size : length c.raise_loads.new.loads ≡ length race.loads.items = search rules in
     let loads_len : length c.raise_loads.new.loads ≡ race.loads.len = search rules in
