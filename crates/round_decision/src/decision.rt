@@ -225,6 +225,8 @@ pub fn decide(
             Ok(seat_winner(checker, weights, &winner))
         }
         None => {
+            // The fill has the room that these had.
+            drop(weights);
             let elected = seat_fill(alloc, checker)?;
             lines.push(Line::SeatFill { round: number })?;
             Ok(elected)
