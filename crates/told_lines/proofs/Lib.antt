@@ -1,3 +1,4 @@
 pub mod DigitLemmas
 pub mod PutLemmas
 pub mod KeptLemmas
+pub mod LineLemmas

@@ -1,4 +1,4 @@
-use Rattle.std.proofs.Common.{rules, ◌≡◌, ℕ, arith}
+use Rattle.std.proofs.Common.{arith}
 use Rattle.told_lines.proofs.DigitLemmas.{pairs_at}
 use Rattle.told_lines.proofs.accounts.digits_of.Goals as goal
 

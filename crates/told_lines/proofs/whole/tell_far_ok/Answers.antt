@@ -3,7 +3,7 @@ use Rattle.std.proofs.lemmas.Fmt.{length-decimal-le}
 use borrow.Rule.Slice.PartMut.{put_mid}
 use Rattle.told_lines.specs.Texts.{ok_line}
 use Rattle.told_lines.proofs.PutLemmas.{behind_put, before}
-use Rattle.told_lines.proofs.whole.tell_ok.Goals as goal
+use Rattle.told_lines.proofs.whole.tell_far_ok.Goals as goal
 
 short : (n : ℕ) → n < 2 ^ 32 → length (decimal n) ≤ 10
 short n h = length-decimal-le 10 n (omega arith) (omega (arith, h)) (omega (arith, h))
