@@ -32,3 +32,17 @@ over_the_rest from part rest behind size =
     ∙ drop_all count rest (omega (arith, size, length-append part rest)) in
     ap₂ (λ l m. l ++ (behind ++ m)) (take_at part rest from size) nothing
     ∙ ap (λ l. part ++ l) (append-nil behind)
+
+-- a part that is written over by as much leaves the line as long
+pub long_put : (from count : ℕ) (line part : List ℕ) → from + count ≤ length line → length part ≡ count
+    → length (put_mid from count line part) ≡ length line
+long_put from count line part within size = omega (
+  arith,
+  within,
+  size,
+  length-append (take from line) (part ++ drop count (drop from line)),
+  length-append part (drop count (drop from line)),
+  length-take-le from line (omega (arith, within)),
+  length-drop count (drop from line),
+  length-drop from line,
+)

@@ -6,4 +6,4 @@ mod pieces;
 mod whole;
 
 pub use pieces::{Piece, tell};
-pub use whole::{tell_amount, tell_ok};
+pub use whole::{tell_amount, tell_ok, tell_oks};
