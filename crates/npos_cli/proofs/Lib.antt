@@ -32,3 +32,4 @@ pub mod WordsLaws
 pub mod CheckpointLaws
 pub mod ResumedLaws
 pub mod ToldLaws
+pub mod LineLaws

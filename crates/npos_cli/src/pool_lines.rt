@@ -44,8 +44,8 @@ fn tell_pool_line(text: &mut Vec<u8>, index: u64, line: &PoolLine) -> Result<(),
     match *line {
         PoolLine::Accepted => tell_accepted(text, index),
         PoolLine::Refused(code) => tell_two(text, "call ", index, " refused ", u64::from(code)),
-        PoolLine::Paid { who, amount } => tell_amount(text, "paid ", who, amount),
-        PoolLine::Slashed { who, amount } => tell_amount(text, "slashed ", who, amount),
+        PoolLine::Paid { who, amount } => tell_amount(text, b"paid ", who, amount),
+        PoolLine::Slashed { who, amount } => tell_amount(text, b"slashed ", who, amount),
     }
 }
 

@@ -1,5 +1,6 @@
 //! The lines of blocks, of their faults, and the end line.
-ghost use Rattle.std.specs.Prelude.{◌≡◌, ◌≢◌, ◌++◌, flat_map, decimal, Some, OnOk};
+ghost use Rattle.std.specs.Prelude.{◌≡◌, ◌≢◌, ◌+◌, ◌^◌, ◌<◌, ◌≤◌, ◌++◌, flat_map, map, take, length, decimal, Some, OnOk, IfOk};
+ghost use Rattle.std.specs.List.{range_with_len};
 ghost use Rattle.told_lines.specs.Texts.{newline};
 ghost use Rattle.bundle_reports.specs.Texts.{fault_line, word_of};
 ghost use Rattle.npos_cli.specs.Texts.{number_line, genesis_line};
@@ -16,7 +17,7 @@ use election_check::Verdict;
 use npos_base::NoMemory;
 use npos_runtime::{GenesisFault, Line, StateFault};
 use stake_ledger::Totals;
-use told_lines::{Piece, tell, tell_amount, tell_ok};
+use told_lines::{Piece, tell, tell_amount, tell_ok, tell_oks};
 
 /// Appends the line of a block whose number is not the due one.
 pub fn tell_other_number(text: &mut Vec<u8>, at: u64, due: u64, found: u32) -> Result<(), NoMemory>
@@ -204,8 +205,8 @@ fn tell_line(text: &mut Vec<u8>, line: &Line) -> Result<(), NoMemory>
         Line::SeatFill { round } => tell_counted(text, "seat ", u64::from(round), " fill\n"),
         Line::Member { who, support } => tell_member(text, who, u128::from(support)),
         Line::CallOk { index } => tell_ok(text, index),
-        Line::Paid { who, amount } => tell_amount(text, "paid ", who, amount),
-        Line::Slashed { who, amount } => tell_amount(text, "slashed ", who, amount),
+        Line::Paid { who, amount } => tell_amount(text, b"paid ", who, amount),
+        Line::Slashed { who, amount } => tell_amount(text, b"slashed ", who, amount),
         Line::Deferred { number, due } => tell_two(text, "deferred ", number, " ", u64::from(due)),
         Line::Applied { number } => tell_counted(text, "apply ", number, "\n"),
         Line::CallRefused { index, code } => {
@@ -220,12 +221,50 @@ fn tell_line(text: &mut Vec<u8>, line: &Line) -> Result<(), NoMemory>
     }
 }
 
+/// How many lines at the front are those of accepted calls, at this place and at those behind it.
+fn accepted(rest: &[Line], first: u32) -> u32
+    ensures within { result ≤ length rest.now }
+    ensures places { first + result < 2 ^ 32 }
+    ensures run { take result rest.now ≡ map lines.CallOk (range_with_len first result) }
+{
+    let mut due = first;
+    for line in rest {
+        match *line {
+            Line::CallOk { index } if index == due && due < u32::MAX => due += 1,
+            _ => return due - first,
+        }
+    }
+    due - first
+}
+
+/// Appends the line at the front, or a run of accepted calls at once, and gives how many lines it
+/// told. Of a line of another kind only its kind is looked at before it is told.
+#[inline]
+fn tell_front(text: &mut Vec<u8>, lines: &[Line]) -> Result<usize, NoMemory>
+    requires { 0 < length lines.now }
+    ensures told { IfOk result (λ count.
+        text.new.items ≡ text.old.items ++ flat_map line_text (take count lines.now)) }
+    ensures some { IfOk result (λ count. 0 < count) }
+    ensures within { IfOk result (λ count. count ≤ length lines.now) }
+{
+    if let Line::CallOk { index } = lines[0] {
+        let count = accepted(lines, index);
+        if count > 1 {
+            tell_oks(text, index, count)?;
+            return Ok(count as usize);
+        }
+    }
+    tell_line(text, &lines[0])?;
+    Ok(1)
+}
+
 /// Appends the lines of a receipt in order.
 pub fn tell_lines(text: &mut Vec<u8>, lines: &[Line]) -> Result<(), NoMemory>
     ensures { OnOk result (text.new.items ≡ text.old.items ++ flat_map line_text lines.now) }
 {
-    for line in lines {
-        tell_line(text, line)?;
+    let mut at = 0;
+    while at < lines.len() {
+        at += tell_front(text, &lines[at..])?;
     }
     Ok(())
 }
