@@ -112,9 +112,26 @@ impl Rings {
         if key < self.owners.len() {
             return Ok(());
         }
+        if key == self.owners.len() {
+            return self.add_key();
+        }
         self.links
             .resize(self.heads + key + 1, Link { prev: 0, next: 0 })?;
         self.owners.resize(key + 1, None)?;
+        Ok(())
+    }
+
+    /// Makes room for the key behind those that have room. Most keys come so, and to add one is
+    /// cheaper than to fill up to one.
+    fn add_key(&mut self) -> Result<(), NoMemory>
+        ensures room { OnOk result (key_limit self.new ≡ key_limit self.old + 1) }
+        ensures grows { key_limit self.old ≤ key_limit self.new }
+        ensures same { SameLists self.old self.new }
+    {
+        self.links.reserve(1)?;
+        self.owners.reserve(1)?;
+        self.links.push_reserved(Link { prev: 0, next: 0 });
+        self.owners.push_reserved(None);
         Ok(())
     }
 
