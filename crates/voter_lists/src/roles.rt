@@ -1,12 +1,12 @@
 //! The roles of accounts, after Substrate's staking pallet.
-ghost use Rattle.std.specs.Prelude.{◌≡◌, ◌≢◌, ◌<◌, ◌≤◌, ◌+◌, [], ◌∷◌, length, drop, nat_eq, None, Some, IfOk, IfErr, OnOk, OnErr, slice_get, slice_index_or, position, is_some};
+ghost use Rattle.std.specs.Prelude.{◌≡◌, ◌≢◌, ◌<◌, ◌≤◌, ◌+◌, ◌||◌, [], ◌∷◌, length, drop, nat_eq, None, Some, IfOk, IfErr, OnOk, OnErr, slice_get, slice_index_or, position, is_some};
 ghost use Rattle.std.specs.List.{list_any};
 ghost use Rattle.std.specs.List.Sorted.{IsStrictlySortedBy};
 ghost use Rattle.npos_base.specs.Account.{account_cmp, same_account};
 ghost use Rattle.npos_base.specs.declared.limits.TheConstants.{MOST_VALIDATORS};
 ghost use Rattle.npos_base.specs.Refusal.{IsDue, MeetsAlways, answer_of};
 ghost use Rattle.voter_lists.specs.declared.refusal.ListRefusal.TheVariants.{NoMemory as NoMemoryRefusal};
-ghost use Rattle.voter_lists.specs.Marks.{AreMarks, RepeatAlike, has_repeated_mark};
+ghost use Rattle.voter_lists.specs.Marks.{unknown, AreMarks, RepeatAlike, has_repeated_mark};
 ghost use Rattle.voter_lists.specs.Owed.{Meets};
 ghost use Rattle.voter_lists.specs.Ranked.{AreRanked};
 ghost use Rattle.voter_lists.specs.Roles.{role_of, nominated_by, validators_of, is_validator, KeepsOthers, has_repeated_account, is_no_target, nominate_refusal, nominated, validate_refusal, validating, chill_refusal, without_role};
@@ -318,11 +318,13 @@ fn repeats(marks: &[u32], targets: &[AccountId]) -> bool
     requires { RepeatAlike marks.now targets.now }
     ensures { result ≡ has_repeated_account targets.now }
 {
-    if marks.contains(&UNKNOWN) {
-        repeats_account(targets)
-    } else {
-        repeats_mark(marks)
+    if !doubts(marks) {
+        return false;
     }
+    if marks.contains(&UNKNOWN) {
+        return repeats_account(targets);
+    }
+    true
 }
 
 /// Whether some account stands twice. The accounts are few.
@@ -339,10 +341,11 @@ fn repeats_account(accounts: &[AccountId]) -> bool
     false
 }
 
-/// Whether some mark stands twice. It goes from the last mark to the first, and mostly the classes of
-/// those behind a mark tell that it is none of them.
-fn repeats_mark(marks: &[u32]) -> bool
-    ensures { result ≡ has_repeated_mark marks.now }
+/// Whether some mark is not known or stands twice. It goes from the last mark to the first, and
+/// mostly the classes of those behind a mark tell that it is none of them, and the classes of all
+/// that each is known.
+fn doubts(marks: &[u32]) -> bool
+    ensures { result ≡ list_any (λ mark. nat_eq mark unknown) marks.now || has_repeated_mark marks.now }
 {
     let mut is_met = [false; CLASSES];
     for i in (0..marks.len()).rev() {
@@ -352,7 +355,7 @@ fn repeats_mark(marks: &[u32]) -> bool
         }
         is_met[class] = true;
     }
-    false
+    is_met[UNKNOWN as usize % CLASSES] && marks.contains(&UNKNOWN)
 }
 
 /// Whether the mark at this place stands behind it again.

@@ -1,7 +1,7 @@
 use Rattle.std.proofs.Common.{◌≡◌, false, drop, length}
 use Rattle.voter_lists.specs.Marks.{has_repeated_mark}
 use Rattle.voter_lists.proofs.ClassLemmas.{AreMet}
-use Rattle.voter_lists.proofs.roles.repeats_mark.Given as goal
+use Rattle.voter_lists.proofs.roles.doubts.Given as goal
 
 -- no mark from i on stands twice, and the classes of these are met
 abbrev pub invariant-loop-i : goal.invariant-loop-i
