@@ -35,8 +35,8 @@ pub enum GenesisStep {
     Stopped(Option<BegunGenesis>, ReadFault),
 }
 
-// An endowment is an account and a number, which has a byte at least.
-const LEAST_ENDOWMENT_BYTES: usize = 33;
+/// For how many endowments there is room from the beginning, at most.
+const FIRST_ENDOWMENTS: u32 = 65_536;
 
 /// The tag of the genesis that stands here and the count of its endowments.
 #[tactic(auto, using(crate::proofs::GenesisLemmas::tag_fault, crate::proofs::GenesisLemmas::count_fault))]
@@ -48,8 +48,9 @@ fn read_head(cursor: &mut Cursor<'_>) -> Result<(u8, u32), WireFault>
     Ok((tag, count))
 }
 
-/// Begins the genesis that stands at this place, of which no endowment is read yet. Room is made
-/// for no more of them than the bytes can have.
+/// Begins the genesis that stands at this place, of which no endowment is read yet. There is room for
+/// all of them at once, up to so many, since a list that grows by doubling touches twice its room.
+/// What is not used of it stays untouched, so a count that is too high costs nothing.
 #[tactic(auto, using(crate::proofs::GenesisLemmas::genesis_opened))]
 fn open_genesis(alloc: Global, bytes: &[u8], at: u64) -> Result<BegunGenesis, ReadFault>
     requires { at + length bytes.now < 2 ^ 64 }
@@ -57,8 +58,7 @@ fn open_genesis(alloc: Global, bytes: &[u8], at: u64) -> Result<BegunGenesis, Re
 {
     let mut here = Cursor::new(bytes, at);
     let (tag, count) = read_head(&mut here)?;
-    let room = (here.rest().len() / LEAST_ENDOWMENT_BYTES).min(count as usize);
-    let endowments = Vec::with_capacity(alloc, room)?;
+    let endowments = Vec::with_capacity(alloc, count.min(FIRST_ENDOWMENTS) as usize)?;
     let size = (here.at() - at) as usize;
     Ok(BegunGenesis {
         tag,

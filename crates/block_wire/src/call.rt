@@ -168,28 +168,31 @@ fn write_kind(kind: &CallKind, pen: &mut Pen) -> Result<(), NoMemory>
 }
 
 // The fields of the kind with this number. Each kind has a function of its own, since a function
-// clears the room of all its values where it begins.
+// clears the room of all its values where it begins, and an arm of its own to the end: where arms
+// meet, or where this is part of what calls it, a call is put together again from the parts of all
+// kinds, which takes longer than to read one.
+#[inline(never)]
 fn read_fields(alloc: Global, tag: u8, cursor: &mut Cursor<'_>) -> Result<CallKind, ReadFault>
     requires { tag < KINDS }
     ensures { Reads (behind_tag kinds kind_choice tag) cursor.old result cursor.new }
 {
     match tag {
-        0 => read_transfer(alloc, cursor),
-        1 => read_bond(alloc, cursor),
-        2 => read_bond_extra(alloc, cursor),
-        3 => read_unbond(alloc, cursor),
-        4 => read_rebond(alloc, cursor),
-        5 => Ok(CallKind::Withdraw),
-        6 => read_nominate(alloc, cursor),
-        7 => read_validate(alloc, cursor),
-        8 => Ok(CallKind::Chill),
-        9 => read_rebag(alloc, cursor),
-        10 => read_put_in_front(alloc, cursor),
-        11 => read_submit(alloc, cursor),
-        12 => read_points(alloc, cursor),
-        13 => read_payout(alloc, cursor),
-        14 => read_offence(alloc, cursor),
-        _ => read_cancel_slash(alloc, cursor),
+        0 => return read_transfer(alloc, cursor),
+        1 => return read_bond(alloc, cursor),
+        2 => return read_bond_extra(alloc, cursor),
+        3 => return read_unbond(alloc, cursor),
+        4 => return read_rebond(alloc, cursor),
+        5 => return Ok(CallKind::Withdraw),
+        6 => return read_nominate(alloc, cursor),
+        7 => return read_validate(alloc, cursor),
+        8 => return Ok(CallKind::Chill),
+        9 => return read_rebag(alloc, cursor),
+        10 => return read_put_in_front(alloc, cursor),
+        11 => return read_submit(alloc, cursor),
+        12 => return read_points(alloc, cursor),
+        13 => return read_payout(alloc, cursor),
+        14 => return read_offence(alloc, cursor),
+        _ => return read_cancel_slash(alloc, cursor),
     }
 }
 

@@ -22,7 +22,8 @@ pub struct Ahead {
 
 impl Ahead {
     /// Guesses for the transfers among the first calls of a block: of each the payer's, and then
-    /// that of whom it pays.
+    /// that of whom it pays. Who is said to have nothing free is mostly another, or not the payer,
+    /// and found when it is asked for: to see that, the rows of all are read here together.
     pub fn of_transfers(alloc: Global, book: &Book, calls: &[Call]) -> Result<Ahead, NoMemory> {
         let first = &calls[..calls.len().min(CALLS_AHEAD)];
         let mut guesses = Vec::with_capacity(alloc, 2 * first.len())?;
@@ -30,6 +31,11 @@ impl Ahead {
             if let CallKind::Transfer { to, .. } = &call.kind {
                 guesses.push(book.guess(*to))?;
                 guesses.push(book.guess(call.who))?;
+            }
+        }
+        for guess in guesses.as_mut_slice() {
+            if !book.has_free_at(*guess) {
+                *guess = NOWHERE;
             }
         }
         Ok(Ahead { guesses })

@@ -1,5 +1,6 @@
 //! The parts of a step: each tells its lines and says what becomes of the chain.
-ghost use Rattle.std.specs.Prelude.{◌≡◌, ◌+◌, ◌<◌, ◌≤◌, ◌^◌, [], length, OnOk, IfOk};
+ghost use Rattle.std.specs.Prelude.{◌≡◌, ◌+◌, ◌<◌, ◌≤◌, ◌^◌, ◌++◌, [], ◌∷◌, length, take, vec_len, OnOk, IfOk};
+ghost use Rattle.block_receipts.specs.declared.line.Line.TheVariants as variants;
 ghost use Rattle.npos_runtime.specs.Outcome.{Goes, Outcome};
 ghost use Rattle.npos_runtime.specs.Step.{call_outcome, calls_outcome, opened, step};
 ghost use Rattle.npos_runtime.specs.Rounds.{round_phase};
@@ -11,7 +12,7 @@ use crate::ahead::Ahead;
 use crate::ballot::take_snapshot;
 use crate::decision::decide_round;
 use crate::era::begin_era;
-use block_receipts::{Line, Stop};
+use block_receipts::{Line, Refusal, Stop};
 use block_wire::Call;
 use chain_params::begun_round;
 use npos_base::NoMemory;
@@ -27,6 +28,27 @@ fn begin_round(alloc: Global, chain: &mut Chain, lines: &mut Vec<Line>) -> Resul
         lines.push(line)?;
         chain.round = Some(round);
     }
+    Ok(())
+}
+
+/// The line of a call that was refused, in place of what was told of it. It is rare, and what it
+/// puts together has room of its own here.
+#[inline(never)]
+fn tell_refused(
+    lines: &mut Vec<Line>,
+    told: usize,
+    index: u32,
+    refusal: Refusal,
+) -> Result<(), NoMemory>
+    requires { told ≤ vec_len lines.old }
+    ensures { OnOk result (lines.new.items
+        ≡ take told lines.old.items ++ variants.CallRefused index (code_of refusal) ∷ []) }
+{
+    lines.truncate(told);
+    lines.push(Line::CallRefused {
+        index,
+        code: refusal.code(),
+    })?;
     Ok(())
 }
 
@@ -52,14 +74,7 @@ fn take_call(
     lines.push_reserved(Line::CallOk { index });
     match act(alloc, chain, lines, ahead, who, kind) {
         Ok(()) => Ok(()),
-        Err(Stop::Refused(refusal)) => {
-            lines.truncate(told);
-            lines.push(Line::CallRefused {
-                index,
-                code: refusal.code(),
-            })?;
-            Ok(())
-        }
+        Err(Stop::Refused(refusal)) => tell_refused(lines, told, index, refusal),
         Err(Stop::NoMemory) => Err(NoMemory),
     }
 }

@@ -363,6 +363,12 @@ impl Book {
         self.rows.guess(who)
     }
 
+    /// Whether who stands at the guess has something free. Nothing rests on it: who asks this of
+    /// many guesses has read the rows of all before the first of them is changed.
+    pub fn has_free_at(&self, guess: u32) -> bool {
+        self.rows.has_free_at(guess)
+    }
+
     /// Makes the value, which is free for the account; its row is opened where it has none. The
     /// account may be found by the guess. It refuses with `IssuanceCap` where the value is above
     /// the room.

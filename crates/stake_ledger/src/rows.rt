@@ -165,6 +165,14 @@ impl Rows {
         self.places.guess(who)
     }
 
+    /// Whether the row at the guess has something free. Nothing rests on it.
+    pub fn has_free_at(&self, guess: u32) -> bool {
+        match self.rows.get(guess as usize) {
+            Some(row) => row.free > 0,
+            None => false,
+        }
+    }
+
     /// Gives the account the value; its row is made where it has none. It may be found by the
     /// guess.
     #[tactic(auto, using(crate::proofs::PlaceLemmas::row_in_unplaced, crate::proofs::PlaceLemmas::placed_changed))]
