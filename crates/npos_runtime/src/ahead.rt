@@ -22,8 +22,9 @@ pub struct Ahead {
 
 impl Ahead {
     /// Guesses for the transfers among the first calls of a block: of each the payer's, and then
-    /// that of whom it pays. Who is said to have nothing free is mostly another, or not the payer,
-    /// and found when it is asked for: to see that, the rows of all are read here together.
+    /// that of whom it pays. The rows that they say are read here together, so that no transfer
+    /// waits for one alone; a guess of a row that has nothing free is let go, and its account is
+    /// found when it is asked for.
     pub fn of_transfers(alloc: Global, book: &Book, calls: &[Call]) -> Result<Ahead, NoMemory> {
         let first = &calls[..calls.len().min(CALLS_AHEAD)];
         let mut guesses = Vec::with_capacity(alloc, 2 * first.len())?;
