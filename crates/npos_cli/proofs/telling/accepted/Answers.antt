@@ -9,7 +9,7 @@ loop-line-preserved c =
     let at = c.loop-line.line-index in
     let here : c.in-CallOk.index ≡ c.args.first + at = omega arith in (
       omega arith,
-      take_more c.args.rest.now at (lines.CallOk 0) (omega arith)
+      take_more c.args.rest.now at (lines.Block 0) (omega arith)
           ∙ ap (λ x. take at c.args.rest.now ++ x ∷ []) (c.in-CallOk.is ∙ ap (λ n. lines.CallOk n) here)
           ∙ run_on (take at c.args.rest.now) c.args.first at c.loop-line.invariant.1,
     )
