@@ -1,3 +1,4 @@
+pub mod ChainLemmas
 pub mod DrawLemmas
 pub mod EdgeLemmas
 pub mod PassingLemmas

@@ -1,8 +1,8 @@
 -- One pick's draws, nominator by nominator, and the tables beside them.
-use Rattle.std.proofs.Common.{◌≡◌, ℕ, zero, suc, ◌+◌, ◌-◌, ◌<◌, ◌≤◌, ◌⊎◌, min, Bool, true, false, cond, nat_eq, nat_lt, List, [], ◌∷◌, ◌++◌, length, length-append, take, get_or, set, map, filter, sum_by, inl, inr, refl, ap, sym, subst, ◌∙◌, arith}
+use Rattle.std.proofs.Common.{◌≡◌, ℕ, zero, suc, ◌+◌, ◌-◌, ◌<◌, ◌≤◌, ◌⊎◌, min, Bool, true, false, cond, nat_eq, nat_lt, List, [], ◌∷◌, ◌++◌, length, length-append, length-drop, take, drop, get_or, set, map, filter, sum_by, inl, inr, refl, ap, sym, subst, ◌∙◌, arith}
 use Rattle.std.specs.List.{range_with_len}
 use Rattle.std.proofs.Math.Seq.{take-append_seam}
-use Rattle.std.proofs.lemmas.List.{take_all, take_more, map_more, length-set, take-append-le, get_or_append_left, get_or_push, get_or-set_same, get_or-set_other, append_assoc}
+use Rattle.std.proofs.lemmas.List.{take_all, take_more, map_more, length-set, take-append-le, get_or_append_left, get_or_push, get_or-set_same, get_or-set_other, append_assoc, append-nil, drop_more, set-get_or}
 use Rattle.std.proofs.lemmas.List.Elements.{filter-append}
 use Rattle.std.proofs.lemmas.List.Sums.{sum_by_push}
 use Rattle.std.proofs.lemmas.Bool.{cases_Bool, cases_eq, cases_lt, cond-true, cond-false, eq-eqb, ne_eqb, true≢false}
@@ -12,10 +12,13 @@ use Rattle.weight_book.specs.Passing.{nominators}
 use Rattle.weight_book.proofs.SumLemmas.{sum_of_sums, sum_same}
 use Rattle.weight_book.proofs.StakeLemmas.{range_more}
 use Rattle.seat_race.specs.Tables.{says, nominators_before, AreSums}
+use Rattle.quota_fill.specs.declared.chains.Link.{Link}
+use Rattle.quota_fill.specs.Chains.{nowhere, nominators_from, IsAt, Leads}
 use Rattle.quota_fill.specs.Filled.{draw}
 use Rattle.quota_fill.specs.Kept.{draw_edge, draws_of}
 use Rattle.seat_race.proofs.InLemmas.{In, in_at, in_has, from_has, from_filter, term_le, all_at}
 use Rattle.seat_race.proofs.NominatorLemmas.{has_nominators, nominates_in_range, nominators_distinct, one_nominator}
+use Rattle.quota_fill.proofs.ChainLemmas.{all_are_from, at_nominates, nominator_first, none_beyond}
 use Rattle.quota_fill.proofs.DrawLemmas.{drawn_nominates, drawn_from_nominator}
 use Rattle.seat_race.proofs.TableLemmas.{fresh, now_there, still_there}
 
@@ -217,3 +220,64 @@ module _ (snapshot : Snapshot) (target : ℕ) (old : List ℕ) (drawn : List Edg
         | inl l ↦ absurd (true≢false (sym (in_has voters voter (has_nominators snapshot voter target (drawn_nominates snapshot (says old) target voter l))) ∙ f))
         | inr l ↦ omega (arith, l, cond-false (has voters voter) (draw snapshot (says old) target voter) 0 f)
       ]
+
+  -- ---- from link to link
+  -- the link leads to the nominator after those that were drawn from
+  pub record IsAlong (link : Link) (left backings : List ℕ) (due : ℕ) (draws : List Edge) : Type 0 where
+    pub count : ℕ
+    pub drawing : IsDrawing count left backings due draws
+    pub at : (link.voter ≡ nowhere.voter) ⊎ IsAt snapshot target link
+    pub ahead : drop count voters ≡ nominators_from snapshot target link.voter
+
+  pub along_first : (link : Link) (left backings : List ℕ) (due : ℕ) → IsDrawing 0 left backings due drawn → Leads snapshot target 0 link → IsAlong link left backings due drawn
+  along_first link left backings due none lead = record { count = 0; drawing = none; at = lead.at; ahead = all_are_from snapshot target ∙ lead.skips }
+
+  module _ (link : Link) (left backings : List ℕ) (due : ℕ) (draws : List Edge) (along : IsAlong link left backings due draws) where
+    module _ (at : IsAt snapshot target link) where
+      split : drop along.count voters ≡ link.voter ∷ nominators_from snapshot target (link.voter + 1)
+      split = along.ahead ∙ nominator_first snapshot target link.voter (at_nominates snapshot target link at)
+
+      not_all : along.count < length voters
+      not_all = omega (arith, ap length split, length-drop along.count voters)
+
+      parts : get_or voters along.count 0 ∷ drop (along.count + 1) voters ≡ link.voter ∷ nominators_from snapshot target (link.voter + 1)
+      parts = sym (drop_more voters along.count 0 not_all) ∙ split
+
+      giver_is : get_or voters along.count 0 ≡ link.voter
+      giver_is = ap (λ ns. get_or ns 0 0) parts
+
+      pub along_more : (next : Link) → Leads snapshot target (link.voter + 1) next → (new : List ℕ)
+          → AreSums snapshot (set left link.voter (says left link.voter - min (says left link.voter) due)) new → length new ≡ length backings
+          → IsAlong next (set left link.voter (says left link.voter - min (says left link.voter) due)) new (due - min (says left link.voter) due)
+          (draws ++ cond (nat_lt 0 (min (says left link.voter) due)) (record { voter = link.voter; target = target; amount = min (says left link.voter) due } ∷ []) [])
+      along_more next lead new are size = record {
+        count = along.count + 1;
+        drawing = rw giver_is at (drawing_more along.count 0 not_all left backings due draws along.drawing new (rw giver_is are) size);
+        at = lead.at;
+        ahead = ap (λ ns. drop 1 ns) parts ∙ lead.skips;
+      }
+
+    pub along_ends : length snapshot.voters ≤ nowhere.voter → link.voter ≡ nowhere.voter → length voters ≤ along.count
+    along_ends few end = none_left (drop along.count voters) refl (along.ahead ∙ ap (nominators_from snapshot target) end ∙ none_beyond snapshot target nowhere.voter few) where
+      none_left : (rest : List ℕ) → drop along.count voters ≡ rest → rest ≡ [] → length voters ≤ along.count
+      none_left rest is none = omega (arith, ap length (is ∙ none), length-drop along.count voters)
+
+  -- where the price is drawn, nothing is drawn from the others
+  nothing_more : (i d : ℕ) → i < length voters → (left backings : List ℕ) (draws : List Edge) → IsDrawing i left backings 0 draws → IsDrawing (i + 1) left backings 0 draws
+  nothing_more i d h left backings draws so_far =
+      let giver = get_or voters i d in
+      let none : min (says left giver) 0 ≡ 0 = omega arith in
+      let stays : set left giver (says left giver - min (says left giver) 0) ≡ left = ap (set left giver) (all_left (says left giver)) ∙ set-get_or left giver 0 in
+      let more = drawing_more i d h left backings 0 draws so_far backings (subst (λ ns. AreSums snapshot ns backings) (sym stays) so_far.backings_are) refl in
+      subst (λ es. IsDrawing (i + 1) left backings 0 es) (append-nil draws) (rw (stays, none) at more)
+    where
+      all_left : (n : ℕ) → n - min n 0 ≡ n
+      all_left n = omega arith
+
+  pub drawing_all : (rest i : ℕ) → length voters ≤ i + rest → (left backings : List ℕ) (draws : List Edge) → IsDrawing i left backings 0 draws
+      → (all : ℕ) × (length voters ≤ all) × IsDrawing all left backings 0 draws
+  drawing_all zero i most left backings draws so_far = (i, omega (arith, most), so_far)
+  drawing_all (suc rest) i most left backings draws so_far = elim (cases_lt i (length voters)) [
+    | inl h ↦ drawing_all rest (i + 1) (omega (arith, most)) left backings draws (nothing_more i 0 h left backings draws so_far)
+    | inr ends ↦ (i, ends, so_far)
+  ]

@@ -5,8 +5,9 @@ use Rattle.npos_base.specs.declared.figures.Edge.{Edge}
 use Rattle.election_snapshot.specs.Snapshot.{Snapshot}
 use Rattle.weight_book.specs.Passing.{nominators}
 use Rattle.weight_book.specs.Room.{WeightBook, HasRoom}
-use Rattle.seat_race.specs.Tables.{says, AreMarks, AreNominators, AreSums}
+use Rattle.seat_race.specs.Tables.{says, AreMarks, AreSums}
 use Rattle.quota_fill.specs.declared.race.Race.{Race}
+use Rattle.quota_fill.specs.Chains.{AreChains}
 use Rattle.quota_fill.specs.Filled.{draw, left_after, next_pick}
 
 -- ## Tables
@@ -19,8 +20,7 @@ pub record IsAfter (snapshot : Snapshot) (picks : List ℕ) (race : Race) : Type
   pub backings_size : length race.backings.items ≡ length snapshot.targets
   pub marks : AreMarks race.is_picked.items picks
   pub marks_size : length race.is_picked.items ≡ length snapshot.targets
-  pub nominators_are : AreNominators snapshot race.nominators
-  pub nominators_size : length race.nominators ≡ length snapshot.targets
+  pub chains_are : AreChains snapshot race.chains
 
 -- ## Draws, in the order in which they are made
 

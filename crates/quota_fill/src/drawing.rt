@@ -2,11 +2,13 @@
 ghost use Rattle.std.specs.Prelude.{◌≡◌, ℕ, ◌-◌, ◌<◌, ◌≤◌, ◌∷◌, [], ◌++◌, if◌then◌else◌, length, false, nat_lt, slice_index_or, slice_set, IfSome, IfNone, OnOk};
 ghost use Rattle.npos_base.specs.declared.limits.TheConstants.{MOST_TARGETS};
 ghost use Rattle.weight_book.specs.Passing.{nominators};
+ghost use Rattle.quota_fill.specs.Chains.{AreChains};
 ghost use Rattle.quota_fill.specs.Filled.{draw};
 ghost use Rattle.seat_race.specs.Picks.{more, first_best};
 ghost use Rattle.seat_race.specs.Tables.{says, unmarked, AreSums};
 ghost use Rattle.quota_fill.specs.Kept.{draws_of};
 
+use crate::chains::Chains;
 use election_snapshot::Snapshot;
 use npos_base::{Edge, NoMemory};
 use seat_race::lower_at;
@@ -49,31 +51,35 @@ fn first_outside(is_picked: &[bool]) -> Option<usize>
     None
 }
 
-/// Draws the price of a seat for the target from its nominators, in their order.
+/// Draws the price of a seat for the target from its nominators, in their order, until it is drawn.
 pub(crate) fn draw_from_all(
     snapshot: &Snapshot,
     target: u16,
-    voters: &[u32],
+    chains: &Chains,
     left: &mut [u64],
     backings: &mut [u64],
     draws: &mut Vec<Edge>,
 ) -> Result<(), NoMemory>
-    requires voters { voters.now ≡ nominators snapshot.now target }
+    requires target { target < length snapshot.now.targets }
+    requires chains { AreChains snapshot.now chains.now }
     requires left_size { length left.old ≡ length snapshot.now.voters }
     requires backings_size { length backings.old ≡ length snapshot.now.targets }
     requires backings { AreSums snapshot.now left.old backings.old }
     ensures left { OnOk result ((voter : ℕ) → says left.new voter
         ≡ says left.old voter - draw snapshot.now (says left.old) target voter) }
     ensures backings { OnOk result (AreSums snapshot.now left.new backings.new) }
-    ensures draws { OnOk result (draws.new.items
-        ≡ draws.old.items ++ draws_of snapshot.now (says left.old) target voters.now) }
+    ensures draws { OnOk result (draws.new.items ≡ draws.old.items
+        ++ draws_of snapshot.now (says left.old) target (nominators snapshot.now target)) }
 {
     let mut due = snapshot.threshold();
-    for voter in voters {
-        let amount = left[*voter as usize].min(due);
-        draw_from(snapshot, *voter, amount, left, backings);
-        note_draw(*voter, target, amount, draws)?;
+    let mut link = chains.first(snapshot, target);
+    'voters: while due > 0 && link.leads() {
+        let voter = u32::from(link.voter);
+        let amount = left[voter as usize].min(due);
+        draw_from(snapshot, voter, amount, left, backings);
+        note_draw(voter, target, amount, draws)?;
         due -= amount;
+        link = chains.next(snapshot, link);
     }
     Ok(())
 }

@@ -59,7 +59,7 @@ fn fill_seat(
     draw_from_all(
         snapshot,
         target,
-        race.nominators.of(target),
+        &race.chains,
         &mut race.left,
         &mut race.backings,
         draws,

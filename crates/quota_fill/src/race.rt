@@ -2,9 +2,10 @@
 ghost use Rattle.std.specs.Prelude.{[], IfOk};
 ghost use Rattle.quota_fill.specs.Kept.{IsAfter};
 
+use crate::chains::Chains;
 use election_snapshot::Snapshot;
 use npos_base::NoMemory;
-use seat_race::{Nominators, fill_sums};
+use seat_race::fill_sums;
 use std::alloc::Global;
 
 /// The state of a fill. What the voters have left and what the targets' nominators have left are
@@ -18,7 +19,7 @@ pub(crate) struct Race {
     /// By target, whether it was picked.
     pub(crate) is_picked: Vec<bool>,
     /// By target, its nominators in rising order.
-    pub(crate) nominators: Nominators,
+    pub(crate) chains: Chains,
 }
 
 impl Race {
@@ -32,12 +33,12 @@ impl Race {
         let mut backings = vec![in alloc; 0; targets]?;
         fill_sums(snapshot, &left, &mut backings);
         let is_picked = vec![in alloc; false; targets]?;
-        let nominators = Nominators::new(alloc, snapshot)?;
+        let chains = Chains::new(alloc, snapshot)?;
         Ok(Race {
             left,
             backings,
             is_picked,
-            nominators,
+            chains,
         })
     }
 }

@@ -1,32 +1,76 @@
-use Rattle.std.proofs.Common.{rules, arith, ◌≡◌, ℕ, ◌<◌, ◌≤◌, min, List, length, get_or, sym, subst}
-use Rattle.quota_fill.proofs.RoundLemmas.{giver_in_range, drawing_more, drawn_from_each}
+use Rattle.std.proofs.Common.{rules, arith, ◌≡◌, ◌∙◌, ◌++◌, min, length, get_or, ap, subst}
+use Rattle.std.proofs.lemmas.List.{take_all}
+use Rattle.std.proofs.lemmas.Option.{slice_get_within}
+use Rattle.election_snapshot.specs.Snapshot.{votes_of}
+use Rattle.weight_book.specs.Passing.{nominators}
+use Rattle.seat_race.specs.Tables.{says}
+use Rattle.seat_race.proofs.NominatorLemmas.{nominates_in_range}
+use Rattle.quota_fill.specs.Kept.{draws_of}
+use Rattle.quota_fill.proofs.ChainLemmas.{at_nominates, leads_on}
+use Rattle.quota_fill.proofs.RoundLemmas.{IsDrawing, along_first, along_more, along_ends, drawing_all, drawn_from_each}
 use Rattle.quota_fill.proofs.drawing.draw_from_all.Goals as goal
 
-pub draw_from-requires-clause-voter : goal.draw_from-requires-clause-voter
-draw_from-requires-clause-voter c =
-    let loop = c.loop-voter in
-    let h = subst (λ (ns : List ℕ). loop.voter-index < length ns) c.requires.voters c.loop-voter-test.true in
-    subst (λ (ns : List ℕ). get_or ns loop.voter-index 0 < length c.args.snapshot.now.voters) (sym c.requires.voters)
-    (giver_in_range c.args.snapshot.now c.args.target c.args.left.now c.args.draws.now.items loop.voter-index 0 h loop.left loop.backings loop.due loop.draws.items loop.invariant)
+pub voters-init : goal.voters-init
+voters-init c = along_first c.args.snapshot.now c.args.target c.args.left.now c.args.draws.now.items c.first-link.result c.args.left.now c.args.backings.now c.threshold-due.result (search rules) c.first-link.ensures
 
 pub bounds-left-voter : goal.bounds-left-voter
 bounds-left-voter c =
-    let loop = c.loop-voter in
-    let h = subst (λ (ns : List ℕ). loop.voter-index < length ns) c.requires.voters c.loop-voter-test.true in
-    subst (λ (ns : List ℕ). get_or ns loop.voter-index 0 < length loop.left) (sym c.requires.voters)
-    (omega (arith, giver_in_range c.args.snapshot.now c.args.target c.args.left.now c.args.draws.now.items loop.voter-index 0 h loop.left loop.backings loop.due loop.draws.items loop.invariant, loop.invariant.left_size))
+    let snapshot = c.args.snapshot.now in
+    let at = leads_on snapshot c.args.target c.voters.link c.leads.result c.if-leads.true c.leads.ensures.yes c.voters.invariant.at in
+    omega (arith, c.from-voter.ensures, nominates_in_range snapshot c.voters.link.voter c.args.target (at_nominates snapshot c.args.target c.voters.link at), c.voters.invariant.drawing.left_size)
 
-pub loop-voter-preserved : goal.loop-voter-preserved
-loop-voter-preserved c =
-    let loop = c.loop-voter in
-    let h = subst (λ (ns : List ℕ). loop.voter-index < length ns) c.requires.voters c.loop-voter-test.true in
-    let is : c.min-amount.result ≡ min (get_or loop.left (get_or c.args.voters.now loop.voter-index 0) 0) loop.due = search rules in
-    rw (c.draw_from.ensures.left, c.in_ok-note_draw.ensures, is, c.requires.voters)
-    (drawing_more c.args.snapshot.now c.args.target c.args.left.now c.args.draws.now.items loop.voter-index 0 h loop.left loop.backings loop.due loop.draws.items loop.invariant
-    c.draw_from.new.backings (rw (c.draw_from.ensures.left, is, c.requires.voters) at c.draw_from.ensures.backings) (search rules))
+pub next-link-requires-clause-place : goal.next-link-requires-clause-place
+next-link-requires-clause-place c =
+    slice_get_within (votes_of c.args.snapshot.now c.voters.link.voter) c.voters.link.place c.args.target
+    (leads_on c.args.snapshot.now c.args.target c.voters.link c.leads.result c.if-leads.true c.leads.ensures.yes c.voters.invariant.at)
 
-pub returns-clause-left : goal.returns-clause-left
-returns-clause-left c =
-    let loop = c.loop-voter in
-    drawn_from_each c.args.snapshot.now c.args.target c.args.left.now c.args.draws.now.items loop.voter-index loop.left loop.backings loop.due loop.draws.items loop.invariant
-    (subst (λ (ns : List ℕ). length ns ≤ loop.voter-index) c.requires.voters c.loop-voter-test.false)
+pub voters-smaller : goal.voters-smaller
+voters-smaller c =
+    let snapshot = c.args.snapshot.now in
+    let link = c.voters.link in
+    let at = leads_on snapshot c.args.target link c.leads.result c.if-leads.true c.leads.ensures.yes c.voters.invariant.at in
+    omega (arith, (c.next-link.ensures c.args.target at).beyond, nominates_in_range snapshot link.voter c.args.target (at_nominates snapshot c.args.target link at), c.threshold-due.ensures.well_formed.voters.voters_few)
+
+pub voters-preserved : goal.voters-preserved
+voters-preserved c =
+    let snapshot = c.args.snapshot.now in
+    let loop = c.voters in
+    let link = loop.link in
+    let at = leads_on snapshot c.args.target link c.leads.result c.if-leads.true c.leads.ensures.yes loop.invariant.at in
+    let is : c.min-amount.result ≡ min (get_or loop.left c.from-voter.result 0) loop.due = search rules in
+    rw (c.draw_from.ensures.left, c.in_ok-note_draw.ensures, is, c.from-voter.ensures)
+    (along_more snapshot c.args.target c.args.left.now c.args.draws.now.items link loop.left loop.backings loop.due loop.draws.items loop.invariant at
+    c.next-link.result (c.next-link.ensures c.args.target at)
+    c.draw_from.new.backings (rw (c.draw_from.ensures.left, is, c.from-voter.ensures) at c.draw_from.ensures.backings) (search rules))
+
+pub returns-else-leads-clause-left : goal.returns-else-leads-clause-left
+returns-else-leads-clause-left c =
+    let loop = c.voters in
+    let ends = along_ends c.args.snapshot.now c.args.target c.args.left.now c.args.draws.now.items loop.link loop.left loop.backings loop.due loop.draws.items loop.invariant (search rules) (c.leads.ensures.no c.if-leads.false) in
+    drawn_from_each c.args.snapshot.now c.args.target c.args.left.now c.args.draws.now.items loop.invariant.count loop.left loop.backings loop.due loop.draws.items loop.invariant.drawing ends
+
+pub returns-else-leads-clause-draws : goal.returns-else-leads-clause-draws
+returns-else-leads-clause-draws c =
+    let loop = c.voters in
+    let ends = along_ends c.args.snapshot.now c.args.target c.args.left.now c.args.draws.now.items loop.link loop.left loop.backings loop.due loop.draws.items loop.invariant (search rules) (c.leads.ensures.no c.if-leads.false) in
+    loop.invariant.drawing.draws_are
+    ∙ ap (λ ns. c.args.draws.now.items ++ draws_of c.args.snapshot.now (says c.args.left.now) c.args.target ns) (take_all loop.invariant.count (nominators c.args.snapshot.now c.args.target) ends)
+
+pub returns-after-voters-clause-left : goal.returns-after-voters-clause-left
+returns-after-voters-clause-left c =
+    let loop = c.voters in
+    let drawn : loop.due ≡ 0 = omega (arith, c.voters-test.false) in
+    let (all, ends, drawing) = drawing_all c.args.snapshot.now c.args.target c.args.left.now c.args.draws.now.items
+    (length (nominators c.args.snapshot.now c.args.target)) loop.invariant.count (omega arith) loop.left loop.backings loop.draws.items
+    (subst (λ n. IsDrawing c.args.snapshot.now c.args.target c.args.left.now c.args.draws.now.items loop.invariant.count loop.left loop.backings n loop.draws.items) drawn loop.invariant.drawing) in
+    drawn_from_each c.args.snapshot.now c.args.target c.args.left.now c.args.draws.now.items all loop.left loop.backings 0 loop.draws.items drawing ends
+
+pub returns-after-voters-clause-draws : goal.returns-after-voters-clause-draws
+returns-after-voters-clause-draws c =
+    let loop = c.voters in
+    let drawn : loop.due ≡ 0 = omega (arith, c.voters-test.false) in
+    let (all, ends, drawing) = drawing_all c.args.snapshot.now c.args.target c.args.left.now c.args.draws.now.items
+    (length (nominators c.args.snapshot.now c.args.target)) loop.invariant.count (omega arith) loop.left loop.backings loop.draws.items
+    (subst (λ n. IsDrawing c.args.snapshot.now c.args.target c.args.left.now c.args.draws.now.items loop.invariant.count loop.left loop.backings n loop.draws.items) drawn loop.invariant.drawing) in
+    drawing.draws_are
+    ∙ ap (λ ns. c.args.draws.now.items ++ draws_of c.args.snapshot.now (says c.args.left.now) c.args.target ns) (take_all all (nominators c.args.snapshot.now c.args.target) ends)

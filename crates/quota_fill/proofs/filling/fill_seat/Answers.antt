@@ -30,9 +30,8 @@ returns c =
     let in_range : c.in-Some.target < length c.args.snapshot.now.targets = search rules in
     let left : (voter : ℕ) → says c.draw_from_all.new.left voter ≡ says race.left.items voter - draw snapshot (says race.left.items) c.in-Some.target voter
     = rw c.deref_mut.ensures.value at c.in_ok-draw_from_all.ensures.left in
-    let drawn : c.draw_from_all.new.draws.items ≡ c.args.draws.now.items ++ draws_of snapshot (says race.left.items) c.in-Some.target c.of.result.now
+    let drawn : c.draw_from_all.new.draws.items ≡ c.args.draws.now.items ++ draws_of snapshot (says race.left.items) c.in-Some.target (nominators snapshot c.in-Some.target)
     = rw c.deref_mut.ensures.value at c.in_ok-draw_from_all.ensures.draws in
-    let voters : c.of.result.now ≡ nominators snapshot c.in-Some.target = c.of.ensures ∙ c.requires.state.after.nominators_are c.in-Some.target in_range in
     let marked : c.from.result ≡ c.in-Some.target = search rules in
     let left_size : length c.draw_from_all.new.left ≡ length race.left.items = search rules in
     let left_len : length c.draw_from_all.new.left ≡ race.left.len = search rules in
@@ -42,11 +41,11 @@ returns c =
       left = with_items race.left c.draw_from_all.new.left;
       backings = with_items race.backings c.draw_from_all.new.backings;
       is_picked = with_item race.is_picked c.from.result true;
-      nominators = race.nominators;
+      chains = race.chains;
     } in
     subst (λ (o : Option ℕ). IsFilling snapshot (cons_option o picks) next c.push_member.new.self c.draw_from_all.new.draws.items) (sym some)
     (filling_more snapshot picks race c.args.weights.now c.args.draws.now.items c.requires.state c.in-Some.target in_range next c.push_member.new.self c.draw_from_all.new.draws.items
     c.draw_from_all.new.left c.draw_from_all.new.backings (with_items_is race.left c.draw_from_all.new.left left_len) (with_items_is race.backings c.draw_from_all.new.backings backings_len)
     left left_size c.in_ok-draw_from_all.ensures.backings backings_size (ap (λ n. set race.is_picked.items n true) marked) refl
     c.push_member.ensures.members c.push_member.ensures.edges c.push_member.ensures.room
-    (drawn ∙ ap (λ ns. c.args.draws.now.items ++ draws_of snapshot (says race.left.items) c.in-Some.target ns) voters))
+    drawn)

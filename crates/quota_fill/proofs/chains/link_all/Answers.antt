@@ -1,0 +1,30 @@
+use Rattle.std.proofs.Common.{rules, arith, ◌≡◌, ℕ, ◌+◌, ◌-◌, ◌*◌, ◌<◌, ◌≤◌, false, All, Some, length, get_or, slice_get, subst}
+use Rattle.election_snapshot.specs.Snapshot.{has, votes_of}
+use Rattle.quota_fill.specs.Chains.{nowhere, AreChained}
+use Rattle.quota_fill.proofs.ChainLemmas.{chained_more}
+use Rattle.quota_fill.proofs.chains.link_all.Goals as goal
+
+pub loop-voter-preserved : goal.loop-voter-preserved
+loop-voter-preserved c =
+    let snapshot = c.args.snapshot.now in
+    let loop = c.loop-voter in
+    let voter = loop.voter - 1 in
+    let next : loop.voter ≡ voter + 1 = omega arith in
+    let here : voter < length snapshot.voters = omega arith in
+    let are : c.votes.result.now ≡ votes_of snapshot voter = search rules in
+    let new = c.link_voter.new in
+    let ensures = c.link_voter.ensures in
+    let in_range : All (λ vote. vote < length snapshot.targets) (votes_of snapshot voter) = search rules in
+    let others : (target : ℕ) → has (votes_of snapshot voter) target ≡ false → get_or new.firsts target nowhere ≡ get_or loop.firsts target nowhere
+    = rw are at ensures.others in
+    let first : (place target : ℕ) → slice_get (votes_of snapshot voter) place ≡ Some target → get_or new.firsts target nowhere ≡ record { voter = voter; place = place }
+    = rw are at ensures.here in
+    let linked : (place target : ℕ) → slice_get (votes_of snapshot voter) place ≡ Some target → get_or new.nexts (voter * c.args.width + place) nowhere ≡ get_or loop.firsts target nowhere
+    = rw are at ensures.linked in
+    let kept : (slot : ℕ) → voter * c.args.width + length (votes_of snapshot voter) ≤ slot → get_or new.nexts slot nowhere ≡ get_or loop.nexts slot nowhere
+    = rw are at ensures.kept in (
+      search rules,
+      search rules,
+      chained_more snapshot c.args.width voter here c.requires.wide in_range loop.firsts loop.nexts new.firsts new.nexts
+          (subst (λ n. AreChained snapshot c.args.width n loop.firsts loop.nexts) next loop.invariant.2) others first linked kept,
+    )
