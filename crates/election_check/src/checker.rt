@@ -106,23 +106,13 @@ impl Checker {
     {
         let mut checker = self;
         match checker.check_plain(&weights) {
-            Ok(()) => Ok(Elected::new(checker.into_snapshot(), weights)),
+            Ok(()) => Ok(Elected::of(checker.into_snapshot(), weights)),
             Err(fault) => Err((checker, weights, fault.verdict())),
         }
     }
 
-    /// Elects the members, where the verdict on these weights is known to be Yes: whoever calls it
-    /// has shown that, so nothing is judged again. It takes no memory.
-    pub fn elect(self, weights: Weights) -> Elected
-        requires { verdict_plain self weights.plain ≡ Yes }
-        ensures snapshot { result.snapshot ≡ self }
-        ensures weights { IsReordered weights result.weights }
-    {
-        Elected::new(self.into_snapshot(), weights)
-    }
-
-    /// The snapshot, without the tables.
-    fn into_snapshot(self) -> Snapshot
+    /// The snapshot, without the tables of the check, which go.
+    pub fn into_snapshot(self) -> Snapshot
         ensures { result ≡ self }
     {
         let Checker { snapshot, .. } = self;

@@ -12,9 +12,8 @@ use npos_base::Edge;
 use std::marker::Model;
 use weight_book::Weights;
 
-/// A committee with the weights that show that it passes the check. Only a checker makes one.
-/// Contracts see the snapshot and the weights, which are feasible and pass, with the members in
-/// rising order.
+/// A committee with the weights that show that it passes the check. Contracts see the snapshot and
+/// the weights, which are feasible and pass, with the members in rising order.
 #[derive(Drop)]
 pub struct Elected {
     snapshot: Snapshot,
@@ -36,8 +35,10 @@ impl Model for Elected {
 }
 
 impl Elected {
-    /// The election of weights that pass.
-    pub(crate) fn new(snapshot: Snapshot, weights: Weights) -> Elected
+    /// The election of weights that are known to pass: whoever calls it has shown that, so nothing
+    /// is judged again. Whoever holds weights of unknown origin asks a checker to seal them. It takes
+    /// no memory.
+    pub fn of(snapshot: Snapshot, weights: Weights) -> Elected
         requires { Passes snapshot weights.plain }
         ensures snapshot { result.snapshot ≡ snapshot }
         ensures weights { IsReordered weights result.weights }

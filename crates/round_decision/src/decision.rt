@@ -5,10 +5,10 @@ ghost use Rattle.stake_ledger.specs.Ledger.{row_at, row_of};
 ghost use Rattle.submission_queue.specs.Ranking.{empty_queue};
 ghost use Rattle.weight_book.specs.Weights.{no_weights};
 ghost use Rattle.weight_book.specs.Room.{HasRoom};
+ghost use Rattle.weight_book.specs.Passing.{Passes};
 ghost use Rattle.compact_solution.specs.Decoded.{decoded};
 ghost use Rattle.election_check.specs.declared.verdict.Verdict.TheVariants.{Yes};
 ghost use Rattle.election_check.specs.Packed.{weights_decoded};
-ghost use Rattle.election_check.specs.Plain.{verdict_plain};
 ghost use Rattle.quota_fill.specs.Filled.{filled};
 ghost use Rattle.block_receipts.specs.declared.line.Line.TheVariants as told;
 ghost use Rattle.round_decision.specs.Deposits.{AreHeld, burned, all_burned};
@@ -153,29 +153,28 @@ fn pay_out(
 }
 
 /// Seats the committee of weights that pass.
-fn seat(checker: Checker, weights: Weights) -> Elected
-    requires { verdict_plain checker weights.plain ≡ Yes }
-    ensures snapshot { result.snapshot ≡ checker }
-    ensures weights { result.weights.plain ≡ rising checker weights.plain }
+fn seat(snapshot: Snapshot, weights: Weights) -> Elected
+    requires { Passes snapshot weights.plain }
+    ensures snapshot { result.snapshot ≡ snapshot }
+    ensures weights { result.weights.plain ≡ rising snapshot weights.plain }
 {
-    let elected = checker.elect(weights);
+    let elected = Elected::of(snapshot, weights);
     // The committee rises, so it is the one of the weights put in rising order.
     let _committee = elected.committee();
     elected
 }
 
 /// Seats the fill.
-fn seat_fill(alloc: Global, checker: Checker) -> Result<Elected, NoMemory>
-    ensures snapshot { IfOk result (λ elected. elected.snapshot ≡ checker) }
+fn seat_fill(alloc: Global, snapshot: Snapshot) -> Result<Elected, NoMemory>
+    ensures snapshot { IfOk result (λ elected. elected.snapshot ≡ snapshot) }
     ensures weights { IfOk result
-        (λ elected. elected.weights.plain ≡ rising checker (filled checker)) }
+        (λ elected. elected.weights.plain ≡ rising snapshot (filled snapshot)) }
 {
     every_fill_passes();
-    a_plain_yes_is_passing();
     // The snapshot is well formed, so its fill passes.
-    let _seats = checker.snapshot().seats();
-    let weights = fill(alloc, checker.snapshot())?;
-    Ok(seat(checker, weights))
+    let _seats = snapshot.seats();
+    let weights = fill(alloc, &snapshot)?;
+    Ok(seat(snapshot, weights))
 }
 
 /// Seats the committee of a solution whose verdict is Yes.
@@ -187,7 +186,8 @@ fn seat_winner(checker: Checker, weights: Weights, winner: &Submission) -> Elect
         ≡ rising checker (weights_decoded checker (decoded winner.now.bytes)) }
 {
     a_packed_yes_is_a_plain_yes();
-    seat(checker, weights)
+    a_plain_yes_is_passing();
+    seat(checker.into_snapshot(), weights)
 }
 
 /// Settles the submissions of the round of this number, and elects its committee. The amount is the
@@ -225,9 +225,9 @@ pub fn decide(
             Ok(seat_winner(checker, weights, &winner))
         }
         None => {
-            // The fill has the room that these had.
+            // The fill has the room that these and the tables of the checker had.
             drop(weights);
-            let elected = seat_fill(alloc, checker)?;
+            let elected = seat_fill(alloc, checker.into_snapshot())?;
             lines.push(Line::SeatFill { round: number })?;
             Ok(elected)
         }

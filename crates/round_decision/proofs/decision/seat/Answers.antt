@@ -7,7 +7,7 @@ use Rattle.round_decision.proofs.decision.seat.Goals as goal
 pub returns-clause-weights : goal.returns-clause-weights
 returns-clause-weights c =
     let of = c.committee-committee.ensures in
-    in_order c.args.checker c.args.weights.plain c.elect-elected.result.weights.plain c.elect-elected.ensures.weights.members c.elect-elected.ensures.weights.edges
+    in_order c.args.snapshot c.args.weights.plain c.of-elected.result.weights.plain c.of-elected.ensures.weights.members c.of-elected.ensures.weights.edges
     (subst IsStrictlyIncreasing of.members of.rising)
-    (subst (λ (s : Snapshot). All (λ member. member < length s.targets) c.elect-elected.result.weights.plain.committee) c.elect-elected.ensures.snapshot
+    (subst (λ (s : Snapshot). All (λ member. member < length s.targets) c.of-elected.result.weights.plain.committee) c.of-elected.ensures.snapshot
     of.feasible.follows.members_in_range)

@@ -6,7 +6,7 @@ use Rattle.election_check.proofs.TakingLemmas.{no_error}
 use Rattle.election_check.proofs.PassingLemmas.{passes}
 use Rattle.election_check.proofs.checker.Checker.seal.Goals as goal
 
-pub new-requires : goal.new-requires
-new-requires c = subst (λ (s : Snapshot). Passes s c.args.weights.plain) (sym (c.into_snapshot.ensures ∙ c.check_plain.ensures.snapshot))
+pub of-requires : goal.of-requires
+of-requires c = subst (λ (s : Snapshot). Passes s c.args.weights.plain) (sym (c.into_snapshot.ensures ∙ c.check_plain.ensures.snapshot))
     (passes c.args.self c.args.weights.plain
     (no_error (plain_fault c.args.self c.args.weights.plain) (sym c.check_plain.ensures.fault ∙ c.in-Ok.is)))

@@ -1,5 +1,5 @@
 use Rattle.weight_book.proofs.OrderLemmas.{passes_reordered, rising}
-use Rattle.election_check.proofs.elected.Elected.new.Goals as goal
+use Rattle.election_check.proofs.elected.Elected.of.Goals as goal
 
 pub invariant_of-result : goal.invariant_of-result
 invariant_of-result c =
