@@ -22,3 +22,4 @@ pub mod MarkLemmas
 pub mod NamedLemmas
 pub mod VoteLemmas
 pub mod RankingLemmas
+pub mod RankedPlaceLemmas

@@ -8,8 +8,9 @@ use Rattle.npos_base.specs.declared.account.AccountId.{AccountId}
 use Rattle.npos_base.proofs.NumberTests.{number_same}
 use Rattle.voter_lists.specs.declared.standing.Standing.{Standing}
 use Rattle.voter_lists.specs.declared.standing.Standing.TheVariants as standing
+use Rattle.voter_lists.specs.declared.standing.Role.TheVariants as role
 use Rattle.voter_lists.specs.Marks.{unknown, AreMarks, AreNamed, KeepPlaces}
-use Rattle.voter_lists.specs.Noted.{Noted, Idle, Validating, Naming, accounts_at, AreWithin, IsPlaced, NotesTargets, has_role, role_noted, places_noted, standing_noted, validates}
+use Rattle.voter_lists.specs.Noted.{Noted, Idle, Validating, Naming, accounts_at, AreWithin, IsPlaced, NotesTargets, role_noted, places_noted, standing_noted, validates}
 use Rattle.voter_lists.specs.Roles.{role_in, is_validator_in}
 
 -- ---- places that name accounts
@@ -48,6 +49,9 @@ pub notes_named : (accounts : List AccountId) (places : List ℕ) (targets : Lis
 notes_named accounts places targets are = record { placed = named_within accounts places targets are; standing = ap (λ named. Some (standing.Nominator named)) (named_targets accounts places targets are) }
 
 -- ---- who has a place keeps it
+
+pub kept_same : (old new : List AccountId) → new ≡ old → KeepPlaces old new
+kept_same old new same place who there = ap (λ accounts. slice_get accounts place) same ∙ there
 
 kept_below : (old new : List AccountId) (place : ℕ) → KeepPlaces old new → place < length old → place < length new
 kept_below old new place kept below = slice_get_within new place (get_or old place first) (kept place (get_or old place first) (slice_get-get_or old place first below)) where
@@ -108,10 +112,11 @@ role_of_noted accounts Idle = refl
 role_of_noted accounts (Validating commission) = refl
 role_of_noted accounts (Naming places) = refl
 
-pub some_noted : (accounts : List AccountId) (noted : Noted) → is_some (standing_noted accounts noted) ≡ has_role noted
-some_noted accounts Idle = refl
-some_noted accounts (Validating commission) = refl
-some_noted accounts (Naming places) = refl
+-- who is nobody has no standing
+pub nobody_absent : (standing : Option Standing) → role_in standing ≡ role.Nobody → is_some standing ≡ false
+nobody_absent None is = refl
+nobody_absent (Some (standing.Nominator targets)) is = absurd (cc)
+nobody_absent (Some (standing.Validator commission)) is = absurd (cc)
 
 pub validates_noted : (standing : Option Standing) → validates (role_in standing) ≡ is_validator_in standing
 validates_noted None = refl

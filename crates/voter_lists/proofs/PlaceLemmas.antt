@@ -3,14 +3,14 @@ use Rattle.std.proofs.Common.{◌≡◌, ℕ, zero, suc, ◌+◌, ◌<◌, Bool,
 use Rattle.std.specs.Prelude.{position}
 use Rattle.std.specs.List.{position_from}
 use Rattle.std.proofs.lemmas.Iterator.Adapters.{position_from-zero}
-use Rattle.std.specs.List.{AllByRecursion, HoldsAt}
+use Rattle.std.specs.List.{AllByRecursion}
 use Rattle.std.specs.List.Sorted.{IsStrictlySortedBy}
 use Rattle.std.specs.Ordering.{is_eq}
 use Rattle.std.specs.declared.cmp.Ordering.TheVariants.{Less, Equal}
 use Rattle.std.proofs.lemmas.Cmp.{tied_itself}
 use Rattle.npos_base.specs.declared.account.AccountId.{AccountId}
 use Rattle.npos_base.specs.Account.{account_cmp, same_account}
-use Rattle.npos_base.proofs.AccountOrder.{account_total, account_exact, account_apart, same_itself, same_exact}
+use Rattle.npos_base.proofs.AccountOrder.{account_total, account_apart, same_itself, same_exact}
 use Rattle.std.specs.Map.{keys_of}
 use Rattle.voter_lists.specs.Roles.{RoleList, validators_of, is_validator, is_validator_in, is_validator_standing}
 use Rattle.voter_lists.proofs.ValidatorLemmas.{unlisted, all_same}
@@ -62,12 +62,6 @@ no_place_from who first (x ∷ xs) apart =
 pub no_place : (who : AccountId) (xs : List AccountId) → ((j : ℕ) (d : AccountId) → j < length xs → is_eq (account_cmp who (get_or xs j d)) ≡ false)
     → position (same_account who) xs ≡ None
 no_place who xs apart = position_from-zero (same_account who) xs ∙ no_place_from who 0 xs apart
-
--- where the account at a place compares equal with this one, it is this one
-pub held_at : (who : AccountId) (xs : List AccountId) (i : ℕ) → i < length xs → HoldsAt (λ y. account_cmp y who ≡ Equal) xs i → slice_get xs i ≡ Some who
-held_at who [] i h here = absurd (omega (arith, h))
-held_at who (x ∷ xs) zero h here = ap (λ y. Some y) (account_exact x who (here x))
-held_at who (x ∷ xs) (suc i) h here = held_at who xs i (omega (arith, h)) here
 
 -- An account has a place among the validators exactly where it is one of them.
 module _ (who : AccountId) where

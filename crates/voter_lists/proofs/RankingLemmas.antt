@@ -5,11 +5,11 @@ use Rattle.std.proofs.lemmas.Bool.{cases_lt}
 use Rattle.std.proofs.lemmas.Grind.{common_steps}
 use Rattle.std.proofs.lemmas.List.{length-set}
 use Rattle.std.proofs.lemmas.List.Quantifiers.{position-Some}
-use Rattle.std.proofs.lemmas.Option.{none-some, same_Some, get_or_from_slice_get, slice_get_within}
+use Rattle.std.proofs.lemmas.Option.{same_Some, get_or_from_slice_get, slice_get_within}
 use Rattle.npos_base.specs.declared.account.AccountId.{AccountId}
 use Rattle.npos_base.specs.Account.{account_cmp, same_account}
 use Rattle.npos_base.proofs.AccountOrder.{same_itself, same_exact}
-use Rattle.account_places.specs.Places.{place_in, by_account, Stand}
+use Rattle.account_places.specs.Places.{by_account, Stand}
 use Rattle.voter_lists.specs.Ranking.{no_rank, rank_in, AreTold, entered}
 use Rattle.voter_lists.specs.Votes.{rank_of}
 use Rattle.voter_lists.proofs.PlaceLemmas.{place_is}
@@ -31,11 +31,6 @@ all_entered validators count who most = at (rank_of validators who) refl where
   at : (o : Option ℕ) → rank_of validators who ≡ o → entered count o ≡ o
   at None e = refl
   at (Some rank) e = among rank count (omega (arith, most, (position-Some (same_account who) validators rank who e).0))
-
--- who has a place has an entry
-pub place_entered : (ranks : List ℕ) (accounts : List AccountId) (rank : AccountId → Option ℕ) (who : AccountId) (place : ℕ) → AreTold ranks accounts rank → Stand accounts (by_account accounts)
-    → place_in (by_account accounts) who ≡ Some place → place < length ranks
-place_entered ranks accounts rank who place told stand found = omega (arith, told.count, slice_get_within accounts place who (stand.standing who place found))
 
 -- one more is entered
 module _ (ranks : List ℕ) (accounts validators : List AccountId) (count : ℕ) (validator : AccountId) (stand : Stand accounts (by_account accounts)) (rising : IsStrictlySortedBy account_cmp validators)
@@ -75,13 +70,8 @@ module _ (ranks : List ℕ) (accounts validators : List AccountId) (count : ℕ)
         ap rank_in (others place who at apart) ∙ told.tells place who at ∙ sym (other_entered who apart)
 
   -- at its place
-  pub told_set : (place : ℕ) → place_in (by_account accounts) validator ≡ Some place → place < length ranks → IsNext (slice_set ranks place count)
-  told_set place found within = told_with (slice_set ranks place count) (length-set ranks place count)
-      (λ at stands. ap (λ n. get_or (slice_set ranks place count) n no_rank) (same_Some at place (sym (stand.placed validator at stands) ∙ found)) ∙ get_or-set_same ranks place count no_rank within)
-      (λ at who stands apart. get_or-set_other ranks place at count no_rank
-      (λ same. apart (same_Some who validator (sym stands ∙ ap (slice_get accounts) same ∙ stand.standing validator place found))))
-
-  pub told_nowhere : place_in (by_account accounts) validator ≡ None → IsNext ranks
-  told_nowhere nowhere = told_with ranks refl
-      (λ at stands. absurd (none-some at (sym nowhere ∙ stand.placed validator at stands)))
-      (λ at who stands apart. refl)
+  pub told_set : (place : ℕ) → slice_get accounts place ≡ Some validator → IsNext (slice_set ranks place count)
+  told_set place stands = told_with (slice_set ranks place count) (length-set ranks place count)
+      (λ at also. ap (λ n. get_or (slice_set ranks place count) n no_rank) (same_Some at place (sym (stand.placed validator at also) ∙ stand.placed validator place stands))
+      ∙ get_or-set_same ranks place count no_rank (omega (arith, told.count, slice_get_within accounts place validator stands)))
+      (λ at who also apart. get_or-set_other ranks place at count no_rank (λ same. apart (same_Some who validator (sym also ∙ ap (slice_get accounts) same ∙ stands))))

@@ -21,11 +21,6 @@ noted_in (kind.Validator commission) = Validating commission
 noted_in (kind.Near places) = Naming places
 noted_in (kind.Far places) = Naming places
 
-abbrev pub has_role : Noted → Bool
-has_role Idle = false
-has_role (Validating commission) = true
-has_role (Naming places) = true
-
 abbrev pub role_noted : Noted → Role
 role_noted Idle = role.Nobody
 role_noted (Validating commission) = role.Validator commission

@@ -2,7 +2,7 @@
 use Rattle.std.specs.Prelude.{◌≡◌, ℕ, nat_eq, nat_lt, if◌then◌else◌, List, length, Option, Some, None, slice_get, slice_index_or}
 use Rattle.npos_base.specs.declared.account.AccountId.{AccountId}
 use Rattle.voter_lists.specs.declared.ranking.Ranking.{Ranking}
-use Rattle.voter_lists.specs.Ranked.{AreRanked}
+use Rattle.voter_lists.specs.Roles.{validators_of}
 use Rattle.voter_lists.specs.Votes.{rank_of}
 
 -- the entry of an account that is no validator, which is the last number of 16 bits
@@ -26,5 +26,5 @@ entered count (Some rank) = if nat_lt rank count then Some rank else None
 
 -- the table of the validators as they are
 pub record IsRanking (ranking : Ranking) : Type 0 where
-  pub ranked : AreRanked ranking.standings.now.roles ranking.validators.now
-  pub told : AreTold ranking.ranks.items ranking.standings.now.accounts (rank_of ranking.validators.now)
+  pub told : AreTold ranking.ranks.items ranking.standings.now.accounts
+      (rank_of (validators_of ranking.standings.now.roles))

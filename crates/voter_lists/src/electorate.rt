@@ -1,6 +1,6 @@
 //! The votes of accounts.
 ghost use Rattle.std.specs.Prelude.{◌≡◌, ◌≤◌, length, IfOk, OnOk};
-ghost use Rattle.voter_lists.specs.Ranked.{AreRanked};
+ghost use Rattle.voter_lists.specs.Ranked.{AreRankedAt};
 ghost use Rattle.voter_lists.specs.Votes.{votes_of};
 
 use crate::ranking::Ranking;
@@ -30,13 +30,13 @@ impl<'a> Model for Electorate<'a> {
 }
 
 impl<'a> Electorate<'a> {
-    /// The electorate of these validators.
+    /// The electorate of the validators, which stand at these places.
     pub(crate) fn new(
         alloc: Global,
         standings: &'a Standings,
-        validators: &'a [AccountId],
+        validators: &[usize],
     ) -> Result<Electorate<'a>, NoMemory>
-        requires { AreRanked standings.now.roles validators.now }
+        requires { AreRankedAt standings.now validators.now }
         ensures { IfOk result (λ electorate. electorate ≡ standings.now.roles) }
     {
         let ranking = Ranking::new(alloc, standings, validators)?;

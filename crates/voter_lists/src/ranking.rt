@@ -4,14 +4,15 @@ ghost use Rattle.std.specs.Vec.{vec_capacity};
 ghost use Rattle.npos_base.specs.declared.account.AccountId.{AccountId};
 ghost use Rattle.voter_lists.specs.Chosen.{chosen_in};
 ghost use Rattle.voter_lists.specs.Noted.{AreWithin, accounts_at};
-ghost use Rattle.voter_lists.specs.Ranked.{AreRanked};
+ghost use Rattle.voter_lists.specs.Ranked.{AreRankedAt};
 ghost use Rattle.voter_lists.specs.Ranking.{rank_in, AreTold, IsRanking};
+ghost use Rattle.voter_lists.specs.Roles.{validators_of};
 ghost use Rattle.voter_lists.specs.Votes.{rank_of, votes_of};
 
 use crate::row::Chosen;
 use crate::standing::Role;
 use crate::standings::Standings;
-use npos_base::{AccountId, NoMemory};
+use npos_base::NoMemory;
 use std::alloc::Global;
 
 /// The entry of an account that is no validator.
@@ -21,7 +22,6 @@ const NO_RANK: u16 = 0xffff;
 #[derive(Drop)]
 pub(crate) struct Ranking<'a> {
     pub(crate) standings: &'a Standings,
-    pub(crate) validators: &'a [AccountId],
     pub(crate) ranks: Vec<u16>,
 }
 
@@ -32,42 +32,32 @@ fn rank_in(entry: u16) -> Option<u16>
     if entry == NO_RANK { None } else { Some(entry) }
 }
 
-/// The table of the ranks. Each validator is found once.
-fn table(
-    alloc: Global,
-    standings: &Standings,
-    validators: &[AccountId],
-) -> Result<Vec<u16>, NoMemory>
-    requires { AreRanked standings.now.roles validators.now }
-    ensures { IfOk result (λ ranks.
-        AreTold ranks.items standings.now.accounts (rank_of validators.now)) }
+/// The table of the ranks of the validators at these places.
+fn table(alloc: Global, standings: &Standings, validators: &[usize]) -> Result<Vec<u16>, NoMemory>
+    requires { AreRankedAt standings.now validators.now }
+    ensures { IfOk result (λ ranks. AreTold ranks.items standings.now.accounts
+        (rank_of (validators_of standings.now.roles))) }
 {
     let mut ranks = vec![in alloc; NO_RANK; standings.count()]?;
-    for rank in 0..validators.len() {
-        if let Some(place) = standings.place_of(validators[rank]) {
-            ranks[place] = rank as u16;
-        }
+    for (rank, place) in validators.iter().enumerate() {
+        ranks[*place] = rank as u16;
     }
     Ok(ranks)
 }
 
 impl<'a> Ranking<'a> {
-    /// The ranks of these validators.
+    /// The ranks of the validators, which stand at these places.
     pub(crate) fn new(
         alloc: Global,
         standings: &'a Standings,
-        validators: &'a [AccountId],
+        validators: &[usize],
     ) -> Result<Ranking<'a>, NoMemory>
-        requires { AreRanked standings.now.roles validators.now }
+        requires { AreRankedAt standings.now validators.now }
         ensures sound { IfOk result (λ ranking. IsRanking ranking) }
         ensures roles { IfOk result (λ ranking. ranking.standings.now ≡ standings.now) }
     {
         let ranks = table(alloc, standings, validators)?;
-        Ok(Ranking {
-            standings,
-            validators,
-            ranks,
-        })
+        Ok(Ranking { standings, ranks })
     }
 
     /// The rank of the account at this place.
@@ -75,7 +65,7 @@ impl<'a> Ranking<'a> {
         requires ranking { IsRanking self.now }
         requires there { place < length self.now.standings.now.accounts }
         ensures { (who : AccountId) → slice_get self.now.standings.now.accounts place ≡ Some who
-            → result ≡ rank_of self.now.validators.now who }
+            → result ≡ rank_of (validators_of self.now.standings.now.roles) who }
     {
         rank_in(self.ranks[place])
     }
@@ -86,7 +76,8 @@ impl<'a> Ranking<'a> {
         requires ranking { IsRanking self.now }
         requires within { AreWithin self.now.standings.now.accounts (chosen_in chosen) }
         requires none { votes.old.items ≡ [] }
-        ensures { OnOk result (votes.new.items ≡ filter_map (rank_of self.now.validators.now)
+        ensures { OnOk result (votes.new.items
+            ≡ filter_map (rank_of (validators_of self.now.standings.now.roles))
             (accounts_at self.now.standings.now.accounts (chosen_in chosen.entry))) }
     {
         votes.reserve(chosen.len())?;
@@ -103,7 +94,8 @@ impl<'a> Ranking<'a> {
         requires within { AreWithin self.now.standings.now.accounts places.now }
         requires none { votes.old.items ≡ [] }
         requires room { vec_len votes.old + length places.now ≤ vec_capacity votes.old }
-        ensures { votes.new.items ≡ filter_map (rank_of self.now.validators.now)
+        ensures { votes.new.items
+            ≡ filter_map (rank_of (validators_of self.now.standings.now.roles))
             (accounts_at self.now.standings.now.accounts places.now) }
     {
         for place in places {
@@ -119,7 +111,8 @@ impl<'a> Ranking<'a> {
         requires within { AreWithin self.now.standings.now.accounts places.now }
         requires none { votes.old.items ≡ [] }
         requires room { vec_len votes.old + length places.now ≤ vec_capacity votes.old }
-        ensures { votes.new.items ≡ filter_map (rank_of self.now.validators.now)
+        ensures { votes.new.items
+            ≡ filter_map (rank_of (validators_of self.now.standings.now.roles))
             (accounts_at self.now.standings.now.accounts places.now) }
     {
         for place in places {

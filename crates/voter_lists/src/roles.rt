@@ -8,14 +8,14 @@ ghost use Rattle.npos_base.specs.Refusal.{IsDue, MeetsAlways, answer_of};
 ghost use Rattle.voter_lists.specs.declared.refusal.ListRefusal.TheVariants.{NoMemory as NoMemoryRefusal};
 ghost use Rattle.voter_lists.specs.Marks.{unknown, AreMarks, RepeatAlike, has_repeated_mark};
 ghost use Rattle.voter_lists.specs.Owed.{Meets};
-ghost use Rattle.voter_lists.specs.Ranked.{AreRanked};
+ghost use Rattle.voter_lists.specs.Ranked.{AreRankedAt};
 ghost use Rattle.voter_lists.specs.Roles.{role_of, nominated_by, validators_of, is_validator, KeepsOthers, has_repeated_account, is_no_target, nominate_refusal, nominated, validate_refusal, validating, chill_refusal, without_role};
 ghost use Rattle.voter_lists.specs.Taken.{CanTake, with_role};
 
 use crate::ListRefusal;
 use crate::electorate::Electorate;
 use crate::marks::{Marks, UNKNOWN};
-use crate::ranks::{enter, leave, leave_where, rank_among};
+use crate::ranks::{enter_where, leave_where, rank_among};
 use crate::standing::Role;
 use crate::standings::Standings;
 use crate::targets::Targets;
@@ -26,12 +26,12 @@ use std::marker::Model;
 /// The classes of marks, by what is left of them behind so many.
 const CLASSES: usize = 256;
 
-/// Who is a validator and who a nominator. Contracts see the list of accounts with their standings,
-/// by rising account.
+/// Who is a validator and who a nominator. The validators stand by the places of their accounts, by
+/// rising account. Contracts see the list of accounts with their standings, by rising account.
 #[derive(Drop)]
 pub struct Roles {
     standings: Standings,
-    validators: Vec<AccountId>,
+    validators: Vec<usize>,
 }
 
 impl Model for Roles {
@@ -39,11 +39,11 @@ impl Model for Roles {
 
     ghost Value = { RoleList };
 
-    ghost use Rattle.voter_lists.specs.Ranked.{AreRanked};
+    ghost use Rattle.voter_lists.specs.Ranked.{AreRankedAt};
 
     ghost view = { λ r. r.standings.roles };
 
-    ghost invariant = { λ r. AreRanked r.standings.roles r.validators.items };
+    ghost invariant = { λ r. AreRankedAt r.standings r.validators.items };
 }
 
 impl Roles {
@@ -122,7 +122,7 @@ impl Roles {
         if commission > WHOLE_FRACTION {
             return Err(ListRefusal::BadFraction);
         }
-        if self.validators.len() >= MOST_VALIDATORS && !self.standings.is_validator(who) {
+        if self.validator_count() >= MOST_VALIDATORS && !self.standings.is_validator(who) {
             return Err(ListRefusal::TooManyValidators);
         }
         let before = self.put_validator(who, commission)?;
@@ -172,8 +172,9 @@ impl Roles {
         ensures others { KeepsOthers self.old self.new who }
     {
         self.validators.reserve(1)?;
-        let before = self.standings.put_validator(who, commission)?;
-        enter(&mut self.validators, who);
+        let (place, before) = self.standings.put_validator(who, commission)?;
+        let missing = !before.validates();
+        enter_where(&self.standings, &mut self.validators, who, place, missing);
         Ok(before)
     }
 
@@ -184,11 +185,14 @@ impl Roles {
         ensures answer { result ≡ answer_of (chill_refusal self.old who) }
         ensures others { KeepsOthers self.old self.new who }
     {
-        if !self.standings.remove(who) {
-            return Err(ListRefusal::NotListed);
+        match self.standings.remove(who) {
+            Role::Nobody => Err(ListRefusal::NotListed),
+            before => {
+                let there = before.validates();
+                leave_where(&self.standings, &mut self.validators, who, there);
+                Ok(())
+            }
         }
-        leave(&mut self.validators, who);
-        Ok(())
     }
 
     /// The role of an account.
@@ -231,7 +235,7 @@ impl Roles {
         requires { i < length (validators_of self.now) }
         ensures { slice_get (validators_of self.now) i ≡ Some result }
     {
-        self.validators[i]
+        self.standings.account(self.validators[i])
     }
 
     /// The place of a validator among all by rising account. It is found in the logarithm of their
@@ -240,7 +244,7 @@ impl Roles {
         ensures place { result ≡ position (same_account who) (validators_of self.now) }
         ensures some { is_some result ≡ is_validator self.now who }
     {
-        rank_among(self.validators.as_slice(), who)
+        rank_among(&self.standings, self.validators.as_slice(), who)
     }
 
     /// The electorate as it is now. It takes two bytes for each account that ever had a role or was
@@ -256,20 +260,20 @@ impl Roles {
 /// the account had before.
 fn put_nominator(
     standings: &mut Standings,
-    validators: &mut Vec<AccountId>,
+    validators: &mut Vec<usize>,
     who: AccountId,
     targets: &[AccountId],
     marks: Marks,
 ) -> Result<Role, NoMemory>
-    requires ranked { AreRanked standings.old.roles validators.old.items }
+    requires ranked { AreRankedAt standings.old validators.old.items }
     requires marks { AreMarks standings.old.accounts marks targets.now }
     ensures before { IfOk result (λ before. before ≡ role_of standings.old.roles who) }
     ensures ok { OnOk result (standings.new.roles ≡ nominated standings.old.roles who targets.now) }
     ensures err { OnErr result (standings.new.roles ≡ standings.old.roles) }
-    ensures ranked { AreRanked standings.new.roles validators.new.items }
+    ensures ranked { AreRankedAt standings.new validators.new.items }
 {
     let before = standings.put_nominator(who, targets, marks)?;
-    leave_where(validators, who, before.validates());
+    leave_where(standings, validators, who, before.validates());
     Ok(before)
 }
 

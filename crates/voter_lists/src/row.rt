@@ -1,7 +1,7 @@
 //! What is kept at the place of an account.
 ghost use Rattle.std.specs.Prelude.{◌≡◌, ◌<◌, length, slice_get, Some};
 ghost use Rattle.voter_lists.specs.Chosen.{chosen_in};
-ghost use Rattle.voter_lists.specs.Noted.{Idle, Validating, Naming, has_role, role_noted, places_noted};
+ghost use Rattle.voter_lists.specs.Noted.{Idle, Validating, Naming, role_noted, places_noted};
 
 use crate::marks::Marks;
 use crate::standing::Role;
@@ -94,16 +94,6 @@ impl Row {
     {
         Row {
             kind: Kind::Far { places },
-        }
-    }
-
-    /// Whether the account has a role.
-    pub(crate) fn has_role(&self) -> bool
-        ensures { result ≡ has_role self.now }
-    {
-        match &self.kind {
-            Kind::Nobody => false,
-            _ => true,
         }
     }
 

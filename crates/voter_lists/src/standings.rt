@@ -3,6 +3,7 @@ ghost use Rattle.std.specs.Prelude.{◌≡◌, ◌<◌, ◌≤◌, [], false, So
 ghost use Rattle.npos_base.specs.declared.account.AccountId.{AccountId};
 ghost use Rattle.account_places.specs.Places.{place_in, by_account, Stand};
 ghost use Rattle.voter_lists.specs.declared.standing.Standing.{Standing};
+ghost use Rattle.voter_lists.specs.declared.standing.Role.TheVariants.{Nobody};
 ghost use Rattle.voter_lists.specs.Marks.{IsMark, AreMarks, AreNamed, KeepPlaces, RepeatAlike};
 ghost use Rattle.voter_lists.specs.Noted.{IsPlaced, NotesTargets, standing_noted};
 ghost use Rattle.voter_lists.specs.Roles.{standing_of, role_of, nominated_by, is_validator, nominated, validating, with_standing, without_role};
@@ -65,12 +66,21 @@ impl Standings {
     pub(crate) fn count(&self) -> usize
         ensures count { result ≡ length self.now.accounts }
         ensures most { length self.now.roles ≤ result }
+        ensures stand { Stand self.now.accounts (by_account self.now.accounts) }
     {
         self.places.count()
     }
 
+    /// The account at a place.
+    pub(crate) fn account(&self, place: usize) -> AccountId
+        requires { place < length self.now.accounts }
+        ensures { slice_get self.now.accounts place ≡ Some result }
+    {
+        self.places.account(place)
+    }
+
     /// The place of an account.
-    pub(crate) fn place_of(&self, who: AccountId) -> Option<usize>
+    fn place_of(&self, who: AccountId) -> Option<usize>
         ensures place { result ≡ place_in (by_account self.now.accounts) who }
         ensures stand { Stand self.now.accounts (by_account self.now.accounts) }
     {
@@ -186,6 +196,7 @@ impl Standings {
     pub(crate) fn marks_for(&mut self, targets: &[AccountId]) -> Result<Marks, NoMemory>
         ensures marks { OnOk result (IfOk result (λ marks.
             AreMarks self.new.accounts marks targets.now)) }
+        ensures kept { KeepPlaces self.old.accounts self.new.accounts }
         ensures roles { self.new.roles ≡ self.old.roles }
     {
         let marks = self.marks_of(targets)?;
@@ -215,6 +226,7 @@ impl Standings {
     fn row_for(&mut self, targets: &[AccountId], marks: Marks) -> Result<Row, NoMemory>
         requires { AreMarks self.old.accounts marks targets.now }
         ensures named { OnOk result (IfOk result (λ row. NotesTargets self.new.accounts row targets.now)) }
+        ensures kept { KeepPlaces self.old.accounts self.new.accounts }
         ensures roles { self.new.roles ≡ self.old.roles }
     {
         if !marks.as_slice().contains(&UNKNOWN) {
@@ -224,11 +236,14 @@ impl Standings {
         Ok(Row::far(places))
     }
 
-    /// The account has this row in place of any that it had. It tells the role that the account had
-    /// before.
-    fn put(&mut self, who: AccountId, row: Row) -> Result<Role, NoMemory>
+    /// The account has this row in place of any that it had. It tells the place of the account, and
+    /// the role that it had before.
+    fn put(&mut self, who: AccountId, row: Row) -> Result<(usize, Role), NoMemory>
         requires { IsPlaced self.old.accounts row }
-        ensures before { IfOk result (λ before. before ≡ role_of self.old.roles who) }
+        ensures place { OnOk result (IfOk result (λ put.
+            slice_get self.new.accounts put.0 ≡ Some who)) }
+        ensures before { IfOk result (λ put. put.1 ≡ role_of self.old.roles who) }
+        ensures kept { KeepPlaces self.old.accounts self.new.accounts }
         ensures ok { (standing : Standing) → standing_noted self.old.accounts row ≡ Some standing
             → OnOk result (self.new.roles ≡ with_standing self.old.roles who standing) }
         ensures err { OnErr result (self.new.roles ≡ self.old.roles) }
@@ -236,7 +251,7 @@ impl Standings {
         let place = self.place_for(who)?;
         let before = self.rows[place].role();
         self.rows[place] = row;
-        Ok(before)
+        Ok((place, before))
     }
 
     /// The account is a nominator of these targets, which have these marks. It tells the role that
@@ -249,38 +264,45 @@ impl Standings {
     ) -> Result<Role, NoMemory>
         requires { AreMarks self.old.accounts marks targets.now }
         ensures before { IfOk result (λ before. before ≡ role_of self.old.roles who) }
+        ensures kept { KeepPlaces self.old.accounts self.new.accounts }
         ensures ok { OnOk result (self.new.roles ≡ nominated self.old.roles who targets.now) }
         ensures err { OnErr result (self.new.roles ≡ self.old.roles) }
     {
         let row = self.row_for(targets, marks)?;
-        self.put(who, row)
+        let (_, before) = self.put(who, row)?;
+        Ok(before)
     }
 
-    /// The account is a validator with this commission. It tells the role that the account had
-    /// before.
+    /// The account is a validator with this commission. It tells the place of the account, and the
+    /// role that it had before.
     pub(crate) fn put_validator(
         &mut self,
         who: AccountId,
         commission: u32,
-    ) -> Result<Role, NoMemory>
-        ensures before { IfOk result (λ before. before ≡ role_of self.old.roles who) }
+    ) -> Result<(usize, Role), NoMemory>
+        ensures place { OnOk result (IfOk result (λ put.
+            slice_get self.new.accounts put.0 ≡ Some who)) }
+        ensures before { IfOk result (λ put. put.1 ≡ role_of self.old.roles who) }
+        ensures kept { KeepPlaces self.old.accounts self.new.accounts }
         ensures ok { OnOk result (self.new.roles ≡ validating self.old.roles who commission) }
         ensures err { OnErr result (self.new.roles ≡ self.old.roles) }
     {
         self.put(who, Row::validator(commission))
     }
 
-    /// The account has no standing any more. It tells whether it had one, and takes no memory.
-    pub(crate) fn remove(&mut self, who: AccountId) -> bool
-        ensures had { result ≡ is_some (standing_of self.old.roles who) }
+    /// The account has no standing any more. It tells the role that the account had before, and takes
+    /// no memory.
+    pub(crate) fn remove(&mut self, who: AccountId) -> Role
+        ensures before { result ≡ role_of self.old.roles who }
         ensures gone { self.new.roles ≡ without_role self.old.roles who }
-        ensures kept { result ≡ false → self.new.roles ≡ self.old.roles }
+        ensures kept { result ≡ Nobody → self.new.roles ≡ self.old.roles }
+        ensures places { self.new.accounts ≡ self.old.accounts }
     {
         let Some(place) = self.places.find(who) else {
-            return false;
+            return Role::Nobody;
         };
-        let had = self.rows[place].has_role();
+        let before = self.rows[place].role();
         self.rows[place] = Row::nobody();
-        had
+        before
     }
 }

@@ -1,6 +1,7 @@
 -- A place tells the rank of its account.
 use Rattle.std.proofs.Common.{◌≡◌, ◌∙◌, ◌++◌, ◌∷◌, [], get_or, Some, slice_get, ap, arith}
 use Rattle.std.proofs.lemmas.Option.{slice_get-get_or}
+use Rattle.voter_lists.specs.Roles.{validators_of}
 use Rattle.voter_lists.specs.Votes.{rank_of}
 use Rattle.voter_lists.proofs.VoteLemmas.{vote_some, vote_none, all_votes}
 use Rattle.voter_lists.proofs.ranking.Ranking.cast_far.Goals as goal
@@ -10,7 +11,7 @@ pub loop-place-preserved : goal.loop-place-preserved
 loop-place-preserved c =
     let accounts = c.args.self.now.standings.now.accounts in
     let places = c.args.places.now in
-    let rank = rank_of c.args.self.now.validators.now in
+    let rank = rank_of (validators_of c.args.self.now.standings.now.roles) in
     let i = c.loop-place.place-index in
     let there : slice_get places i ≡ Some (get_or places i 0) = slice_get-get_or places i 0 (omega arith) in
     elim c.match-rank_at.branch [
@@ -30,4 +31,4 @@ loop-place-preserved c =
 pub returns : goal.returns
 returns c =
     c.loop-place.invariant.votes
-    ∙ all_votes c.args.self.now.standings.now.accounts c.args.places.now (rank_of c.args.self.now.validators.now) c.requires.within c.loop-place.place-index (omega (arith, c.loop-place-test.false))
+    ∙ all_votes c.args.self.now.standings.now.accounts c.args.places.now (rank_of (validators_of c.args.self.now.standings.now.roles)) c.requires.within c.loop-place.place-index (omega (arith, c.loop-place-test.false))
