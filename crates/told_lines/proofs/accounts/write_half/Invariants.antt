@@ -1,7 +1,8 @@
-use Rattle.std.proofs.Common.{◌≡◌, ◌*◌, ◌++◌, take, drop}
+use Rattle.std.proofs.Common.{◌≡◌, ◌*◌, ◌++◌, length, take, drop}
 use Rattle.hex.specs.Hex.{encode_lower}
 use Rattle.told_lines.proofs.accounts.write_half.Given as goal
 
+-- the digits of the bytes so far are written
 abbrev pub invariant-loop-i : goal.invariant-loop-i
-invariant-loop-i l =
-    take (2 * l.i) l.digits ++ encode_lower (drop l.i l.bytes) ≡ encode_lower l.bytes
+invariant-loop-i l = (length l.digits ≡ 32)
+    × (take (8 * l.i) l.digits ++ encode_lower (drop (4 * l.i) l.bytes) ≡ encode_lower l.bytes)
