@@ -1,7 +1,6 @@
 -- Links from each nominator to the next, as they are made from the last voter to the first.
-use Rattle.std.proofs.Common.{◌≡◌, ℕ, suc, ◌+◌, ◌-◌, ◌*◌, ◌<◌, ◌≤◌, ◌⊎◌, Bool, true, false, cond, nat_eq, List, [], ◌∷◌, length, take, get_or, set, filter, Some, slice_get, All, inl, inr, refl, ap, sym, subst, ◌∙◌, arith}
+use Rattle.std.proofs.Common.{◌≡◌, ℕ, zero, suc, ◌+◌, ◌-◌, ◌<◌, ◌≤◌, ◌⊎◌, Bool, true, false, cond, nat_eq, List, [], ◌∷◌, length, take, get_or, set, filter, Some, slice_get, All, inl, inr, refl, ap, sym, subst, ◌∙◌, arith}
 use Rattle.std.specs.List.{range_with_len, IsDistinct}
-use Rattle.std.proofs.Math.Nat.{add-mul}
 use Rattle.std.proofs.lemmas.Bool.{cases_Bool, cases_eq, cases_lt, cond-true, cond-false, eq-eqb, eqb-true, true≢false}
 use Rattle.std.proofs.lemmas.Bool.Decides.{Decides-eqb}
 use Rattle.std.proofs.lemmas.List.{get_or-set_same, get_or-set_other, length-set}
@@ -11,15 +10,21 @@ use Rattle.std.proofs.lemmas.Option.{get_or_from_slice_get, slice_get_within}
 use Rattle.election_snapshot.specs.Snapshot.{Snapshot, has, nominates, votes_of}
 use Rattle.weight_book.specs.Passing.{nominators}
 use Rattle.seat_race.proofs.NominatorLemmas.{nominates_in_range}
+use Rattle.seat_race.specs.Tables.{says}
 use Rattle.seat_race.proofs.TableLemmas.{fresh, now_there, still_there}
 use Rattle.quota_fill.specs.declared.chains.Link.{Link}
-use Rattle.quota_fill.specs.Chains.{nowhere, nominators_from, IsAt, Leads, AreChained}
+use Rattle.quota_fill.specs.Chains.{nowhere, nominators_from, IsAt, Leads, AreStarts, AreChained}
 
--- the places of a voter are apart from those of the next ones
-pub places_within : (voter count width : ℕ) → voter < count → voter * width + width ≤ count * width
-places_within voter count width h = split (count - (voter + 1)) (omega (arith, h)) where
-  split : (rest : ℕ) → count ≡ voter + (1 + rest) → voter * width + width ≤ count * width
-  split rest is = omega (arith, ap (λ n. n * width) is, add-mul voter (1 + rest) width, add-mul 1 rest width)
+-- the nominations of a voter end before those of a higher one begin
+pub starts_rise : (snapshot : Snapshot) (starts : List ℕ) (voter other : ℕ) → AreStarts snapshot starts → voter < other → other ≤ length snapshot.voters
+    → says starts voter + length (votes_of snapshot voter) ≤ says starts other
+starts_rise snapshot starts voter zero are below within = absurd (omega (arith, below))
+starts_rise snapshot starts voter (suc other) are below within = rw (more other) (elim (cases_lt voter other) [
+  | inl l ↦ omega (arith, starts_rise snapshot starts voter other are l (omega (arith, within)), are.behind other (omega (arith, within)))
+  | inr l ↦ let same : other ≡ voter = omega (arith, below, l) in rw same (omega (arith, are.behind voter (omega (arith, within, same))))
+]) where
+  more : (n : ℕ) → suc n ≡ n + 1
+  more n = omega arith
 
 -- ---- one voter's nominations
 module _ (votes : List ℕ) (voter start : ℕ) (old_firsts old_nexts : List Link) where
@@ -132,9 +137,9 @@ module _ (snapshot : Snapshot) (target : ℕ) where
     none_left count h = omega (arith, h)
 
 -- ---- the nominations of all voters
-module _ (snapshot : Snapshot) (width : ℕ) where
+module _ (snapshot : Snapshot) (starts : List ℕ) where
   pub none_chained : (firsts nexts : List Link) → length snapshot.voters ≤ nowhere.voter → ((target : ℕ) → get_or firsts target nowhere ≡ nowhere)
-      → AreChained snapshot width (length snapshot.voters) firsts nexts
+      → AreChained snapshot starts (length snapshot.voters) firsts nexts
   none_chained firsts nexts few free = record {
     firsts_lead = λ target l. subst (Leads snapshot target (length snapshot.voters)) (sym (free target)) record {
       at = inl refl;
@@ -146,14 +151,14 @@ module _ (snapshot : Snapshot) (width : ℕ) where
         absurd (omega (arith, beyond, within));
   }
 
-  module _ (voter : ℕ) (here : voter < length snapshot.voters) (wide : (other : ℕ) → length (votes_of snapshot other) ≤ width)
+  module _ (voter : ℕ) (here : voter < length snapshot.voters) (are_starts : AreStarts snapshot starts)
       (in_range : All (λ vote. vote < length snapshot.targets) (votes_of snapshot voter)) (firsts nexts new_firsts new_nexts : List Link)
-      (so_far : AreChained snapshot width (voter + 1) firsts nexts) where
+      (so_far : AreChained snapshot starts (voter + 1) firsts nexts) where
     pub chained_more : ((target : ℕ) → has (votes_of snapshot voter) target ≡ false → get_or new_firsts target nowhere ≡ get_or firsts target nowhere)
         → ((place target : ℕ) → slice_get (votes_of snapshot voter) place ≡ Some target → get_or new_firsts target nowhere ≡ record { voter = voter; place = place })
-        → ((place target : ℕ) → slice_get (votes_of snapshot voter) place ≡ Some target → get_or new_nexts (voter * width + place) nowhere ≡ get_or firsts target nowhere)
-        → ((slot : ℕ) → voter * width + length (votes_of snapshot voter) ≤ slot → get_or new_nexts slot nowhere ≡ get_or nexts slot nowhere)
-        → AreChained snapshot width voter new_firsts new_nexts
+        → ((place target : ℕ) → slice_get (votes_of snapshot voter) place ≡ Some target → get_or new_nexts (says starts voter + place) nowhere ≡ get_or firsts target nowhere)
+        → ((slot : ℕ) → says starts voter + length (votes_of snapshot voter) ≤ slot → get_or new_nexts slot nowhere ≡ get_or nexts slot nowhere)
+        → AreChained snapshot starts voter new_firsts new_nexts
     chained_more others first linked kept = record {
       firsts_lead = λ target l. elim (cases_Bool (nominates snapshot voter target)) [
         | inl t ↦
@@ -166,16 +171,19 @@ module _ (snapshot : Snapshot) (width : ℕ) where
       nexts_lead = λ other place target beyond at. elim (cases_eq voter other) [
         | inl same ↦
             let at_here : slice_get (votes_of snapshot voter) place ≡ Some target = subst (λ n. slice_get (votes_of snapshot n) place ≡ Some target) (sym same) at in
-            subst (λ n. Leads snapshot target (n + 1) (get_or new_nexts (n * width + place) nowhere)) same
+            subst (λ n. Leads snapshot target (n + 1) (get_or new_nexts (says starts n + place) nowhere)) same
             (subst (Leads snapshot target (voter + 1)) (sym (linked place target at_here)) (so_far.firsts_lead target (ranged place target at_here)))
         | inr differ ↦
             let above : voter < other = beyond_apart voter other beyond differ in
-            subst (Leads snapshot target (other + 1)) (sym (kept (other * width + place) (omega (arith, places_within voter other width above, wide voter))))
+            subst (Leads snapshot target (other + 1)) (sym (kept (says starts other + place) (omega (arith, starts_rise snapshot starts voter other are_starts above (omega (arith, in_voters other place target at))))))
             (so_far.nexts_lead other place target (omega (arith, above)) at)
       ];
     } where
       beyond_apart : (low high : ℕ) → low ≤ high → (low ≡ high → ⊥) → low < high
       beyond_apart low high l differ = omega (arith, l, differ)
+
+      in_voters : (other place target : ℕ) → slice_get (votes_of snapshot other) place ≡ Some target → other < length snapshot.voters
+      in_voters other place target at = nominates_in_range snapshot other target (at_nominates snapshot target (record { voter = other; place = place }) at)
 
       ranged : (place target : ℕ) → slice_get (votes_of snapshot voter) place ≡ Some target → target < length snapshot.targets
       ranged place target at = subst (λ n. n < length snapshot.targets) (get_or_from_slice_get (votes_of snapshot voter) place target 0 at)

@@ -3,7 +3,8 @@ ghost use Rattle.std.specs.Prelude.{◌≡◌, ◌≢◌, ℕ, ◌+◌, ◌*◌,
 ghost use Rattle.std.specs.List.{IsDistinct};
 ghost use Rattle.npos_base.specs.declared.limits.TheConstants.{MOST_NOMINATIONS};
 ghost use Rattle.election_snapshot.specs.Snapshot.{has, votes_of};
-ghost use Rattle.quota_fill.specs.Chains.{nowhere, Leads, IsAt, AreChained, AreChains};
+ghost use Rattle.seat_race.specs.Tables.{says};
+ghost use Rattle.quota_fill.specs.Chains.{nowhere, Leads, IsAt, AreStarts, AreChained, AreChains};
 
 use election_snapshot::Snapshot;
 use npos_base::NoMemory;
@@ -45,10 +46,11 @@ impl Link {
 pub(crate) struct Chains {
     // by target, its first nominator
     firsts: Vec<Link>,
-    // by voter and place of a nomination, the next nominator of the same target
+    // by nomination, the next nominator of the same target; those of a voter lie behind those of the one
+    // before it
     nexts: Vec<Link>,
-    // so many places for each voter
-    width: usize,
+    // by voter, where its nominations begin, and where those of the last one end
+    starts: Vec<u32>,
 }
 
 impl Chains {
@@ -56,14 +58,15 @@ impl Chains {
     pub(crate) fn new(alloc: Global, snapshot: &Snapshot) -> Result<Chains, NoMemory>
         ensures { IfOk result (AreChains snapshot.now) }
     {
-        let width = most_votes(snapshot);
+        let starts = starts_of(alloc, snapshot)?;
+        let count = starts[snapshot.voter_count()];
         let mut firsts = vec![in alloc; Link::nowhere(); snapshot.target_count()]?;
-        let mut nexts = vec![in alloc; Link::nowhere(); snapshot.voter_count() * width]?;
-        link_all(snapshot, width, &mut firsts, &mut nexts);
+        let mut nexts = vec![in alloc; Link::nowhere(); count as usize]?;
+        link_all(snapshot, &starts, &mut firsts, &mut nexts);
         Ok(Chains {
             firsts,
             nexts,
-            width,
+            starts,
         })
     }
 
@@ -84,38 +87,40 @@ impl Chains {
         ensures { (target : ℕ) → IsAt snapshot.now target link
             → Leads snapshot.now target (link.voter + 1) result }
     {
-        self.nexts[usize::from(link.voter) * self.width + usize::from(link.place)]
+        let start = self.starts[usize::from(link.voter)] as usize;
+        self.nexts[start + usize::from(link.place)]
     }
 }
 
-/// The most nominations of a voter.
-fn most_votes(snapshot: &Snapshot) -> usize
-    ensures most { (voter : ℕ) → length (votes_of snapshot.now voter) ≤ result }
-    ensures few { result ≤ MOST_NOMINATIONS }
+/// Where the nominations of each voter begin, and where those of the last one end.
+fn starts_of(alloc: Global, snapshot: &Snapshot) -> Result<Vec<u32>, NoMemory>
+    ensures { IfOk result (λ starts. AreStarts snapshot.now starts.items) }
 {
-    let mut most = 0;
+    let mut starts = Vec::with_capacity(alloc, snapshot.voter_count() + 1)?;
+    let mut end = 0;
+    starts.push(end)?;
     for voter in 0..snapshot.voter_count() {
-        most = most.max(snapshot.votes(voter as u32).len());
+        end += snapshot.votes(voter as u32).len() as u32;
+        starts.push(end)?;
     }
-    most
+    Ok(starts)
 }
 
 /// Links the nominations of all voters, from the last to the first.
-fn link_all(snapshot: &Snapshot, width: usize, firsts: &mut [Link], nexts: &mut [Link])
-    requires wide { (voter : ℕ) → length (votes_of snapshot.now voter) ≤ width }
-    requires few { width ≤ MOST_NOMINATIONS }
+fn link_all(snapshot: &Snapshot, starts: &[u32], firsts: &mut [Link], nexts: &mut [Link])
+    requires starts { AreStarts snapshot.now starts.now }
     requires firsts { length firsts.old ≡ length snapshot.now.targets }
-    requires nexts { length nexts.old ≡ length snapshot.now.voters * width }
+    requires nexts { length nexts.old ≡ says starts.now (length snapshot.now.voters) }
     requires nowhere { (target : ℕ) → slice_index_or firsts.old target nowhere ≡ nowhere }
     ensures firsts { length firsts.new ≡ length firsts.old }
     ensures nexts { length nexts.new ≡ length nexts.old }
-    ensures chained { AreChained snapshot.now width 0 firsts.new nexts.new }
+    ensures chained { AreChained snapshot.now starts.now 0 firsts.new nexts.new }
 {
     for voter in (0..snapshot.voter_count()).rev() {
         link_voter(
             snapshot.votes(voter as u32),
             voter as u16,
-            voter * width,
+            starts[voter] as usize,
             firsts,
             nexts,
         );

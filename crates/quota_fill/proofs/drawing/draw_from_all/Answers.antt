@@ -19,6 +19,12 @@ bounds-left-voter c =
     let at = leads_on snapshot c.args.target c.voters.link c.leads.result c.if-leads.true c.leads.ensures.yes c.voters.invariant.at in
     omega (arith, c.from-voter.ensures, nominates_in_range snapshot c.voters.link.voter c.args.target (at_nominates snapshot c.args.target c.voters.link at), c.voters.invariant.drawing.left_size)
 
+pub next-link-requires-clause-voter : goal.next-link-requires-clause-voter
+next-link-requires-clause-voter c =
+    let snapshot = c.args.snapshot.now in
+    let at = leads_on snapshot c.args.target c.voters.link c.leads.result c.if-leads.true c.leads.ensures.yes c.voters.invariant.at in
+    nominates_in_range snapshot c.voters.link.voter c.args.target (at_nominates snapshot c.args.target c.voters.link at)
+
 pub next-link-requires-clause-place : goal.next-link-requires-clause-place
 next-link-requires-clause-place c =
     slice_get_within (votes_of c.args.snapshot.now c.voters.link.voter) c.voters.link.place c.args.target

@@ -95,9 +95,9 @@ pub returns-in_ok-push-in-None-clause-weights : goal.returns-in_ok-push-in-None-
 returns-in_ok-push-in-None-clause-weights c =
     let found = c.in_ok-winner.ensures in
     let same = c.in_ok-checker.ensures in
-    lost_weights c.args.snapshot c.find_winner.new.checker c.args.queue.now.items c.in_ok-elected-in-None.elected.weights.plain
+    lost_weights c.args.snapshot c.into_snapshot.result c.args.queue.now.items c.in_ok-elected-in-None.elected.weights.plain
     (gone c.in_ok-checker.checker c.args.snapshot c.args.queue.now same (sym found.winner ∙ c.in-None.is))
-    (found.snapshot ∙ same) c.in_ok-elected-in-None.ensures.weights
+    (c.into_snapshot.ensures ∙ found.snapshot ∙ same) c.in_ok-elected-in-None.ensures.weights
 
 -- before anybody is judged nothing has happened
 pub returns-in_err-weights-clause-stops : goal.returns-in_err-weights-clause-stops
