@@ -274,10 +274,21 @@ module _ (snapshot : Snapshot) (target : ℕ) (old : List ℕ) (drawn : List Edg
       all_left : (n : ℕ) → n - min n 0 ≡ n
       all_left n = omega arith
 
-  pub drawing_all : (rest i : ℕ) → length voters ≤ i + rest → (left backings : List ℕ) (draws : List Edge) → IsDrawing i left backings 0 draws
+  drawing_all : (rest i : ℕ) → length voters ≤ i + rest → (left backings : List ℕ) (draws : List Edge) → IsDrawing i left backings 0 draws
       → (all : ℕ) × (length voters ≤ all) × IsDrawing all left backings 0 draws
   drawing_all zero i most left backings draws so_far = (i, omega (arith, most), so_far)
   drawing_all (suc rest) i most left backings draws so_far = elim (cases_lt i (length voters)) [
     | inl h ↦ drawing_all rest (i + 1) (omega (arith, most)) left backings draws (nothing_more i 0 h left backings draws so_far)
     | inr ends ↦ (i, ends, so_far)
   ]
+
+  module _ (i : ℕ) (left backings : List ℕ) (due : ℕ) (draws : List Edge) (so_far : IsDrawing i left backings due draws) (paid : due ≡ 0) where
+    all_drawn : (all : ℕ) × (length voters ≤ all) × IsDrawing all left backings 0 draws
+    all_drawn = drawing_all (length voters) i (omega arith) left backings draws (subst (λ n. IsDrawing i left backings n draws) paid so_far)
+
+    pub left_when_paid : (voter : ℕ) → says left voter ≡ says old voter - draw snapshot (says old) target voter
+    left_when_paid = let (all, ends, drawing) = all_drawn in drawn_from_each all left backings 0 draws drawing ends
+
+    pub draws_when_paid : draws ≡ drawn ++ draws_of snapshot (says old) target voters
+    draws_when_paid = let (all, ends, drawing) = all_drawn in
+        drawing.draws_are ∙ ap (λ ns. drawn ++ draws_of snapshot (says old) target ns) (take_all all voters ends)

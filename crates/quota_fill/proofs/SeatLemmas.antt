@@ -11,7 +11,7 @@ use Rattle.seat_race.specs.Picks.{more, first_best, outside}
 use Rattle.seat_race.specs.Tables.{says, unmarked, AreSums}
 use Rattle.seat_race.proofs.PickLemmas.{best_agree, few_picks, more_orders, outside_below}
 use Rattle.seat_race.proofs.TableLemmas.{marked_more, unmarked_outside}
-use Rattle.quota_fill.specs.Chains.{AreChains}
+use Rattle.quota_fill.specs.Backers.{AreBackers}
 use Rattle.quota_fill.specs.Filled.{draw, left_after, backing, next_pick, picked}
 use Rattle.quota_fill.specs.Kept.{draws_of, with_next, IsAfter, IsFilling}
 
@@ -39,13 +39,13 @@ module _ (snapshot : Snapshot) (picks : List ℕ) (race : Race) (book : WeightBo
       → AreSums snapshot left_now backings_now
       → length backings_now ≡ length race.backings.items
       → next.is_picked.items ≡ set race.is_picked.items target true
-      → next.chains ≡ race.chains
+      → next.backers ≡ race.backers
       → new.plain.committee ≡ book.plain.committee ++ target ∷ []
       → new.plain.edges ≡ book.plain.edges
       → KeepsRoom book new
       → more ≡ draws ++ draws_of snapshot (says race.left.items) target (nominators snapshot target)
       → IsFilling snapshot (target ∷ picks) next new more
-  filling_more next new more left_now backings_now left_is backings_is left left_size backings backings_size marks chains_same members edges room drawn = record {
+  filling_more next new more left_now backings_now left_is backings_is left left_size backings backings_size marks backers_same members edges room drawn = record {
     after = record {
       left = λ voter. ap (λ ns. says ns voter) left_is ∙ left voter ∙ ap (λ (f : ℕ → ℕ). f voter - draw snapshot f target voter) (lefts snapshot picks race filling.after);
       left_size = ap length left_is ∙ left_size ∙ filling.after.left_size;
@@ -53,7 +53,7 @@ module _ (snapshot : Snapshot) (picks : List ℕ) (race : Race) (book : WeightBo
       backings_size = ap length backings_is ∙ backings_size ∙ filling.after.backings_size;
       marks = λ number. ap (λ ms. get_or ms number false) marks ∙ marked_more race.is_picked.items picks target filling.after.marks (omega (arith, in_range, filling.after.marks_size)) number;
       marks_size = ap length marks ∙ length-set race.is_picked.items target true ∙ filling.after.marks_size;
-      chains_are = subst (AreChains snapshot) (sym chains_same) filling.after.chains_are;
+      backers_are = subst (AreBackers snapshot) (sym backers_same) filling.after.backers_are;
     };
     members = members ∙ ap (λ ms. ms ++ target ∷ []) filling.members ∙ sym (reverse-append (target ∷ []) picks);
     edges = edges ∙ filling.edges;

@@ -7,7 +7,7 @@ use Rattle.weight_book.specs.Passing.{nominators}
 use Rattle.weight_book.specs.Room.{WeightBook, HasRoom}
 use Rattle.seat_race.specs.Tables.{says, AreMarks, AreSums}
 use Rattle.quota_fill.specs.declared.race.Race.{Race}
-use Rattle.quota_fill.specs.Chains.{AreChains}
+use Rattle.quota_fill.specs.Backers.{AreBackers}
 use Rattle.quota_fill.specs.Filled.{draw, left_after, next_pick}
 
 -- ## Tables
@@ -20,7 +20,7 @@ pub record IsAfter (snapshot : Snapshot) (picks : List ℕ) (race : Race) : Type
   pub backings_size : length race.backings.items ≡ length snapshot.targets
   pub marks : AreMarks race.is_picked.items picks
   pub marks_size : length race.is_picked.items ≡ length snapshot.targets
-  pub chains_are : AreChains snapshot race.chains
+  pub backers_are : AreBackers snapshot race.backers
 
 -- ## Draws, in the order in which they are made
 

@@ -1,3 +1,4 @@
+pub mod Backers
 pub mod Chains
 pub mod Filled
 pub mod Kept

@@ -2,12 +2,14 @@
 ghost use Rattle.std.specs.Prelude.{◌≡◌, ℕ, ◌-◌, ◌<◌, ◌≤◌, ◌∷◌, [], ◌++◌, if◌then◌else◌, length, false, nat_lt, slice_index_or, slice_set, IfSome, IfNone, OnOk};
 ghost use Rattle.npos_base.specs.declared.limits.TheConstants.{MOST_TARGETS};
 ghost use Rattle.weight_book.specs.Passing.{nominators};
+ghost use Rattle.quota_fill.specs.Backers.{AreBackers};
 ghost use Rattle.quota_fill.specs.Chains.{AreChains};
 ghost use Rattle.quota_fill.specs.Filled.{draw};
 ghost use Rattle.seat_race.specs.Picks.{more, first_best};
 ghost use Rattle.seat_race.specs.Tables.{says, unmarked, AreSums};
 ghost use Rattle.quota_fill.specs.Kept.{draws_of};
 
+use crate::backers::Backers;
 use crate::chains::Chains;
 use election_snapshot::Snapshot;
 use npos_base::{Edge, NoMemory};
@@ -55,6 +57,36 @@ fn first_outside(is_picked: &[bool]) -> Option<usize>
 pub(crate) fn draw_from_all(
     snapshot: &Snapshot,
     target: u16,
+    backers: &Backers,
+    left: &mut [u64],
+    backings: &mut [u64],
+    draws: &mut Vec<Edge>,
+) -> Result<(), NoMemory>
+    requires target { target < length snapshot.now.targets }
+    requires backers { AreBackers snapshot.now backers.now }
+    requires left_size { length left.old ≡ length snapshot.now.voters }
+    requires backings_size { length backings.old ≡ length snapshot.now.targets }
+    requires backings { AreSums snapshot.now left.old backings.old }
+    ensures left { OnOk result ((voter : ℕ) → says left.new voter
+        ≡ says left.old voter - draw snapshot.now (says left.old) target voter) }
+    ensures backings { OnOk result (AreSums snapshot.now left.new backings.new) }
+    ensures draws { OnOk result (draws.new.items ≡ draws.old.items
+        ++ draws_of snapshot.now (says left.old) target (nominators snapshot.now target)) }
+{
+    match backers {
+        Backers::Linked(chains) => {
+            draw_from_linked(snapshot, target, chains, left, backings, draws)
+        }
+        Backers::Listed(lists) => {
+            draw_from_listed(snapshot, target, lists.of(target), left, backings, draws)
+        }
+    }
+}
+
+/// Draws the price from nominators that are linked.
+fn draw_from_linked(
+    snapshot: &Snapshot,
+    target: u16,
     chains: &Chains,
     left: &mut [u64],
     backings: &mut [u64],
@@ -80,6 +112,38 @@ pub(crate) fn draw_from_all(
         note_draw(voter, target, amount, draws)?;
         due -= amount;
         link = chains.next(snapshot, link);
+    }
+    Ok(())
+}
+
+/// Draws the price from nominators that are listed.
+fn draw_from_listed(
+    snapshot: &Snapshot,
+    target: u16,
+    voters: &[u32],
+    left: &mut [u64],
+    backings: &mut [u64],
+    draws: &mut Vec<Edge>,
+) -> Result<(), NoMemory>
+    requires voters { voters.now ≡ nominators snapshot.now target }
+    requires left_size { length left.old ≡ length snapshot.now.voters }
+    requires backings_size { length backings.old ≡ length snapshot.now.targets }
+    requires backings { AreSums snapshot.now left.old backings.old }
+    ensures left { OnOk result ((voter : ℕ) → says left.new voter
+        ≡ says left.old voter - draw snapshot.now (says left.old) target voter) }
+    ensures backings { OnOk result (AreSums snapshot.now left.new backings.new) }
+    ensures draws { OnOk result (draws.new.items ≡ draws.old.items
+        ++ draws_of snapshot.now (says left.old) target (nominators snapshot.now target)) }
+{
+    let mut due = snapshot.threshold();
+    for voter in voters {
+        if due == 0 {
+            return Ok(());
+        }
+        let amount = left[*voter as usize].min(due);
+        draw_from(snapshot, *voter, amount, left, backings);
+        note_draw(*voter, target, amount, draws)?;
+        due -= amount;
     }
     Ok(())
 }

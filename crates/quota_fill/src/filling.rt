@@ -59,7 +59,7 @@ fn fill_seat(
     draw_from_all(
         snapshot,
         target,
-        &race.chains,
+        &race.backers,
         &mut race.left,
         &mut race.backings,
         draws,

@@ -2,6 +2,7 @@
 //! passes the check, so the election has no dead end; `laws` says so.
 #![tactic(auto)]
 
+mod backers;
 mod chains;
 mod drawing;
 mod filling;

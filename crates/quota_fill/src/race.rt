@@ -2,7 +2,7 @@
 ghost use Rattle.std.specs.Prelude.{[], IfOk};
 ghost use Rattle.quota_fill.specs.Kept.{IsAfter};
 
-use crate::chains::Chains;
+use crate::backers::Backers;
 use election_snapshot::Snapshot;
 use npos_base::NoMemory;
 use seat_race::fill_sums;
@@ -19,7 +19,7 @@ pub(crate) struct Race {
     /// By target, whether it was picked.
     pub(crate) is_picked: Vec<bool>,
     /// By target, its nominators in rising order.
-    pub(crate) chains: Chains,
+    pub(crate) backers: Backers,
 }
 
 impl Race {
@@ -33,12 +33,12 @@ impl Race {
         let mut backings = vec![in alloc; 0; targets]?;
         fill_sums(snapshot, &left, &mut backings);
         let is_picked = vec![in alloc; false; targets]?;
-        let chains = Chains::new(alloc, snapshot)?;
+        let backers = Backers::new(alloc, snapshot)?;
         Ok(Race {
             left,
             backings,
             is_picked,
-            chains,
+            backers,
         })
     }
 }

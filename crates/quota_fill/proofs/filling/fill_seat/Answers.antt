@@ -41,7 +41,7 @@ returns c =
       left = with_items race.left c.draw_from_all.new.left;
       backings = with_items race.backings c.draw_from_all.new.backings;
       is_picked = with_item race.is_picked c.from.result true;
-      chains = race.chains;
+      backers = race.backers;
     } in
     subst (λ (o : Option ℕ). IsFilling snapshot (cons_option o picks) next c.push_member.new.self c.draw_from_all.new.draws.items) (sym some)
     (filling_more snapshot picks race c.args.weights.now c.args.draws.now.items c.requires.state c.in-Some.target in_range next c.push_member.new.self c.draw_from_all.new.draws.items

@@ -1,7 +1,7 @@
 use Rattle.std.proofs.Common.{◌-◌}
 use Rattle.quota_fill.specs.Chains.{nowhere}
 use Rattle.quota_fill.proofs.RoundLemmas.{IsAlong}
-use Rattle.quota_fill.proofs.drawing.draw_from_all.Given as goal
+use Rattle.quota_fill.proofs.drawing.draw_from_linked.Given as goal
 
 -- the draws from the nominators so far
 abbrev pub invariant-voters : goal.invariant-voters

@@ -1,4 +1,4 @@
-use Rattle.std.proofs.Common.{rules, arith, ◌≡◌, ◌∙◌, ◌++◌, min, length, get_or, ap, subst}
+use Rattle.std.proofs.Common.{rules, arith, ◌≡◌, ◌∙◌, ◌++◌, min, get_or, ap}
 use Rattle.std.proofs.lemmas.List.{take_all}
 use Rattle.std.proofs.lemmas.Option.{slice_get_within}
 use Rattle.election_snapshot.specs.Snapshot.{votes_of}
@@ -7,8 +7,8 @@ use Rattle.seat_race.specs.Tables.{says}
 use Rattle.seat_race.proofs.NominatorLemmas.{nominates_in_range}
 use Rattle.quota_fill.specs.Kept.{draws_of}
 use Rattle.quota_fill.proofs.ChainLemmas.{at_nominates, leads_on}
-use Rattle.quota_fill.proofs.RoundLemmas.{IsDrawing, along_first, along_more, along_ends, drawing_all, drawn_from_each}
-use Rattle.quota_fill.proofs.drawing.draw_from_all.Goals as goal
+use Rattle.quota_fill.proofs.RoundLemmas.{along_first, along_more, along_ends, drawn_from_each, left_when_paid, draws_when_paid}
+use Rattle.quota_fill.proofs.drawing.draw_from_linked.Goals as goal
 
 pub voters-init : goal.voters-init
 voters-init c = along_first c.args.snapshot.now c.args.target c.args.left.now c.args.draws.now.items c.first-link.result c.args.left.now c.args.backings.now c.threshold-due.result (search rules) c.first-link.ensures
@@ -65,18 +65,9 @@ returns-else-leads-clause-draws c =
 pub returns-after-voters-clause-left : goal.returns-after-voters-clause-left
 returns-after-voters-clause-left c =
     let loop = c.voters in
-    let drawn : loop.due ≡ 0 = omega (arith, c.voters-test.false) in
-    let (all, ends, drawing) = drawing_all c.args.snapshot.now c.args.target c.args.left.now c.args.draws.now.items
-    (length (nominators c.args.snapshot.now c.args.target)) loop.invariant.count (omega arith) loop.left loop.backings loop.draws.items
-    (subst (λ n. IsDrawing c.args.snapshot.now c.args.target c.args.left.now c.args.draws.now.items loop.invariant.count loop.left loop.backings n loop.draws.items) drawn loop.invariant.drawing) in
-    drawn_from_each c.args.snapshot.now c.args.target c.args.left.now c.args.draws.now.items all loop.left loop.backings 0 loop.draws.items drawing ends
+    left_when_paid c.args.snapshot.now c.args.target c.args.left.now c.args.draws.now.items loop.invariant.count loop.left loop.backings loop.due loop.draws.items loop.invariant.drawing (omega (arith, c.voters-test.false))
 
 pub returns-after-voters-clause-draws : goal.returns-after-voters-clause-draws
 returns-after-voters-clause-draws c =
     let loop = c.voters in
-    let drawn : loop.due ≡ 0 = omega (arith, c.voters-test.false) in
-    let (all, ends, drawing) = drawing_all c.args.snapshot.now c.args.target c.args.left.now c.args.draws.now.items
-    (length (nominators c.args.snapshot.now c.args.target)) loop.invariant.count (omega arith) loop.left loop.backings loop.draws.items
-    (subst (λ n. IsDrawing c.args.snapshot.now c.args.target c.args.left.now c.args.draws.now.items loop.invariant.count loop.left loop.backings n loop.draws.items) drawn loop.invariant.drawing) in
-    drawing.draws_are
-    ∙ ap (λ ns. c.args.draws.now.items ++ draws_of c.args.snapshot.now (says c.args.left.now) c.args.target ns) (take_all all (nominators c.args.snapshot.now c.args.target) ends)
+    draws_when_paid c.args.snapshot.now c.args.target c.args.left.now c.args.draws.now.items loop.invariant.count loop.left loop.backings loop.due loop.draws.items loop.invariant.drawing (omega (arith, c.voters-test.false))
