@@ -66,18 +66,21 @@ fn tell_packed(
     }
 }
 
-/// The lines of an election. The weights of the fill go before the other miner begins.
+/// The lines of an election. The tables of a checker stand while it judges and not while a miner
+/// works, and the weights of the fill go before the other miner begins.
 fn tell_election(alloc: Global, text: &mut Vec<u8>, snapshot: Snapshot) -> Result<(), NoMemory>
     ensures { OnOk result (text.new.items ≡ text.old.items ++ election_text snapshot) }
 {
     every_snapshot_is_well_formed(&snapshot);
     tell_size(text, &snapshot)?;
+    let filled = fill(alloc, &snapshot)?;
     let mut checker = Checker::of(alloc, snapshot)?;
-    let filled = fill(alloc, checker.snapshot())?;
     tell_fill(text, &mut checker, &filled)?;
     drop(filled);
-    let packed = packed_by_load(alloc, checker.snapshot());
-    tell_packed(alloc, text, &mut checker, packed)
+    let snapshot = checker.into_snapshot();
+    let packed = packed_by_load(alloc, &snapshot);
+    let mut second = Checker::of(alloc, snapshot)?;
+    tell_packed(alloc, text, &mut second, packed)
 }
 
 /// The text on the election that a seed generates.

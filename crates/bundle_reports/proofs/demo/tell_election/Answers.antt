@@ -11,20 +11,17 @@ use Rattle.bundle_reports.proofs.demo.tell_election.Goals as goal
 
 pub tell_fill-requires : goal.tell_fill-requires
 tell_fill-requires c =
-    let same : c.snapshot-2.result.now ≡ c.args.snapshot = c.snapshot-2.ensures ∙ c.in_ok-checker.ensures in
-    let plain : c.in_ok-filled.filled.plain ≡ filled c.args.snapshot = c.in_ok-filled.ensures.filled ∙ ap filled same in
     subst (λ (s : Snapshot). IsFeasible s c.in_ok-filled.filled.plain) (sym c.in_ok-checker.ensures)
-    (subst (λ (w : Weights). IsFeasible c.args.snapshot w) (sym plain) (fill_passes c.args.snapshot c.every_snapshot_is_well_formed.ensures).feasible)
+    (subst (λ (w : Weights). IsFeasible c.args.snapshot w) (sym c.in_ok-filled.ensures.filled) (fill_passes c.args.snapshot c.every_snapshot_is_well_formed.ensures).feasible)
 
 pub returns : goal.returns
 returns c =
-    let first : c.snapshot-2.result.now ≡ c.args.snapshot = c.snapshot-2.ensures ∙ c.in_ok-checker.ensures in
-    let second : c.snapshot-3.result.now ≡ c.args.snapshot = c.snapshot-3.ensures ∙ c.in_ok-tell_fill.ensures.snapshot ∙ c.in_ok-checker.ensures in
-    let plain : c.in_ok-filled.filled.plain ≡ filled c.args.snapshot = c.in_ok-filled.ensures.filled ∙ ap filled first in
+    let same : c.into_snapshot-snapshot.result ≡ c.args.snapshot = c.into_snapshot-snapshot.ensures ∙ c.in_ok-tell_fill.ensures.snapshot ∙ c.in_ok-checker.ensures in
+    let judged : c.in_ok-second.second ≡ c.args.snapshot = c.in_ok-second.ensures ∙ same in
     let due = packed_of c.args.snapshot (mined c.args.snapshot) in
-    let packed : IsPackedAs due c.packed_by_load-packed.result = subst (λ (s : Snapshot). IsPackedAs (packed_of s (mined s)) c.packed_by_load-packed.result) second c.packed_by_load-packed.ensures.packed in
-    let last = subst (λ (s : Snapshot). OnOk c.tell_packed.result (c.tell_packed.new.text.items ≡ c.tell_fill.new.text.items ++ seq_line s due)) (c.in_ok-tell_fill.ensures.snapshot ∙ c.in_ok-checker.ensures)
+    let packed : IsPackedAs due c.packed_by_load-packed.result = subst (λ (s : Snapshot). IsPackedAs (packed_of s (mined s)) c.packed_by_load-packed.result) same c.packed_by_load-packed.ensures.packed in
+    let last = subst (λ (s : Snapshot). OnOk c.tell_packed.result (c.tell_packed.new.text.items ≡ c.tell_fill.new.text.items ++ seq_line s due)) judged
     (c.tell_packed.ensures due packed) in
     lines_told c.tell_packed.result c.tell_packed.new.text.items c.tell_size.new.text.items c.tell_fill.new.text.items c.args.text.now.items (size_line c.args.snapshot)
     (fill_line c.args.snapshot (filled c.args.snapshot)) (seq_line c.args.snapshot due)
-    c.in_ok-tell_size.ensures (c.in_ok-tell_fill.ensures.line ∙ ap₂ (λ s w. c.tell_size.new.text.items ++ fill_line s w) c.in_ok-checker.ensures plain) last
+    c.in_ok-tell_size.ensures (c.in_ok-tell_fill.ensures.line ∙ ap₂ (λ s w. c.tell_size.new.text.items ++ fill_line s w) c.in_ok-checker.ensures c.in_ok-filled.ensures.filled) last
