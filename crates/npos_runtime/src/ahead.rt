@@ -22,9 +22,7 @@ pub struct Ahead {
 
 impl Ahead {
     /// Guesses for the transfers among the first calls of a block: of each the payer's, and then
-    /// that of whom it pays. The rows that they say are read here together, so that no transfer
-    /// waits for one alone; a guess of a row that has nothing free is let go, and its account is
-    /// found when it is asked for.
+    /// that of whom it pays.
     pub fn of_transfers(alloc: Global, book: &Book, calls: &[Call]) -> Result<Ahead, NoMemory> {
         let first = &calls[..calls.len().min(CALLS_AHEAD)];
         let mut guesses = Vec::with_capacity(alloc, 2 * first.len())?;
@@ -34,11 +32,7 @@ impl Ahead {
                 guesses.push(book.guess(call.who))?;
             }
         }
-        for guess in guesses.as_mut_slice() {
-            if !book.has_free_at(*guess) {
-                *guess = NOWHERE;
-            }
-        }
+        read_rows(book, &mut guesses);
         Ok(Ahead { guesses })
     }
 
@@ -48,6 +42,7 @@ impl Ahead {
         for backer in backers.iter().rev() {
             guesses.push(book.guess(backer.who))?;
         }
+        read_rows(book, &mut guesses);
         Ok(Ahead { guesses })
     }
 
@@ -59,5 +54,15 @@ impl Ahead {
     /// The guesses for the transfer that is next: the payer's, and that of whom it pays.
     pub fn pair(&mut self) -> (usize, usize) {
         (self.guess(), self.guess())
+    }
+}
+
+/// Reads the rows that the guesses say, all together, so that nobody waits for one alone. A guess of a
+/// row that has nothing free is let go, and its account is found when it is asked for.
+fn read_rows(book: &Book, guesses: &mut [u32]) {
+    for guess in guesses {
+        if !book.has_free_at(*guess) {
+            *guess = NOWHERE;
+        }
     }
 }

@@ -6,9 +6,9 @@ use quota_fill::fill;
 use std::alloc::Global;
 use std::test::Fail;
 
-/// A tie that goes to the lowest, the least total, a pick that finds less than the price of a seat,
-/// and picks that draw it whole.
-static CASES: [Case; 4] = [
+/// A tie that goes to the lowest, the least total, a pick that finds less than the price of a seat, and
+/// picks that draw it whole; then the last two among so many targets that nominators are linked.
+static CASES: [Case; 6] = [
     Case {
         targets: 3,
         voters: &[(70, &[0, 1]), (30, &[2])],
@@ -32,6 +32,18 @@ static CASES: [Case; 4] = [
         voters: &[(30, &[2, 0]), (25, &[1, 2]), (46, &[1, 0])],
         members: &[0, 1],
         edges: &[(0, 0, 30), (1, 1, 25), (2, 0, 20), (2, 1, 25)],
+    },
+    Case {
+        targets: 16,
+        voters: &[(10, &[3, 1]), (60, &[3]), (20, &[2, 1]), (11, &[0])],
+        members: &[3, 1],
+        edges: &[(0, 3, 10), (1, 3, 40), (2, 1, 20)],
+    },
+    Case {
+        targets: 16,
+        voters: &[(30, &[15, 7]), (25, &[8, 15]), (46, &[8, 7])],
+        members: &[7, 8],
+        edges: &[(0, 7, 30), (1, 8, 25), (2, 7, 20), (2, 8, 25)],
     },
 ];
 
