@@ -16,7 +16,7 @@ use Rattle.std.proofs.lemmas.Bool.{cases_lt}
 use Rattle.npos_base.specs.declared.account.AccountId.{AccountId}
 use Rattle.npos_base.specs.Account.{account_cmp}
 use Rattle.npos_base.proofs.AccountOrder.{account_total}
-use Rattle.voter_lists.specs.Ranked.{BelongsAt}
+use Rattle.voter_lists.specs.RankedAt.{BelongsAt}
 use Rattle.voter_lists.proofs.PlaceLemmas.{at_all}
 
 module _ (who : AccountId) where

@@ -10,7 +10,8 @@ use Rattle.npos_base.specs.Account.{account_cmp, same_account}
 use Rattle.npos_base.proofs.AccountOrder.{same_exact}
 use Rattle.voter_lists.specs.Marks.{KeepPlaces}
 use Rattle.voter_lists.specs.Noted.{accounts_at, AreWithin}
-use Rattle.voter_lists.specs.Ranked.{AreRanked, AreRankedAt, RiseAt}
+use Rattle.voter_lists.specs.Ranked.{AreRanked}
+use Rattle.voter_lists.specs.RankedAt.{AreRankedAt, RiseAt}
 use Rattle.voter_lists.specs.Roles.{RoleList, validators_of, is_validator}
 use Rattle.voter_lists.specs.Standings.{PlacedRoles}
 use Rattle.voter_lists.specs.Votes.{rank_of}

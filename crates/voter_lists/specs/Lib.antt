@@ -5,6 +5,7 @@ pub mod Marks
 pub mod Owed
 pub mod Reasons
 pub mod Ranked
+pub mod RankedAt
 pub mod Ranking
 pub mod Roles
 pub mod Standings

@@ -1,6 +1,6 @@
 //! The votes of accounts.
 ghost use Rattle.std.specs.Prelude.{◌≡◌, ◌≤◌, length, IfOk, OnOk};
-ghost use Rattle.voter_lists.specs.Ranked.{AreRankedAt};
+ghost use Rattle.voter_lists.specs.RankedAt.{AreRankedAt};
 ghost use Rattle.voter_lists.specs.Votes.{votes_of};
 
 use crate::ranking::Ranking;

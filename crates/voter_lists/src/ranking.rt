@@ -4,7 +4,7 @@ ghost use Rattle.std.specs.Vec.{vec_capacity};
 ghost use Rattle.npos_base.specs.declared.account.AccountId.{AccountId};
 ghost use Rattle.voter_lists.specs.Chosen.{chosen_in};
 ghost use Rattle.voter_lists.specs.Noted.{AreWithin, accounts_at};
-ghost use Rattle.voter_lists.specs.Ranked.{AreRankedAt};
+ghost use Rattle.voter_lists.specs.RankedAt.{AreRankedAt};
 ghost use Rattle.voter_lists.specs.Ranking.{rank_in, AreTold, IsRanking};
 ghost use Rattle.voter_lists.specs.Roles.{validators_of};
 ghost use Rattle.voter_lists.specs.Votes.{rank_of, votes_of};

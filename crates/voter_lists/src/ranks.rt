@@ -11,7 +11,7 @@ ghost use Rattle.std.specs.List.Sorted.{IsSearchInRange};
 ghost use Rattle.npos_base.specs.Account.{account_cmp};
 ghost use Rattle.npos_base.specs.declared.limits.TheConstants.{MOST_VALIDATORS};
 ghost use Rattle.voter_lists.specs.Noted.{AreWithin, accounts_at};
-ghost use Rattle.voter_lists.specs.Ranked.{BelongsAt, RiseAt};
+ghost use Rattle.voter_lists.specs.RankedAt.{BelongsAt, RiseAt};
 ghost use Rattle.voter_lists.specs.Votes.{rank_of};
 
 use crate::standings::Standings;

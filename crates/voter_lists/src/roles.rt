@@ -8,7 +8,7 @@ ghost use Rattle.npos_base.specs.Refusal.{IsDue, MeetsAlways, answer_of};
 ghost use Rattle.voter_lists.specs.declared.refusal.ListRefusal.TheVariants.{NoMemory as NoMemoryRefusal};
 ghost use Rattle.voter_lists.specs.Marks.{unknown, AreMarks, RepeatAlike, has_repeated_mark};
 ghost use Rattle.voter_lists.specs.Owed.{Meets};
-ghost use Rattle.voter_lists.specs.Ranked.{AreRankedAt};
+ghost use Rattle.voter_lists.specs.RankedAt.{AreRankedAt};
 ghost use Rattle.voter_lists.specs.Roles.{role_of, nominated_by, validators_of, is_validator, KeepsOthers, has_repeated_account, is_no_target, nominate_refusal, nominated, validate_refusal, validating, chill_refusal, without_role};
 ghost use Rattle.voter_lists.specs.Taken.{CanTake, with_role};
 
@@ -39,7 +39,7 @@ impl Model for Roles {
 
     ghost Value = { RoleList };
 
-    ghost use Rattle.voter_lists.specs.Ranked.{AreRankedAt};
+    ghost use Rattle.voter_lists.specs.RankedAt.{AreRankedAt};
 
     ghost view = { λ r. r.standings.roles };
 

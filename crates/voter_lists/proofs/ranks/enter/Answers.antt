@@ -2,7 +2,7 @@
 use Rattle.std.proofs.Common.{◌≡◌, ◌≤◌, ◌∙◌, length, slice_get, Some, ap, sym, subst, arith}
 use Rattle.std.proofs.lemmas.Option.{slice_get_within}
 use Rattle.voter_lists.specs.Noted.{AreWithin, accounts_at}
-use Rattle.voter_lists.specs.Ranked.{BelongsAt}
+use Rattle.voter_lists.specs.RankedAt.{BelongsAt}
 use Rattle.voter_lists.proofs.NamedLemmas.{count_at}
 use Rattle.voter_lists.proofs.RankLemmas.{missed, hit_same}
 use Rattle.voter_lists.proofs.RankedPlaceLemmas.{within_inserted, accounts_inserted}

@@ -1,7 +1,7 @@
 -- A search that hits ends at the place of the account, and one that misses leaves the places.
 use Rattle.std.proofs.Common.{◌≡◌, ◌∙◌, slice_get, Some, ap, sym, subst}
 use Rattle.voter_lists.specs.Noted.{accounts_at}
-use Rattle.voter_lists.specs.Ranked.{BelongsAt}
+use Rattle.voter_lists.specs.RankedAt.{BelongsAt}
 use Rattle.voter_lists.proofs.RankLemmas.{hit, missed_same}
 use Rattle.voter_lists.proofs.RankedPlaceLemmas.{accounts_removed}
 use Rattle.voter_lists.proofs.ranks.leave.Goals as goal

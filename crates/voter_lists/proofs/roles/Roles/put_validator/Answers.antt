@@ -5,7 +5,8 @@ use Rattle.npos_base.specs.Account.{account_cmp}
 use Rattle.npos_base.proofs.AccountOrder.{account_total}
 use Rattle.npos_base.proofs.EntryLemmas.{sorted_put}
 use Rattle.voter_lists.specs.Noted.{accounts_at, validates}
-use Rattle.voter_lists.specs.Ranked.{AreRanked, AreRankedAt, RiseAt}
+use Rattle.voter_lists.specs.Ranked.{AreRanked}
+use Rattle.voter_lists.specs.RankedAt.{AreRankedAt, RiseAt}
 use Rattle.voter_lists.specs.Roles.{is_validator, standing_of}
 use Rattle.voter_lists.specs.declared.standing.Standing.TheVariants.{Validator}
 use Rattle.voter_lists.proofs.NamedLemmas.{validates_noted}

@@ -1,7 +1,7 @@
 -- Who has a rank is a validator.
 use Rattle.std.proofs.Common.{◌∙◌, length, ap, sym, subst, is_some, arith}
 use Rattle.voter_lists.specs.Noted.{accounts_at}
-use Rattle.voter_lists.specs.Ranked.{RiseAt}
+use Rattle.voter_lists.specs.RankedAt.{RiseAt}
 use Rattle.voter_lists.specs.Votes.{rank_of}
 use Rattle.voter_lists.proofs.NamedLemmas.{count_at}
 use Rattle.voter_lists.proofs.PlaceLemmas.{rank_tells}
