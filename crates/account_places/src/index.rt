@@ -245,6 +245,12 @@ impl Index {
         u32::MAX
     }
 
+    /// The mark of the account's first slot. Nothing is asked of it here, so no read of another slot
+    /// waits for it.
+    pub(crate) fn peek(&self, who: AccountId) -> u32 {
+        self.mark(slot_of(who, self.count))
+    }
+
     /// Appends the guess for each of these accounts. No read waits for another here.
     pub(crate) fn guess_each(&self, whose: &[AccountId], places: usize, guesses: &mut Vec<u32>)
         requires { vec_len guesses.old + length whose.now ≤ vec_capacity guesses.old }

@@ -76,6 +76,12 @@ impl Places {
         self.index.guess(who, self.accounts.len())
     }
 
+    /// What the first slot of the account says, to whomever. Nothing rests on it: who peeks for many
+    /// accounts has read their slots before the first of them is sought, and waits for memory once.
+    pub fn peek(&self, who: AccountId) -> u32 {
+        self.index.peek(who)
+    }
+
     /// Appends the guess for each of these accounts. Where many of them crowd the slots of others,
     /// they are sought in order, step by step all together.
     pub fn guess_each(&self, whose: &[AccountId], guesses: &mut Vec<u32>) -> Result<(), NoMemory>

@@ -363,6 +363,12 @@ impl Book {
         self.rows.guess(who)
     }
 
+    /// What the first slot of the account says, by which it is found. Nothing rests on it: who peeks
+    /// for many accounts has read their slots before the first of them is sought.
+    pub fn peek(&self, who: AccountId) -> u32 {
+        self.rows.peek(who)
+    }
+
     /// Whether who stands at the guess has something free. Nothing rests on it: who asks this of
     /// many guesses has read the rows of all before the first of them is changed.
     pub fn has_free_at(&self, guess: u32) -> bool {

@@ -165,6 +165,11 @@ impl Rows {
         self.places.guess(who)
     }
 
+    /// What the first slot of the account says. Nothing rests on it.
+    pub fn peek(&self, who: AccountId) -> u32 {
+        self.places.peek(who)
+    }
+
     /// Whether the row at the guess has something free. Nothing rests on it.
     pub fn has_free_at(&self, guess: u32) -> bool {
         match self.rows.get(guess as usize) {
