@@ -94,6 +94,12 @@ impl Bags {
         home as u32
     }
 
+    /// What the slots say of where the account stands. Nothing rests on it: who asks this of many
+    /// accounts has read their slots before the first of them is sought.
+    pub fn guess(&self, who: AccountId) -> u32 {
+        self.nodes.guess(who)
+    }
+
     /// Moves the account to the tail of the bag of this score, where that is another one, and tells
     /// whether it was. It takes no memory.
     pub fn update(&mut self, who: AccountId, score: u64) -> Result<bool, NoMemory>

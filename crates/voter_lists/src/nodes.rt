@@ -65,6 +65,11 @@ impl Nodes {
         }
     }
 
+    /// What the slots say of the place of an account. Nothing rests on it.
+    pub(crate) fn guess(&self, who: AccountId) -> u32 {
+        self.places.guess(who)
+    }
+
     /// The place of an account, which has one from now on, with room for its links.
     fn place_for(&mut self, who: AccountId) -> Result<usize, NoMemory>
         requires { IsStanding self.old }

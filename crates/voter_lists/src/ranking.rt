@@ -1,6 +1,5 @@
 //! The ranks of the validators, by the places of accounts.
-ghost use Rattle.std.specs.Prelude.{◌≡◌, ◌<◌, ◌≤◌, ◌+◌, [], length, Some, OnOk, IfOk, slice_get, filter_map, vec_len};
-ghost use Rattle.std.specs.Vec.{vec_capacity};
+ghost use Rattle.std.specs.Prelude.{◌≡◌, ◌<◌, [], length, Some, OnOk, IfOk, slice_get, filter_map};
 ghost use Rattle.npos_base.specs.declared.account.AccountId.{AccountId};
 ghost use Rattle.voter_lists.specs.Chosen.{chosen_in};
 ghost use Rattle.voter_lists.specs.Noted.{AreWithin, accounts_at};
@@ -70,8 +69,8 @@ impl<'a> Ranking<'a> {
         rank_in(self.ranks[place])
     }
 
-    /// Adds the votes for the accounts at these places. How wide the places are and whether there is
-    /// room is asked once for all of them.
+    /// Adds the votes for the accounts at these places. Whether there is room is asked once for all
+    /// of them.
     fn cast_for(&self, chosen: Chosen<'_>, votes: &mut Vec<u16>) -> Result<(), NoMemory>
         requires ranking { IsRanking self.now }
         requires within { AreWithin self.now.standings.now.accounts (chosen_in chosen) }
@@ -81,45 +80,12 @@ impl<'a> Ranking<'a> {
             (accounts_at self.now.standings.now.accounts (chosen_in chosen.entry))) }
     {
         votes.reserve(chosen.len())?;
-        match chosen {
-            Chosen::Near(places) => self.cast_near(places, votes),
-            Chosen::Far(places) => self.cast_far(places, votes),
+        for i in 0..chosen.len() {
+            if let Some(rank) = self.rank_at(chosen.at(i)) {
+                votes.push_reserved(rank);
+            }
         }
         Ok(())
-    }
-
-    /// Adds the votes for the accounts at these places, which 32 bits hold.
-    fn cast_near(&self, places: &[u32], votes: &mut Vec<u16>)
-        requires ranking { IsRanking self.now }
-        requires within { AreWithin self.now.standings.now.accounts places.now }
-        requires none { votes.old.items ≡ [] }
-        requires room { vec_len votes.old + length places.now ≤ vec_capacity votes.old }
-        ensures { votes.new.items
-            ≡ filter_map (rank_of (validators_of self.now.standings.now.roles))
-            (accounts_at self.now.standings.now.accounts places.now) }
-    {
-        for place in places {
-            if let Some(rank) = self.rank_at(*place as usize) {
-                votes.push_reserved(rank);
-            }
-        }
-    }
-
-    /// Adds the votes for the accounts at these places, whatever they are.
-    fn cast_far(&self, places: &[usize], votes: &mut Vec<u16>)
-        requires ranking { IsRanking self.now }
-        requires within { AreWithin self.now.standings.now.accounts places.now }
-        requires none { votes.old.items ≡ [] }
-        requires room { vec_len votes.old + length places.now ≤ vec_capacity votes.old }
-        ensures { votes.new.items
-            ≡ filter_map (rank_of (validators_of self.now.standings.now.roles))
-            (accounts_at self.now.standings.now.accounts places.now) }
-    {
-        for place in places {
-            if let Some(rank) = self.rank_at(*place) {
-                votes.push_reserved(rank);
-            }
-        }
     }
 
     /// Adds the votes of the account at this place.

@@ -203,6 +203,12 @@ impl Roles {
         role
     }
 
+    /// What the slots say of where the account stands. Nothing rests on it: who asks this of many
+    /// accounts has read their slots before the first of them is sought.
+    pub fn guess(&self, who: AccountId) -> u32 {
+        self.standings.guess(who)
+    }
+
     /// The role of an account and its targets, for accounts that are asked for in about the order
     /// in which they first had one: the account may be found by the guess, which then is of the
     /// account that came next.

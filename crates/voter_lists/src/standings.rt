@@ -96,6 +96,11 @@ impl Standings {
         self.places.find_from(guess, who)
     }
 
+    /// What the slots say of the place of an account. Nothing rests on it.
+    pub(crate) fn guess(&self, who: AccountId) -> u32 {
+        self.places.guess(who)
+    }
+
     /// What is kept at the place of an account.
     pub(crate) fn row(&self, place: usize) -> &Row
         requires { place < length self.now.accounts }
