@@ -15,7 +15,7 @@ use Rattle.seat_race.specs.Tables.{says, nominators_before, AreSums}
 use Rattle.quota_fill.specs.declared.chains.Link.{Link}
 use Rattle.quota_fill.specs.Chains.{nowhere, nominators_from, IsAt, Leads}
 use Rattle.quota_fill.specs.Filled.{draw}
-use Rattle.quota_fill.specs.Kept.{draw_edge, draws_of}
+use Rattle.quota_fill.specs.Kept.{draw_edge, draws_of, AreTables, IsDrawn}
 use Rattle.seat_race.proofs.InLemmas.{In, in_at, in_has, from_has, from_filter, term_le, all_at}
 use Rattle.seat_race.proofs.NominatorLemmas.{has_nominators, nominates_in_range, nominators_distinct, one_nominator}
 use Rattle.quota_fill.proofs.ChainLemmas.{all_are_from, at_nominates, nominator_first, none_beyond}
@@ -123,9 +123,7 @@ module _ (snapshot : Snapshot) (target : ℕ) (old : List ℕ) (drawn : List Edg
   -- after the draws from the first of the nominators
   pub record IsDrawing (i : ℕ) (left backings : List ℕ) (due : ℕ) (draws : List Edge) : Type 0 where
     pub left_is : (voter : ℕ) → says left voter ≡ says old voter - cond (has (take i voters) voter) (draw snapshot (says old) target voter) 0
-    pub left_size : length left ≡ length snapshot.voters
-    pub backings_are : AreSums snapshot left backings
-    pub backings_size : length backings ≡ length snapshot.targets
+    pub tables : AreTables snapshot left backings
     pub due_is : due + min (threshold snapshot) (sum_by (says old) (take i voters)) ≡ threshold snapshot
     pub draws_are : draws ≡ drawn ++ draws_of snapshot (says old) target (take i voters)
 
@@ -168,9 +166,11 @@ module _ (snapshot : Snapshot) (target : ℕ) (old : List ℕ) (drawn : List Edg
         → IsDrawing (i + 1) (set left giver (says left giver - amount)) new (due - amount) (draws ++ cond (nat_lt 0 amount) (record { voter = giver; target = target; amount = amount } ∷ []) [])
     drawing_more new are size = record {
       left_is = λ voter. left_at voter (cases_eq giver voter);
-      left_size = length-set left giver (says left giver - amount) ∙ so_far.left_size;
-      backings_are = are;
-      backings_size = size ∙ so_far.backings_size;
+      tables = record {
+        left_size = length-set left giver (says left giver - amount) ∙ so_far.tables.left_size;
+        backings_size = size ∙ so_far.tables.backings_size;
+        sums = are;
+      };
       due_is = omega (
         arith,
         so_far.due_is,
@@ -197,7 +197,7 @@ module _ (snapshot : Snapshot) (target : ℕ) (old : List ℕ) (drawn : List Edg
           → says (set left giver (says left giver - amount)) voter ≡ says old voter - cond (has (take (i + 1) voters) voter) (draw snapshot (says old) target voter) 0
       left_at voter (inl same) = subst (λ n. says (set left giver (says left giver - amount)) n ≡ says old n - cond (has (take (i + 1) voters) n) (draw snapshot (says old) target n) 0) same (omega (
         arith,
-        get_or-set_same left giver (says left giver - amount) 0 (omega (arith, so_far.left_size, giver_in_range)),
+        get_or-set_same left giver (says left giver - amount) 0 (omega (arith, so_far.tables.left_size, giver_in_range)),
         untouched,
         amount_is,
         cond-true (has (take (i + 1) voters) giver) (draw snapshot (says old) target giver) 0 (now_there voters (nominators_distinct snapshot target) i d h giver refl),
@@ -207,16 +207,20 @@ module _ (snapshot : Snapshot) (target : ℕ) (old : List ℕ) (drawn : List Edg
           ∙ so_far.left_is voter
           ∙ ap (λ b. says old voter - cond b (draw snapshot (says old) target voter) 0) (sym (still_there voters (nominators_distinct snapshot target) i d h voter differ))
 
-  pub drawn_from_each : (i : ℕ) (left backings : List ℕ) (due : ℕ) (draws : List Edge) → IsDrawing i left backings due draws → length voters ≤ i
-      → (voter : ℕ) → says left voter ≡ says old voter - draw snapshot (says old) target voter
-  drawn_from_each i left backings due draws so_far ends voter = so_far.left_is voter
-      ∙ ap (λ ns. says old voter - cond (has ns voter) (draw snapshot (says old) target voter) 0) (take_all i voters ends)
-      ∙ at (cases_Bool (has voters voter))
+  pub drawn_from_all : (i : ℕ) (left backings : List ℕ) (due : ℕ) (draws : List Edge) → IsDrawing i left backings due draws → length voters ≤ i
+      → IsDrawn snapshot target old left backings drawn draws
+  drawn_from_all i left backings due draws so_far ends = record {
+    left = λ voter. so_far.left_is voter
+        ∙ ap (λ ns. says old voter - cond (has ns voter) (draw snapshot (says old) target voter) 0) (take_all i voters ends)
+        ∙ at voter (cases_Bool (has voters voter));
+    backings = so_far.tables.sums;
+    draws = so_far.draws_are ∙ ap (λ ns. drawn ++ draws_of snapshot (says old) target ns) (take_all i voters ends);
+  }
     where
-      at : (has voters voter ≡ true) ⊎ (has voters voter ≡ false)
+      at : (voter : ℕ) → (has voters voter ≡ true) ⊎ (has voters voter ≡ false)
           → says old voter - cond (has voters voter) (draw snapshot (says old) target voter) 0 ≡ says old voter - draw snapshot (says old) target voter
-      at (inl t) = ap (λ b. says old voter - cond b (draw snapshot (says old) target voter) 0) t
-      at (inr f) = elim (cases_lt 0 (draw snapshot (says old) target voter)) [
+      at voter (inl t) = ap (λ b. says old voter - cond b (draw snapshot (says old) target voter) 0) t
+      at voter (inr f) = elim (cases_lt 0 (draw snapshot (says old) target voter)) [
         | inl l ↦ absurd (true≢false (sym (in_has voters voter (has_nominators snapshot voter target (drawn_nominates snapshot (says old) target voter l))) ∙ f))
         | inr l ↦ omega (arith, l, cond-false (has voters voter) (draw snapshot (says old) target voter) 0 f)
       ]
@@ -268,7 +272,7 @@ module _ (snapshot : Snapshot) (target : ℕ) (old : List ℕ) (drawn : List Edg
       let giver = get_or voters i d in
       let none : min (says left giver) 0 ≡ 0 = omega arith in
       let stays : set left giver (says left giver - min (says left giver) 0) ≡ left = ap (set left giver) (all_left (says left giver)) ∙ set-get_or left giver 0 in
-      let more = drawing_more i d h left backings 0 draws so_far backings (subst (λ ns. AreSums snapshot ns backings) (sym stays) so_far.backings_are) refl in
+      let more = drawing_more i d h left backings 0 draws so_far backings (subst (λ ns. AreSums snapshot ns backings) (sym stays) so_far.tables.sums) refl in
       subst (λ es. IsDrawing (i + 1) left backings 0 es) (append-nil draws) (rw (stays, none) at more)
     where
       all_left : (n : ℕ) → n - min n 0 ≡ n
@@ -282,13 +286,8 @@ module _ (snapshot : Snapshot) (target : ℕ) (old : List ℕ) (drawn : List Edg
     | inr ends ↦ (i, ends, so_far)
   ]
 
-  module _ (i : ℕ) (left backings : List ℕ) (due : ℕ) (draws : List Edge) (so_far : IsDrawing i left backings due draws) (paid : due ≡ 0) where
-    all_drawn : (all : ℕ) × (length voters ≤ all) × IsDrawing all left backings 0 draws
-    all_drawn = drawing_all (length voters) i (omega arith) left backings draws (subst (λ n. IsDrawing i left backings n draws) paid so_far)
-
-    pub left_when_paid : (voter : ℕ) → says left voter ≡ says old voter - draw snapshot (says old) target voter
-    left_when_paid = let (all, ends, drawing) = all_drawn in drawn_from_each all left backings 0 draws drawing ends
-
-    pub draws_when_paid : draws ≡ drawn ++ draws_of snapshot (says old) target voters
-    draws_when_paid = let (all, ends, drawing) = all_drawn in
-        drawing.draws_are ∙ ap (λ ns. drawn ++ draws_of snapshot (says old) target ns) (take_all all voters ends)
+  pub drawn_when_paid : (i : ℕ) (left backings : List ℕ) (due : ℕ) (draws : List Edge) → IsDrawing i left backings due draws → due ≡ 0
+      → IsDrawn snapshot target old left backings drawn draws
+  drawn_when_paid i left backings due draws so_far paid =
+      let (all, ends, drawing) = drawing_all (length voters) i (omega arith) left backings draws (subst (λ n. IsDrawing i left backings n draws) paid so_far) in
+      drawn_from_all all left backings 0 draws drawing ends

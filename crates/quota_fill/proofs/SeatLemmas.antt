@@ -13,14 +13,14 @@ use Rattle.seat_race.proofs.PickLemmas.{best_agree, few_picks, more_orders, outs
 use Rattle.seat_race.proofs.TableLemmas.{marked_more, unmarked_outside}
 use Rattle.quota_fill.specs.Backers.{AreBackers}
 use Rattle.quota_fill.specs.Filled.{draw, left_after, backing, next_pick, picked}
-use Rattle.quota_fill.specs.Kept.{draws_of, with_next, IsAfter, IsFilling}
+use Rattle.quota_fill.specs.Kept.{draws_of, with_next, IsAfter, IsDrawn, IsFilling}
 
 module _ (snapshot : Snapshot) (picks : List ℕ) (race : Race) (after : IsAfter snapshot picks race) where
   lefts : says race.left.items ≡ left_after snapshot picks
   lefts = λ i voter. after.left voter i
 
   backings_are : (target : ℕ) → target < length snapshot.targets → says race.backings.items target ≡ backing snapshot picks target
-  backings_are target h = after.backings target h ∙ sum_same (says race.left.items) (left_after snapshot picks) after.left (nominators snapshot target)
+  backings_are target h = after.tables.sums target h ∙ sum_same (says race.left.items) (left_after snapshot picks) after.left (nominators snapshot target)
 
   pub best_is_next : first_best more (says race.backings.items) (unmarked race.is_picked.items (length race.is_picked.items)) ≡ next_pick snapshot picks
   best_is_next =
@@ -34,30 +34,30 @@ module _ (snapshot : Snapshot) (picks : List ℕ) (race : Race) (book : WeightBo
   pub filling_more : (next : Race) (new : WeightBook) (more : List Edge) (left_now backings_now : List ℕ)
       → next.left.items ≡ left_now
       → next.backings.items ≡ backings_now
-      → ((voter : ℕ) → says left_now voter ≡ says race.left.items voter - draw snapshot (says race.left.items) target voter)
+      → IsDrawn snapshot target race.left.items left_now backings_now draws more
       → length left_now ≡ length race.left.items
-      → AreSums snapshot left_now backings_now
       → length backings_now ≡ length race.backings.items
       → next.is_picked.items ≡ set race.is_picked.items target true
       → next.backers ≡ race.backers
       → new.plain.committee ≡ book.plain.committee ++ target ∷ []
       → new.plain.edges ≡ book.plain.edges
       → KeepsRoom book new
-      → more ≡ draws ++ draws_of snapshot (says race.left.items) target (nominators snapshot target)
       → IsFilling snapshot (target ∷ picks) next new more
-  filling_more next new more left_now backings_now left_is backings_is left left_size backings backings_size marks backers_same members edges room drawn = record {
+  filling_more next new more left_now backings_now left_is backings_is drawn left_size backings_size marks backers_same members edges room = record {
     after = record {
-      left = λ voter. ap (λ ns. says ns voter) left_is ∙ left voter ∙ ap (λ (f : ℕ → ℕ). f voter - draw snapshot f target voter) (lefts snapshot picks race filling.after);
-      left_size = ap length left_is ∙ left_size ∙ filling.after.left_size;
-      backings = subst (λ ns. AreSums snapshot ns next.backings.items) (sym left_is) (subst (λ ns. AreSums snapshot left_now ns) (sym backings_is) backings);
-      backings_size = ap length backings_is ∙ backings_size ∙ filling.after.backings_size;
+      left = λ voter. ap (λ ns. says ns voter) left_is ∙ drawn.left voter ∙ ap (λ (f : ℕ → ℕ). f voter - draw snapshot f target voter) (lefts snapshot picks race filling.after);
+      tables = record {
+        left_size = ap length left_is ∙ left_size ∙ filling.after.tables.left_size;
+        backings_size = ap length backings_is ∙ backings_size ∙ filling.after.tables.backings_size;
+        sums = subst (λ ns. AreSums snapshot ns next.backings.items) (sym left_is) (subst (λ ns. AreSums snapshot left_now ns) (sym backings_is) drawn.backings);
+      };
       marks = λ number. ap (λ ms. get_or ms number false) marks ∙ marked_more race.is_picked.items picks target filling.after.marks (omega (arith, in_range, filling.after.marks_size)) number;
       marks_size = ap length marks ∙ length-set race.is_picked.items target true ∙ filling.after.marks_size;
       backers_are = subst (AreBackers snapshot) (sym backers_same) filling.after.backers_are;
     };
     members = members ∙ ap (λ ms. ms ++ target ∷ []) filling.members ∙ sym (reverse-append (target ∷ []) picks);
     edges = edges ∙ filling.edges;
-    draws_are = drawn ∙ ap₂ (λ es (f : ℕ → ℕ). es ++ draws_of snapshot f target (nominators snapshot target)) filling.draws_are (lefts snapshot picks race filling.after);
+    draws_are = drawn.draws ∙ ap₂ (λ es (f : ℕ → ℕ). es ++ draws_of snapshot f target (nominators snapshot target)) filling.draws_are (lefts snapshot picks race filling.after);
     room = record {
       members = omega (arith, filling.room.members, room.members);
       edges = omega (arith, filling.room.edges, room.edges);

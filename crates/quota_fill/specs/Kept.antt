@@ -1,5 +1,5 @@
 -- What a fill keeps while it goes on.
-use Rattle.std.specs.Prelude.{◌≡◌, ℕ, nat_lt, List, [], ◌∷◌, ◌++◌, length, map, filter, reverse}
+use Rattle.std.specs.Prelude.{◌≡◌, ℕ, ◌-◌, nat_lt, List, [], ◌∷◌, ◌++◌, length, map, filter, reverse}
 use Rattle.std.specs.List.{cons_option}
 use Rattle.npos_base.specs.declared.figures.Edge.{Edge}
 use Rattle.election_snapshot.specs.Snapshot.{Snapshot}
@@ -12,12 +12,16 @@ use Rattle.quota_fill.specs.Filled.{draw, left_after, next_pick}
 
 -- ## Tables
 
+-- by voter, what it has left, and by target, what its nominators have left
+pub record AreTables (snapshot : Snapshot) (left backings : List ℕ) : Type 0 where
+  pub left_size : length left ≡ length snapshot.voters
+  pub backings_size : length backings ≡ length snapshot.targets
+  pub sums : AreSums snapshot left backings
+
 -- the tables after these picks, the latest first
 pub record IsAfter (snapshot : Snapshot) (picks : List ℕ) (race : Race) : Type 0 where
   pub left : (voter : ℕ) → says race.left.items voter ≡ left_after snapshot picks voter
-  pub left_size : length race.left.items ≡ length snapshot.voters
-  pub backings : AreSums snapshot race.left.items race.backings.items
-  pub backings_size : length race.backings.items ≡ length snapshot.targets
+  pub tables : AreTables snapshot race.left.items race.backings.items
   pub marks : AreMarks race.is_picked.items picks
   pub marks_size : length race.is_picked.items ≡ length snapshot.targets
   pub backers_are : AreBackers snapshot race.backers
@@ -33,6 +37,15 @@ draw_edge snapshot left target voter =
 abbrev pub draws_of : Snapshot → (ℕ → ℕ) → ℕ → List ℕ → List Edge
 draws_of snapshot left target voters =
     filter (λ edge. nat_lt 0 edge.amount) (map (draw_edge snapshot left target) voters)
+
+-- the target has drawn the price of a seat: the tables are lowered by it, and its draws are noted
+pub record IsDrawn (snapshot : Snapshot) (target : ℕ) (left_old left_new backings_new : List ℕ)
+    (draws_old draws_new : List Edge) : Type 0 where
+  pub left : (voter : ℕ)
+      → says left_new voter ≡ says left_old voter - draw snapshot (says left_old) target voter
+  pub backings : AreSums snapshot left_new backings_new
+  pub draws : draws_new
+      ≡ draws_old ++ draws_of snapshot (says left_old) target (nominators snapshot target)
 
 -- the draws of these picks, the latest pick first, from the first one on
 abbrev pub draws_after : Snapshot → List ℕ → List Edge

@@ -1,13 +1,12 @@
 //! One pick: the target that joins, and what it draws.
-ghost use Rattle.std.specs.Prelude.{◌≡◌, ℕ, ◌-◌, ◌<◌, ◌≤◌, ◌∷◌, [], ◌++◌, if◌then◌else◌, length, false, nat_lt, slice_index_or, slice_set, IfSome, IfNone, OnOk};
+ghost use Rattle.std.specs.Prelude.{◌≡◌, ◌-◌, ◌<◌, ◌≤◌, ◌∷◌, [], ◌++◌, if◌then◌else◌, length, false, nat_lt, slice_index_or, slice_set, IfSome, IfNone, OnOk};
 ghost use Rattle.npos_base.specs.declared.limits.TheConstants.{MOST_TARGETS};
 ghost use Rattle.weight_book.specs.Passing.{nominators};
 ghost use Rattle.quota_fill.specs.Backers.{AreBackers};
 ghost use Rattle.quota_fill.specs.Chains.{AreChains};
-ghost use Rattle.quota_fill.specs.Filled.{draw};
 ghost use Rattle.seat_race.specs.Picks.{more, first_best};
 ghost use Rattle.seat_race.specs.Tables.{says, unmarked, AreSums};
-ghost use Rattle.quota_fill.specs.Kept.{draws_of};
+ghost use Rattle.quota_fill.specs.Kept.{AreTables, IsDrawn};
 
 use crate::backers::Backers;
 use crate::chains::Chains;
@@ -64,14 +63,9 @@ pub(crate) fn draw_from_all(
 ) -> Result<(), NoMemory>
     requires target { target < length snapshot.now.targets }
     requires backers { AreBackers snapshot.now backers.now }
-    requires left_size { length left.old ≡ length snapshot.now.voters }
-    requires backings_size { length backings.old ≡ length snapshot.now.targets }
-    requires backings { AreSums snapshot.now left.old backings.old }
-    ensures left { OnOk result ((voter : ℕ) → says left.new voter
-        ≡ says left.old voter - draw snapshot.now (says left.old) target voter) }
-    ensures backings { OnOk result (AreSums snapshot.now left.new backings.new) }
-    ensures draws { OnOk result (draws.new.items ≡ draws.old.items
-        ++ draws_of snapshot.now (says left.old) target (nominators snapshot.now target)) }
+    requires tables { AreTables snapshot.now left.old backings.old }
+    ensures { OnOk result (IsDrawn snapshot.now target left.old left.new backings.new
+        draws.old.items draws.new.items) }
 {
     match backers {
         Backers::Linked(chains) => {
@@ -94,14 +88,9 @@ fn draw_from_linked(
 ) -> Result<(), NoMemory>
     requires target { target < length snapshot.now.targets }
     requires chains { AreChains snapshot.now chains.now }
-    requires left_size { length left.old ≡ length snapshot.now.voters }
-    requires backings_size { length backings.old ≡ length snapshot.now.targets }
-    requires backings { AreSums snapshot.now left.old backings.old }
-    ensures left { OnOk result ((voter : ℕ) → says left.new voter
-        ≡ says left.old voter - draw snapshot.now (says left.old) target voter) }
-    ensures backings { OnOk result (AreSums snapshot.now left.new backings.new) }
-    ensures draws { OnOk result (draws.new.items ≡ draws.old.items
-        ++ draws_of snapshot.now (says left.old) target (nominators snapshot.now target)) }
+    requires tables { AreTables snapshot.now left.old backings.old }
+    ensures { OnOk result (IsDrawn snapshot.now target left.old left.new backings.new
+        draws.old.items draws.new.items) }
 {
     let mut due = snapshot.threshold();
     let mut link = chains.first(snapshot, target);
@@ -126,14 +115,9 @@ fn draw_from_listed(
     draws: &mut Vec<Edge>,
 ) -> Result<(), NoMemory>
     requires voters { voters.now ≡ nominators snapshot.now target }
-    requires left_size { length left.old ≡ length snapshot.now.voters }
-    requires backings_size { length backings.old ≡ length snapshot.now.targets }
-    requires backings { AreSums snapshot.now left.old backings.old }
-    ensures left { OnOk result ((voter : ℕ) → says left.new voter
-        ≡ says left.old voter - draw snapshot.now (says left.old) target voter) }
-    ensures backings { OnOk result (AreSums snapshot.now left.new backings.new) }
-    ensures draws { OnOk result (draws.new.items ≡ draws.old.items
-        ++ draws_of snapshot.now (says left.old) target (nominators snapshot.now target)) }
+    requires tables { AreTables snapshot.now left.old backings.old }
+    ensures { OnOk result (IsDrawn snapshot.now target left.old left.new backings.new
+        draws.old.items draws.new.items) }
 {
     let mut due = snapshot.threshold();
     for voter in voters {
@@ -152,9 +136,7 @@ fn draw_from_listed(
 fn draw_from(snapshot: &Snapshot, voter: u32, amount: u64, left: &mut [u64], backings: &mut [u64])
     requires voter { voter < length snapshot.now.voters }
     requires enough { amount ≤ says left.old voter }
-    requires left_size { length left.old ≡ length snapshot.now.voters }
-    requires backings_size { length backings.old ≡ length snapshot.now.targets }
-    requires backings { AreSums snapshot.now left.old backings.old }
+    requires tables { AreTables snapshot.now left.old backings.old }
     ensures left { left.new ≡ slice_set left.old voter (says left.old voter - amount) }
     ensures backings { AreSums snapshot.now left.new backings.new }
 {

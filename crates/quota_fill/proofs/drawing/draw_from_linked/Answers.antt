@@ -1,13 +1,9 @@
-use Rattle.std.proofs.Common.{rules, arith, ◌≡◌, ◌∙◌, ◌++◌, min, get_or, ap}
-use Rattle.std.proofs.lemmas.List.{take_all}
+use Rattle.std.proofs.Common.{rules, arith, ◌≡◌, min, get_or}
 use Rattle.std.proofs.lemmas.Option.{slice_get_within}
 use Rattle.election_snapshot.specs.Snapshot.{votes_of}
-use Rattle.weight_book.specs.Passing.{nominators}
-use Rattle.seat_race.specs.Tables.{says}
 use Rattle.seat_race.proofs.NominatorLemmas.{nominates_in_range}
-use Rattle.quota_fill.specs.Kept.{draws_of}
 use Rattle.quota_fill.proofs.ChainLemmas.{at_nominates, leads_on}
-use Rattle.quota_fill.proofs.RoundLemmas.{along_first, along_more, along_ends, drawn_from_each, left_when_paid, draws_when_paid}
+use Rattle.quota_fill.proofs.RoundLemmas.{along_first, along_more, along_ends, drawn_from_all, drawn_when_paid}
 use Rattle.quota_fill.proofs.drawing.draw_from_linked.Goals as goal
 
 pub voters-init : goal.voters-init
@@ -17,7 +13,7 @@ pub bounds-left-voter : goal.bounds-left-voter
 bounds-left-voter c =
     let snapshot = c.args.snapshot.now in
     let at = leads_on snapshot c.args.target c.voters.link c.leads.result c.if-leads.true c.leads.ensures.yes c.voters.invariant.at in
-    omega (arith, c.from-voter.ensures, nominates_in_range snapshot c.voters.link.voter c.args.target (at_nominates snapshot c.args.target c.voters.link at), c.voters.invariant.drawing.left_size)
+    omega (arith, c.from-voter.ensures, nominates_in_range snapshot c.voters.link.voter c.args.target (at_nominates snapshot c.args.target c.voters.link at), c.voters.invariant.drawing.tables.left_size)
 
 pub next-link-requires-clause-voter : goal.next-link-requires-clause-voter
 next-link-requires-clause-voter c =
@@ -49,25 +45,13 @@ voters-preserved c =
     c.next-link.result (c.next-link.ensures c.args.target at)
     c.draw_from.new.backings (rw (c.draw_from.ensures.left, is, c.from-voter.ensures) at c.draw_from.ensures.backings) (search rules))
 
-pub returns-else-leads-clause-left : goal.returns-else-leads-clause-left
-returns-else-leads-clause-left c =
+pub returns-else-leads : goal.returns-else-leads
+returns-else-leads c =
     let loop = c.voters in
     let ends = along_ends c.args.snapshot.now c.args.target c.args.left.now c.args.draws.now.items loop.link loop.left loop.backings loop.due loop.draws.items loop.invariant (search rules) (c.leads.ensures.no c.if-leads.false) in
-    drawn_from_each c.args.snapshot.now c.args.target c.args.left.now c.args.draws.now.items loop.invariant.count loop.left loop.backings loop.due loop.draws.items loop.invariant.drawing ends
+    drawn_from_all c.args.snapshot.now c.args.target c.args.left.now c.args.draws.now.items loop.invariant.count loop.left loop.backings loop.due loop.draws.items loop.invariant.drawing ends
 
-pub returns-else-leads-clause-draws : goal.returns-else-leads-clause-draws
-returns-else-leads-clause-draws c =
+pub returns-after-voters : goal.returns-after-voters
+returns-after-voters c =
     let loop = c.voters in
-    let ends = along_ends c.args.snapshot.now c.args.target c.args.left.now c.args.draws.now.items loop.link loop.left loop.backings loop.due loop.draws.items loop.invariant (search rules) (c.leads.ensures.no c.if-leads.false) in
-    loop.invariant.drawing.draws_are
-    ∙ ap (λ ns. c.args.draws.now.items ++ draws_of c.args.snapshot.now (says c.args.left.now) c.args.target ns) (take_all loop.invariant.count (nominators c.args.snapshot.now c.args.target) ends)
-
-pub returns-after-voters-clause-left : goal.returns-after-voters-clause-left
-returns-after-voters-clause-left c =
-    let loop = c.voters in
-    left_when_paid c.args.snapshot.now c.args.target c.args.left.now c.args.draws.now.items loop.invariant.count loop.left loop.backings loop.due loop.draws.items loop.invariant.drawing (omega (arith, c.voters-test.false))
-
-pub returns-after-voters-clause-draws : goal.returns-after-voters-clause-draws
-returns-after-voters-clause-draws c =
-    let loop = c.voters in
-    draws_when_paid c.args.snapshot.now c.args.target c.args.left.now c.args.draws.now.items loop.invariant.count loop.left loop.backings loop.due loop.draws.items loop.invariant.drawing (omega (arith, c.voters-test.false))
+    drawn_when_paid c.args.snapshot.now c.args.target c.args.left.now c.args.draws.now.items loop.invariant.count loop.left loop.backings loop.due loop.draws.items loop.invariant.drawing (omega (arith, c.voters-test.false))

@@ -1,5 +1,5 @@
 use Rattle.std.proofs.Common.{rules, arith, ◌≡◌, ℕ, ◌<◌, ◌≤◌, min, List, length, get_or, sym, subst}
-use Rattle.quota_fill.proofs.RoundLemmas.{giver_in_range, drawing_more, drawn_from_each, left_when_paid, draws_when_paid}
+use Rattle.quota_fill.proofs.RoundLemmas.{giver_in_range, drawing_more, drawn_from_all, drawn_when_paid}
 use Rattle.quota_fill.proofs.drawing.draw_from_listed.Goals as goal
 
 pub draw_from-requires-clause-voter : goal.draw_from-requires-clause-voter
@@ -14,7 +14,7 @@ bounds-left-voter c =
     let loop = c.loop-voter in
     let h = subst (λ (ns : List ℕ). loop.voter-index < length ns) c.requires.voters c.loop-voter-test.true in
     subst (λ (ns : List ℕ). get_or ns loop.voter-index 0 < length loop.left) (sym c.requires.voters)
-    (omega (arith, giver_in_range c.args.snapshot.now c.args.target c.args.left.now c.args.draws.now.items loop.voter-index 0 h loop.left loop.backings loop.due loop.draws.items loop.invariant, loop.invariant.left_size))
+    (omega (arith, giver_in_range c.args.snapshot.now c.args.target c.args.left.now c.args.draws.now.items loop.voter-index 0 h loop.left loop.backings loop.due loop.draws.items loop.invariant, loop.invariant.tables.left_size))
 
 pub loop-voter-preserved : goal.loop-voter-preserved
 loop-voter-preserved c =
@@ -25,18 +25,13 @@ loop-voter-preserved c =
     (drawing_more c.args.snapshot.now c.args.target c.args.left.now c.args.draws.now.items loop.voter-index 0 h loop.left loop.backings loop.due loop.draws.items loop.invariant
     c.draw_from.new.backings (rw (c.draw_from.ensures.left, is, c.requires.voters) at c.draw_from.ensures.backings) (search rules))
 
-pub returns-then-due-eq0-clause-left : goal.returns-then-due-eq0-clause-left
-returns-then-due-eq0-clause-left c =
+pub returns-then-due-eq0 : goal.returns-then-due-eq0
+returns-then-due-eq0 c =
     let loop = c.loop-voter in
-    left_when_paid c.args.snapshot.now c.args.target c.args.left.now c.args.draws.now.items loop.voter-index loop.left loop.backings loop.due loop.draws.items loop.invariant c.if-due-eq0.true
+    drawn_when_paid c.args.snapshot.now c.args.target c.args.left.now c.args.draws.now.items loop.voter-index loop.left loop.backings loop.due loop.draws.items loop.invariant c.if-due-eq0.true
 
-pub returns-then-due-eq0-clause-draws : goal.returns-then-due-eq0-clause-draws
-returns-then-due-eq0-clause-draws c =
+pub returns : goal.returns
+returns c =
     let loop = c.loop-voter in
-    draws_when_paid c.args.snapshot.now c.args.target c.args.left.now c.args.draws.now.items loop.voter-index loop.left loop.backings loop.due loop.draws.items loop.invariant c.if-due-eq0.true
-
-pub returns-clause-left : goal.returns-clause-left
-returns-clause-left c =
-    let loop = c.loop-voter in
-    drawn_from_each c.args.snapshot.now c.args.target c.args.left.now c.args.draws.now.items loop.voter-index loop.left loop.backings loop.due loop.draws.items loop.invariant
+    drawn_from_all c.args.snapshot.now c.args.target c.args.left.now c.args.draws.now.items loop.voter-index loop.left loop.backings loop.due loop.draws.items loop.invariant
     (subst (λ (ns : List ℕ). length ns ≤ loop.voter-index) c.requires.voters c.loop-voter-test.false)

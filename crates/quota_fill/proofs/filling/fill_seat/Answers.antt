@@ -1,13 +1,12 @@
-use Rattle.std.proofs.Common.{rules, ◌≡◌, ℕ, ◌-◌, ◌<◌, true, ◌++◌, Option, Some, None, length, set, reverse, refl, ap, sym, subst, ◌∙◌}
+use Rattle.std.proofs.Common.{rules, ◌≡◌, ℕ, ◌<◌, true, Option, Some, None, length, set, reverse, refl, ap, sym, subst, ◌∙◌}
 use Rattle.std.specs.List.{cons_option}
 use Rattle.std.proofs.lemmas.List.{with_items_is}
-use Rattle.weight_book.specs.Passing.{nominators}
 use Rattle.std.specs.Vec.{with_items, with_item}
 use Rattle.quota_fill.specs.declared.race.Race.{Race}
-use Rattle.quota_fill.specs.Filled.{draw, next_pick}
+use Rattle.quota_fill.specs.Filled.{next_pick}
 use Rattle.seat_race.specs.Picks.{more, first_best}
 use Rattle.seat_race.specs.Tables.{says, unmarked}
-use Rattle.quota_fill.specs.Kept.{IsFilling, draws_of}
+use Rattle.quota_fill.specs.Kept.{IsFilling, IsDrawn}
 use Rattle.quota_fill.proofs.SeatLemmas.{best_is_next, filling_more}
 use Rattle.quota_fill.proofs.filling.fill_seat.Goals as goal
 
@@ -28,10 +27,8 @@ returns c =
     let best : c.best_outside.result ≡ first_best more (says c.args.race.now.backings.items) (unmarked c.args.race.now.is_picked.items (length c.args.race.now.is_picked.items)) = search rules in
     let some : next_pick snapshot picks ≡ Some c.in-Some.target = sym (best_is_next snapshot picks race c.requires.state.after) ∙ sym best ∙ c.in-Some.is in
     let in_range : c.in-Some.target < length c.args.snapshot.now.targets = search rules in
-    let left : (voter : ℕ) → says c.draw_from_all.new.left voter ≡ says race.left.items voter - draw snapshot (says race.left.items) c.in-Some.target voter
-    = rw c.deref_mut.ensures.value at c.in_ok-draw_from_all.ensures.left in
-    let drawn : c.draw_from_all.new.draws.items ≡ c.args.draws.now.items ++ draws_of snapshot (says race.left.items) c.in-Some.target (nominators snapshot c.in-Some.target)
-    = rw c.deref_mut.ensures.value at c.in_ok-draw_from_all.ensures.draws in
+    let drawn : IsDrawn snapshot c.in-Some.target race.left.items c.draw_from_all.new.left c.draw_from_all.new.backings c.args.draws.now.items c.draw_from_all.new.draws.items
+    = rw c.deref_mut.ensures.value at c.in_ok-draw_from_all.ensures in
     let marked : c.from.result ≡ c.in-Some.target = search rules in
     let left_size : length c.draw_from_all.new.left ≡ length race.left.items = search rules in
     let left_len : length c.draw_from_all.new.left ≡ race.left.len = search rules in
@@ -46,6 +43,5 @@ returns c =
     subst (λ (o : Option ℕ). IsFilling snapshot (cons_option o picks) next c.push_member.new.self c.draw_from_all.new.draws.items) (sym some)
     (filling_more snapshot picks race c.args.weights.now c.args.draws.now.items c.requires.state c.in-Some.target in_range next c.push_member.new.self c.draw_from_all.new.draws.items
     c.draw_from_all.new.left c.draw_from_all.new.backings (with_items_is race.left c.draw_from_all.new.left left_len) (with_items_is race.backings c.draw_from_all.new.backings backings_len)
-    left left_size c.in_ok-draw_from_all.ensures.backings backings_size (ap (λ n. set race.is_picked.items n true) marked) refl
-    c.push_member.ensures.members c.push_member.ensures.edges c.push_member.ensures.room
-    drawn)
+    drawn left_size backings_size (ap (λ n. set race.is_picked.items n true) marked) refl
+    c.push_member.ensures.members c.push_member.ensures.edges c.push_member.ensures.room)
