@@ -1,13 +1,18 @@
-//! Where accounts may stand in the books, looked up before the first of them is asked for.
+//! Where accounts may stand, looked up before the first of them is asked for.
+use crate::Chain;
 use block_wire::{Call, CallKind};
 use era_book::Backer;
-use npos_base::NoMemory;
+use npos_base::{AccountId, NoMemory};
 use stake_ledger::Book;
 use std::alloc::Global;
 
 /// The calls of a block for which guesses are made ahead. A block may have far more, and those do
 /// not take memory for it.
 const CALLS_AHEAD: usize = 1_024;
+
+/// The slots of so many accounts in the books are mostly in the nearest caches, and to read them
+/// ahead for one look-up costs more than it saves.
+const CACHED_ACCOUNTS: usize = 16_384;
 
 /// A guess that is never right: no mark says such a place.
 const NOWHERE: u32 = 0xffff_ffff;
@@ -22,17 +27,21 @@ pub struct Ahead {
 
 impl Ahead {
     /// Guesses for the transfers among the first calls of a block: of each the payer's, and then
-    /// that of whom it pays.
-    pub fn of_transfers(alloc: Global, book: &Book, calls: &[Call]) -> Result<Ahead, NoMemory> {
+    /// that of whom it pays. Of the other calls the slots are read by which their accounts are
+    /// found.
+    pub fn of_calls(alloc: Global, chain: &Chain, calls: &[Call]) -> Result<Ahead, NoMemory> {
         let first = &calls[..calls.len().min(CALLS_AHEAD)];
-        let mut guesses = Vec::with_capacity(alloc, 2 * first.len())?;
+        let mut guesses = Vec::with_capacity(alloc, 2 * first.len() + 1)?;
+        // What the slots say stands below all guesses, as one that is mostly wrong: no compiler
+        // leaves out what may be asked for.
+        guesses.push(read_slots(chain, first))?;
         for call in first.iter().rev() {
             if let CallKind::Transfer { to, .. } = &call.kind {
-                guesses.push(book.guess(*to))?;
-                guesses.push(book.guess(call.who))?;
+                guesses.push(chain.book.guess(*to))?;
+                guesses.push(chain.book.guess(call.who))?;
             }
         }
-        read_rows(book, &mut guesses);
+        read_rows(&chain.book, &mut guesses);
         Ok(Ahead { guesses })
     }
 
@@ -65,4 +74,30 @@ fn read_rows(book: &Book, guesses: &mut [u32]) {
             *guess = NOWHERE;
         }
     }
+}
+
+/// Reads the slots of those whom these calls ask for, all together, so that no call waits for its own
+/// alone, and tells what they say. Calls for the books alone ask once, and a transfer has guesses.
+fn read_slots(chain: &Chain, calls: &[Call]) -> u32 {
+    let are_many = chain.book.account_count() > CACHED_ACCOUNTS;
+    let mut said = 0;
+    for call in calls {
+        match &call.kind {
+            CallKind::Transfer { .. } => {}
+            CallKind::Nominate { .. } | CallKind::Validate { .. } | CallKind::Chill => {
+                said ^= read_slots_of(chain, call.who);
+            }
+            CallKind::PutInFront { lighter } => {
+                said ^= read_slots_of(chain, call.who) ^ read_slots_of(chain, *lighter);
+            }
+            _ if are_many => said ^= chain.book.peek(call.who),
+            _ => {}
+        }
+    }
+    said
+}
+
+/// Reads the slots of an account in the books, the roles and the bags.
+fn read_slots_of(chain: &Chain, who: AccountId) -> u32 {
+    chain.book.peek(who) ^ chain.roles.peek(who) ^ chain.bags.peek(who)
 }

@@ -96,7 +96,7 @@ fn take_calls(
         (Goes (calls_outcome 0 calls.items chain.old) chain.new lines.old.items lines.new.items) }
     ensures live_after { OnOk result (IsLive chain.new) }
 {
-    let mut ahead = Ahead::of_transfers(alloc, &chain.book, calls.as_slice())?;
+    let mut ahead = Ahead::of_calls(alloc, chain, calls.as_slice())?;
     let mut index = 0;
     'turns: for call in calls {
         take_call(alloc, chain, lines, &mut ahead, index, call)?;

@@ -94,10 +94,10 @@ impl Bags {
         home as u32
     }
 
-    /// What the slots say of where the account stands. Nothing rests on it: who asks this of many
-    /// accounts has read their slots before the first of them is sought.
-    pub fn guess(&self, who: AccountId) -> u32 {
-        self.nodes.guess(who)
+    /// What the first slot of the account says, by which it is found. Nothing rests on it: who peeks
+    /// for many accounts has read their slots before the first of them is sought.
+    pub fn peek(&self, who: AccountId) -> u32 {
+        self.nodes.peek(who)
     }
 
     /// Moves the account to the tail of the bag of this score, where that is another one, and tells

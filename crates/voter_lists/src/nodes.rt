@@ -65,9 +65,9 @@ impl Nodes {
         }
     }
 
-    /// What the slots say of the place of an account. Nothing rests on it.
-    pub(crate) fn guess(&self, who: AccountId) -> u32 {
-        self.places.guess(who)
+    /// What the first slot of the account says. Nothing rests on it.
+    pub(crate) fn peek(&self, who: AccountId) -> u32 {
+        self.places.peek(who)
     }
 
     /// The place of an account, which has one from now on, with room for its links.

@@ -203,10 +203,10 @@ impl Roles {
         role
     }
 
-    /// What the slots say of where the account stands. Nothing rests on it: who asks this of many
-    /// accounts has read their slots before the first of them is sought.
-    pub fn guess(&self, who: AccountId) -> u32 {
-        self.standings.guess(who)
+    /// What the first slot of the account says, by which it is found. Nothing rests on it: who peeks
+    /// for many accounts has read their slots before the first of them is sought.
+    pub fn peek(&self, who: AccountId) -> u32 {
+        self.standings.peek(who)
     }
 
     /// The role of an account and its targets, for accounts that are asked for in about the order

@@ -96,9 +96,9 @@ impl Standings {
         self.places.find_from(guess, who)
     }
 
-    /// What the slots say of the place of an account. Nothing rests on it.
-    pub(crate) fn guess(&self, who: AccountId) -> u32 {
-        self.places.guess(who)
+    /// What the first slot of the account says. Nothing rests on it.
+    pub(crate) fn peek(&self, who: AccountId) -> u32 {
+        self.places.peek(who)
     }
 
     /// What is kept at the place of an account.
