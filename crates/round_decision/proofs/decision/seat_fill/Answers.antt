@@ -1,4 +1,4 @@
-use Rattle.std.proofs.Common.{◌≡◌, subst, sym, ap, ◌∙◌}
+use Rattle.std.proofs.Common.{subst, sym, ap, ◌∙◌}
 use Rattle.weight_book.specs.Passing.{Passes}
 use Rattle.weight_book.specs.Weights.{Weights}
 use Rattle.quota_fill.specs.Filled.{filled}
