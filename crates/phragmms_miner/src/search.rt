@@ -14,10 +14,16 @@ use seat_race::Nominators;
 /// So many tests of a search go where the prescores point, before one halves what is left.
 const POINTED_TESTS: u8 = 4;
 
+/// A score is far below another one where it is less by more than this part of that.
+const FAR_PART: u64 = 16;
+
+/// A prescore that is so little below the price differs from it by what is rounded, mostly.
+const ROUNDED: u64 = 64;
+
 /// The lowest of the targets outside with the greatest score. The score of the one that looked best
 /// in the last tests is found first, by its nominators alone where they are few. The greatest is
-/// seldom far above it, so that a first test of all there leaves few. The score of the pick is left
-/// as the hint.
+/// seldom far above it, so that a first test of all there leaves few. The hint is the score of the
+/// last pick, and that of the pick is left there.
 pub(crate) fn best_outside(
     snapshot: &Snapshot,
     edges: &[Edge],
@@ -42,6 +48,7 @@ pub(crate) fn best_outside(
     ensures best { IsBestOf (score snapshot.now edges.now) outside.old result }
     ensures hint { hint.new ≡ score snapshot.now edges.now result }
 {
+    let last = *hint;
     let mut likely = [highest(outside, prescores)];
     if are_few(snapshot.voter_count(), nominators, &likely) {
         best_of(
@@ -57,9 +64,21 @@ pub(crate) fn best_outside(
             hint,
         );
     }
+    *hint = first_price(last, *hint);
     best_of(
         snapshot, edges, supports, approvals, nominators, outside, rates, left, prescores, hint,
     )
+}
+
+/// The price at which all are tested first: what the target that looked best reaches. Where that is
+/// far below the score of the last pick, the two have nominators in common, and what others reach is
+/// nearer to that score.
+fn first_price(last: u64, likely: u64) -> u64 {
+    if likely < last - last / FAR_PART {
+        last
+    } else {
+        likely
+    }
 }
 
 /// The lowest of the targets with the greatest score. All that are left are tested at one price at a
@@ -168,10 +187,14 @@ fn highest(targets: &[u16], prescores: &[u64]) -> u16
 
 /// Where a prescore meets the price, if it falls evenly from the approval at price 0 to what it is
 /// at the tested price. It does, but for rounding, as long as no member's support is below the
-/// price.
+/// price. Where rounding alone may keep it below the price, it is told itself: it is not less at a
+/// lower price, so it meets that one.
 fn meeting_price(test: u64, approval: u64, prescore: u64) -> u64
     requires { 0 < test }
 {
+    if prescore < test && test - prescore <= ROUNDED {
+        return prescore;
+    }
     let fall = approval.saturating_sub(prescore);
     let price = u128::from(approval) * u128::from(test) / (u128::from(test) + u128::from(fall));
     price.min(u128::from(u64::MAX)) as u64
