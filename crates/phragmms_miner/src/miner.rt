@@ -31,7 +31,9 @@ pub(crate) struct Tables {
     /// By target, who nominates it.
     nominators: Nominators,
     /// About where the next greatest score lies.
-    pub(crate) hint: u64,
+    hint: u64,
+    /// The score of the last pick, and before the first one the whole stake.
+    pub(crate) last: u64,
 }
 
 /// Mines a committee with weights by the rule of Cevallos and Stewart: seat by seat the target
@@ -75,6 +77,7 @@ impl Tables {
             approvals,
             nominators,
             hint: snapshot.total(),
+            last: snapshot.total(),
         })
     }
 }
@@ -116,9 +119,18 @@ pub(crate) fn seat_one(
         &mut tables.prescores,
         &mut tables.hint,
     );
+    let score = tables.hint;
+    tables.hint = next_hint(tables.last, score);
+    tables.last = score;
     backing.add_member(pick, tables.nominators.of(pick))?;
     let _made = backing.balance(rounds);
     Ok(())
+}
+
+/// The price at which the next search begins: below the last score by twice what that fell by, so
+/// that the next score, which mostly falls about as much, is above it.
+fn next_hint(last: u64, score: u64) -> u64 {
+    score.saturating_sub(last.saturating_sub(score).saturating_mul(2))
 }
 
 /// The lowest of the targets outside with the greatest score.

@@ -22,8 +22,8 @@ const ROUNDED: u64 = 64;
 
 /// The lowest of the targets outside with the greatest score. The score of the one that looked best
 /// in the last tests is found first, by its nominators alone where they are few. The greatest is
-/// seldom far above it, so that a first test of all there leaves few. The hint is the score of the
-/// last pick, and that of the pick is left there.
+/// seldom far above it, so that a first test of all there leaves few. The hint is a price that the
+/// score is expected to be near, and the score is left there.
 pub(crate) fn best_outside(
     snapshot: &Snapshot,
     edges: &[Edge],
@@ -48,7 +48,7 @@ pub(crate) fn best_outside(
     ensures best { IsBestOf (score snapshot.now edges.now) outside.old result }
     ensures hint { hint.new ≡ score snapshot.now edges.now result }
 {
-    let last = *hint;
+    let expected = *hint;
     let mut likely = [highest(outside, prescores)];
     if are_few(snapshot.voter_count(), nominators, &likely) {
         best_of(
@@ -64,18 +64,18 @@ pub(crate) fn best_outside(
             hint,
         );
     }
-    *hint = first_price(last, *hint);
+    *hint = first_price(expected, *hint);
     best_of(
         snapshot, edges, supports, approvals, nominators, outside, rates, left, prescores, hint,
     )
 }
 
 /// The price at which all are tested first: what the target that looked best reaches. Where that is
-/// far below the score of the last pick, the two have nominators in common, and what others reach is
-/// nearer to that score.
-fn first_price(last: u64, likely: u64) -> u64 {
-    if likely < last - last / FAR_PART {
-        last
+/// far below the expected score, it mostly has nominators in common with the last pick, and what
+/// others reach is nearer to that score.
+fn first_price(expected: u64, likely: u64) -> u64 {
+    if likely < expected - expected / FAR_PART {
+        expected
     } else {
         likely
     }

@@ -127,9 +127,9 @@ fn scores(alloc: Global, case: &Case) -> Result<[u64; 2], NoMemory> {
     let mut backing = Backing::new(alloc, &snapshot)?;
     let mut tables = Tables::new(alloc, &snapshot)?;
     seat_one(&snapshot, case.rounds, &mut backing, &mut tables)?;
-    let first = tables.hint;
+    let first = tables.last;
     seat_one(&snapshot, case.rounds, &mut backing, &mut tables)?;
-    Ok([first, tables.hint])
+    Ok([first, tables.last])
 }
 
 fn mine(alloc: Global, case: &Case) -> Result<bool, NoMemory> {
