@@ -25,7 +25,7 @@ pub(crate) struct Candidate {
 
 /// The lowest of the targets that are not picked with the least score, if one is not picked. No
 /// score is below its floor. So a score is made only where the floor is below the least score so
-/// far, which is seldom, and is then the floor.
+/// far, with the floor as a guess, and is then the floor.
 pub(crate) fn lightest_outside(
     seat: u128,
     burdens: &[u128],
@@ -52,7 +52,7 @@ pub(crate) fn lightest_outside(
     let mut least = 0;
     for target in 0..is_picked.len() {
         if is_ahead(best, least, floors[target]) && !is_picked[target] {
-            let score = share_load(seat, burdens[target], approvals[target]);
+            let score = share_load(seat, burdens[target], approvals[target], floors[target]);
             floors[target] = score;
             if is_ahead(best, least, score) {
                 best = Some(target as u16);
@@ -80,7 +80,7 @@ fn is_ahead(best: Option<u16>, least: u64, score: u64) -> bool
 }
 
 /// The load of each of some voters with this stake in all, where a seat comes to what they carry.
-fn share_load(seat: u128, carried: u128, stake: u64) -> u64
+fn share_load(seat: u128, carried: u128, stake: u64, guess: u64) -> u64
     requires { seat + carried < 2 ^ 128 }
     ensures load { result ≡ shared_load seat carried stake }
     ensures most { result ≤ greatest_score }
@@ -88,8 +88,21 @@ fn share_load(seat: u128, carried: u128, stake: u64) -> u64
     if stake == 0 {
         return GREATEST_SCORE;
     }
-    let load = (seat + carried) / u128::from(stake);
+    let load = quotient(seat + carried, stake, guess);
     load.min(u128::from(GREATEST_SCORE)) as u64
+}
+
+/// How many times the divisor goes into the number. Mostly that is the guess, which a product
+/// tells; a division takes several times as long.
+fn quotient(number: u128, divisor: u64, guess: u64) -> u128
+    requires { 0 < divisor }
+    ensures { result ≡ number / divisor }
+{
+    let (divisor, guess) = (u128::from(divisor), u128::from(guess));
+    match number.checked_sub(guess * divisor) {
+        Some(rest) if rest < divisor => guess,
+        _ => number / divisor,
+    }
 }
 
 /// Raises the loads of the target's nominators to the score, notes by how much, and marks the
