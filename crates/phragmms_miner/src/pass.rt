@@ -75,8 +75,11 @@ fn fill_slacks(
     }
 }
 
-/// The part of the price of a seat that falls to the amount, rounded down. By the rate it is found
-/// or missed by one unit.
+/// The part of the price of a seat that falls to the amount, rounded down. The rate is the price by
+/// the support in units of a `WHOLE`-th, rounded down too; so the amount times the rate falls short
+/// of the exact product by less than the amount, in these units. Where what is cut off from it and
+/// the amount together stay below a `WHOLE`, the rounded part is exact, and one sum tells that.
+/// Else the products with price and support tell whether it is missed by one unit.
 pub(crate) fn pay(price: u64, amount: u64, support: u128, rate: u64) -> u64
     requires within { amount ≤ support }
     requires rate { IsRate price support rate }
@@ -85,7 +88,11 @@ pub(crate) fn pay(price: u64, amount: u64, support: u128, rate: u64) -> u64
     if support <= u128::from(price) {
         return amount;
     }
-    let part = u128::from(amount) * u128::from(rate) / WHOLE;
+    let product = u128::from(amount) * u128::from(rate);
+    let part = product / WHOLE;
+    if (product % WHOLE) as u64 <= u64::MAX - amount {
+        return part as u64;
+    }
     let rest = u128::from(amount) * u128::from(price) - part * support;
     if rest < support {
         part as u64
