@@ -45,34 +45,34 @@ pub(crate) fn turn(stake: u64, row: &mut [Edge], supports: &mut [u128]) -> bool
     hand_out(level, row, supports)
 }
 
-/// Whether the voter gives its whole stake and no unit could lie lower. It compares the highest
-/// member with an amount, the last of equal ones, with the lowest member, the first of equal ones. A
-/// support that does not fit 64 bits makes the answer no, and the turn then finds out.
+/// Whether the voter gives its whole stake and no unit could lie lower. A unit could lie lower only
+/// if its member has more support than one in front of it, or over a unit more than one behind it.
+/// So it is enough to compare each member with an amount with the least support in front of it, and
+/// in the end the highest of them with the least of all. A support that does not fit 64 bits makes
+/// the answer no, and the turn then finds out.
 fn is_level(stake: u64, row: &[Edge], supports: &[u128]) -> bool
     requires { IsRow supports.now row.now }
     ensures { result ≡ true → IsEven stake row.now supports.now }
 {
-    let mut spent = 0;
+    let mut unspent = stake;
     let mut least = u64::MAX;
-    let mut least_at = 0;
-    let mut top = 0;
-    let mut top_at = 0;
+    let mut top: u64 = 0;
     for edge in row {
         let Ok(support) = u64::try_from(supports[usize::from(edge.target)]) else {
             return false;
         };
-        spent += u128::from(edge.amount);
-        if support < least {
-            least = support;
-            least_at = edge.target;
+        if edge.amount > unspent {
+            return false;
         }
-        if edge.amount > 0 && support >= top {
-            top = support;
-            top_at = edge.target;
+        unspent -= edge.amount;
+        let backed = if edge.amount > 0 { support } else { 0 };
+        if backed > least {
+            return false;
         }
+        top = top.max(backed);
+        least = least.min(support);
     }
-    let flat = top <= least || (top - least == 1 && top_at < least_at);
-    flat && spent == u128::from(stake)
+    unspent == 0 && (top <= least || top - least == 1)
 }
 
 /// The level to which the stake raises the members. Most turns find their voter level and do not
