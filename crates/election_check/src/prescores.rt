@@ -11,7 +11,7 @@ use crate::fault::Fault;
 use crate::tables::Tables;
 use election_snapshot::Snapshot;
 use npos_base::Edge;
-use seat_race::fill_sums;
+use seat_race::{fill_sums, quotient};
 use weight_book::Weights;
 
 /// Tells whether there is not one member for each seat.
@@ -140,24 +140,6 @@ fn pay(edge: &Edge, price: u64, support: u128, guess: u64) -> u64
         Ok(support) => quotient(product, support, guess) as u64,
         Err(_) => (product / support) as u64,
     }
-}
-
-/// How many times the divisor goes into the number. Mostly that is the guess or one more, which a
-/// product tells; a division takes several times as long.
-fn quotient(number: u128, divisor: u64, guess: u64) -> u128
-    requires { 0 < divisor }
-    ensures { result ≡ number / divisor }
-{
-    let (divisor, guess) = (u128::from(divisor), u128::from(guess));
-    if let Some(rest) = number.checked_sub(guess * divisor) {
-        if rest < divisor {
-            return guess;
-        }
-        if rest - divisor < divisor {
-            return guess + 1;
-        }
-    }
-    number / divisor
 }
 
 /// Tells the lowest target that is not marked and whose prescore reaches the price of a seat.

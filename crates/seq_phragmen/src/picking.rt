@@ -11,7 +11,7 @@ ghost use Rattle.seq_phragmen.specs.Kept.{score_by, rise_of, AreBurdens, AreFloo
 use crate::rise::Rise;
 use election_snapshot::Snapshot;
 use npos_base::NoMemory;
-use seat_race::raise_wide_at;
+use seat_race::{quotient, raise_wide_at};
 
 /// No score is greater.
 const GREATEST_SCORE: u64 = i64::MAX as u64;
@@ -90,19 +90,6 @@ fn share_load(seat: u128, carried: u128, stake: u64, guess: u64) -> u64
     }
     let load = quotient(seat + carried, stake, guess);
     load.min(u128::from(GREATEST_SCORE)) as u64
-}
-
-/// How many times the divisor goes into the number. Mostly that is the guess, which a product
-/// tells; a division takes several times as long.
-fn quotient(number: u128, divisor: u64, guess: u64) -> u128
-    requires { 0 < divisor }
-    ensures { result ≡ number / divisor }
-{
-    let (divisor, guess) = (u128::from(divisor), u128::from(guess));
-    match number.checked_sub(guess * divisor) {
-        Some(rest) if rest < divisor => guess,
-        _ => number / divisor,
-    }
 }
 
 /// Raises the loads of the target's nominators to the score, notes by how much, and marks the
