@@ -1,5 +1,5 @@
 -- The search over all targets outside at once.
-use Rattle.std.proofs.Common.{◌≡◌, ℕ, suc, ◌-◌, ◌<◌, ◌≤◌, ◌⊎◌, Bool, true, false, nat_eq, nat_lt, List, [], ◌∷◌, length, filter, get_or, All, inl, inr, refl, ap, sym, ◌∙◌, arith}
+use Rattle.std.proofs.Common.{◌≡◌, ℕ, suc, ◌-◌, ◌<◌, ◌≤◌, ◌⊎◌, min, Bool, true, false, nat_eq, nat_lt, List, [], ◌∷◌, length, filter, get_or, All, inl, inr, refl, ap, sym, ◌∙◌, arith}
 use Rattle.std.proofs.lemmas.Bool.{cases_Bool, cases_lt, cases_eq, eq-eqb, ltb-false, eqb-true, true≢false}
 use Rattle.election_snapshot.specs.Snapshot.{has}
 use Rattle.election_snapshot.proofs.HasLemmas.{filter_has}
@@ -90,6 +90,18 @@ module _ (outs : List ℕ) (value : ℕ → ℕ → ℕ) (total : ℕ) (falls : 
       kept = so.kept;
     }
 
+  -- where no score is above the cap, the top may be lowered to it
+  pub narrow_under : (low top pick : ℕ) (alive : List ℕ) → IsNarrowed low top pick alive → (cap : ℕ)
+      → ((other : ℕ) → has outs other ≡ true → score_of other ≤ cap) → IsNarrowed low (min top cap) pick alive
+  narrow_under low top pick alive so cap most = record {
+    pick_out = so.pick_out;
+    reached = so.reached;
+    lowest = so.lowest;
+    bounded = λ other h. omega (arith, so.bounded other h, most other h);
+    dropped = so.dropped;
+    kept = so.kept;
+  }
+
   pub narrow_end : (low top pick : ℕ) (alive : List ℕ) → IsNarrowed low top pick alive → (top ≤ low) ⊎ (length alive ≤ 0) → IsBestOf score_of outs pick
   narrow_end low top pick alive so end = record {
     is_out = so.pick_out;
@@ -115,6 +127,13 @@ has_place (y ∷ xs) x h = elim (cases_Bool (nat_eq y x)) [
 
 place_has : (xs : List ℕ) (k d : ℕ) → k < length xs → has xs (get_or xs k d) ≡ true
 place_has xs k d h = list_any_at (λ n. nat_eq n (get_or xs k d)) xs k d h (eq-eqb (get_or xs k d) (get_or xs k d) refl)
+
+-- what is said of each place is said of whatever stands there
+pub everywhere : (alive table : List ℕ) (cap : ℕ) → All (λ target. get_or table target 0 ≤ cap) alive
+    → (other : ℕ) → has alive other ≡ true → get_or table other 0 ≤ cap
+everywhere alive table cap all other there =
+    let (k, l, same) = has_place alive other there in
+    omega (arith, all k 0 l, ap (λ n. get_or table n 0) (same 0))
 
 -- the first that reaches is the lowest, where they rise
 pub first_found : (targets : ℕ) (alive prescores : List ℕ) (price i : ℕ) → AreRising targets alive → i < length alive
@@ -178,13 +197,25 @@ module _ (outs : List ℕ) (value : ℕ → ℕ → ℕ) (total : ℕ) (falls : 
       let (k, l, same) = has_place alive other there in
       ap (λ n. get_or table n 0) (sym (same 0)) ∙ fills k 0 l ∙ ap (value price) (same 0)
 
+  -- no score is above the highest value at the price, where that is above the price
+  capped : (cap : ℕ) → price ≤ cap → ((other : ℕ) → has alive other ≡ true → get_or table other 0 ≤ cap)
+      → (other : ℕ) → has outs other ≡ true → score_of outs value total falls other ≤ cap
+  capped cap more all other out = elim (cases_Bool (has alive other)) [
+    | inl t ↦ greatest_cap (λ p. value p other) total cap (falls other) (omega (arith, falls other price cap more, agrees other t, all other t))
+    | inr t ↦ omega (arith, so.dropped other out t, above, more)
+  ]
+
   pub table_found : (found : ℕ) → has alive found ≡ true → price ≤ get_or table found 0
       → ((other : ℕ) → has alive other ≡ true → price ≤ get_or table other 0 → found ≤ other)
-      → IsNarrowed outs value total falls price top found (filter (λ target. nat_lt price (get_or table target 0)) alive)
-  table_found found there reaches first = rw (filter_same (λ target. nat_lt price (get_or table target 0)) (λ target. nat_lt price (value price target)) alive
+      → (cap : ℕ) → ((other : ℕ) → has alive other ≡ true → get_or table other 0 ≤ cap)
+      → IsNarrowed outs value total falls price (min top cap) found (filter (λ target. nat_lt price (get_or table target 0)) alive)
+  table_found found there reaches first cap all =
+      narrow_under outs value total falls price top found (filter (λ target. nat_lt price (get_or table target 0)) alive)
+      (rw (filter_same (λ target. nat_lt price (get_or table target 0)) (λ target. nat_lt price (value price target)) alive
       (λ k d h. ap (nat_lt price) (fills k d h)))
       (narrow_found outs value total falls low top pick alive so price above within most found there (omega (arith, reaches, agrees found there))
-      (λ other t r. first other t (omega (arith, r, agrees other t))))
+      (λ other t r. first other t (omega (arith, r, agrees other t)))))
+      cap (capped cap (omega (arith, reaches, all found there)) all)
 
   pub table_none : ((other : ℕ) → has alive other ≡ true → get_or table other 0 < price) → IsNarrowed outs value total falls low (price - 1) pick alive
   table_none none = narrow_none outs value total falls low top pick alive so price above within most (λ other t. omega (arith, none other t, agrees other t))

@@ -2,6 +2,7 @@
 //! supports are balanced, seat after seat.
 #![tactic(auto)]
 
+mod course;
 mod few;
 pub mod laws;
 mod miner;

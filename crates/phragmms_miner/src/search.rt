@@ -6,22 +6,17 @@ ghost use Rattle.phragmms_miner.specs.Passes.{AreSpare};
 ghost use Rattle.phragmms_miner.specs.Scores.{score};
 ghost use Rattle.phragmms_miner.specs.Search.{IsBestOf, AreRising};
 
+use crate::course::Course;
 use crate::few::{are_few, test_price};
 use election_snapshot::Snapshot;
 use npos_base::Edge;
 use seat_race::Nominators;
 
-/// So many tests of a search go where the prescores point, before one halves what is left.
-const POINTED_TESTS: u8 = 4;
-
 /// A score is far below another one where it is less by more than this part of that.
-const FAR_PART: u64 = 16;
+const FAR_PART: u64 = 256;
 
-/// A prescore that is so little below the price differs from it by what is rounded, mostly.
-const ROUNDED: u64 = 64;
-
-/// The lowest of the targets outside with the greatest score. The score of the one that looked best
-/// in the last tests is found first, by its nominators alone where they are few. The greatest is
+/// The lowest of the targets outside with the greatest score. What the two reach that looked best in
+/// the last tests is found first, by their nominators alone where they are few. The greatest is
 /// seldom far above it, so that a first test of all there leaves few. The hint is a price that the
 /// score is expected to be near, and the score is left there.
 pub(crate) fn best_outside(
@@ -49,19 +44,11 @@ pub(crate) fn best_outside(
     ensures hint { hint.new ≡ score snapshot.now edges.now result }
 {
     let expected = *hint;
-    let mut likely = [highest(outside, prescores)];
-    if are_few(snapshot.voter_count(), nominators, &likely) {
+    let (mut pair, count) = likely_pair(snapshot.voter_count(), nominators, outside, prescores);
+    let likely = &mut pair[..count];
+    if are_few(snapshot.voter_count(), nominators, likely) {
         best_of(
-            snapshot,
-            edges,
-            supports,
-            approvals,
-            nominators,
-            &mut likely,
-            rates,
-            left,
-            prescores,
-            hint,
+            snapshot, edges, supports, approvals, nominators, likely, rates, left, prescores, hint,
         );
     }
     *hint = first_price(expected, *hint);
@@ -70,8 +57,53 @@ pub(crate) fn best_outside(
     )
 }
 
-/// The price at which all are tested first: what the target that looked best reaches. Where that is
-/// far below the expected score, it mostly has nominators in common with the last pick, and what
+/// The targets that look best, and how many: one with the highest prescore, and one with the highest
+/// of those below it, unless the two have many nominators. Of targets with the same prescore mostly
+/// all have nominators in common with the last pick, or none.
+fn likely_pair(
+    voters: usize,
+    nominators: &Nominators,
+    outside: &[u16],
+    prescores: &[u64],
+) -> ([u16; 2], usize)
+    requires some { 1 ≤ length outside.now }
+    requires rising { AreRising (length prescores.now) outside.now }
+    requires nominated { length nominators.now ≡ length prescores.now }
+    ensures count { (1 ≤ result.1) × (result.1 ≤ 2) }
+    ensures rising { AreRising (length prescores.now) (take result.1 result.0) }
+{
+    let first = highest(outside, prescores);
+    let second = highest_below(first, outside, prescores);
+    let pair = [first.min(second), first.max(second)];
+    if first != second && are_few(voters, nominators, &pair) {
+        (pair, 2)
+    } else {
+        ([first, first], 1)
+    }
+}
+
+/// Of the targets whose prescores are below that of `first`, one with the highest; `first` itself
+/// where there is none. Another one would cost time alone.
+fn highest_below(first: u16, targets: &[u16], prescores: &[u64]) -> u16
+    requires first { first < length prescores.now }
+    requires prescores { All (λ target. target < length prescores.now) targets.now }
+    ensures { result < length prescores.now }
+{
+    let bound = prescores[usize::from(first)];
+    let mut best = first;
+    let mut most = 0;
+    for target in targets {
+        let prescore = prescores[usize::from(*target)];
+        if prescore < bound && prescore > most {
+            best = *target;
+            most = prescore;
+        }
+    }
+    best
+}
+
+/// The price at which all are tested first: what the targets that looked best reach. Where that is
+/// far below the expected score, they mostly have nominators in common with the last pick, and what
 /// others reach is nearer to that score.
 fn first_price(expected: u64, likely: u64) -> u64 {
     if likely < expected - expected / FAR_PART {
@@ -82,8 +114,9 @@ fn first_price(expected: u64, likely: u64) -> u64 {
 }
 
 /// The lowest of the targets with the greatest score. All that are left are tested at one price at a
-/// time. One whose prescore is not above a price that another reaches cannot be picked any more. The
-/// first price is the hint, and the score of the pick is left there.
+/// time. One whose prescore is not above a price that another reaches cannot be picked any more, and
+/// no score is above the highest prescore there. The first price is the hint, and the score of the
+/// pick is left there.
 fn best_of(
     snapshot: &Snapshot,
     edges: &[Edge],
@@ -112,25 +145,21 @@ fn best_of(
     let mut low = 0;
     let mut top = snapshot.total();
     let mut pick = outside[0];
-    let mut pointed = 0;
+    let mut course = Course::new(*hint);
     while low < top && count > 0 {
-        let test = next_test(low, top, *hint, &mut pointed);
+        let test = course.next(low, top);
+        let alive = &outside[..count];
         test_price(
-            test,
-            snapshot,
-            edges,
-            supports,
-            nominators,
-            &outside[..count],
-            rates,
-            left,
-            prescores,
+            test, snapshot, edges, supports, nominators, alive, rates, left, prescores,
         );
-        *hint = pointed_price(test, &outside[..count], approvals, prescores);
-        match lowest_reaching(test, &outside[..count], prescores) {
+        let likeliest = usize::from(highest(alive, prescores));
+        let peak = prescores[likeliest];
+        course.note(test, peak, approvals[likeliest]);
+        match lowest_reaching(test, alive, prescores) {
             Some(target) => {
                 pick = target;
                 low = test;
+                top = top.min(peak);
                 count = keep_above(test, prescores, &mut outside[..count]);
             }
             None => top = test - 1,
@@ -140,41 +169,13 @@ fn best_of(
     pick
 }
 
-/// A price above `low` and at most `top`: the hint or what is nearest to it, and behind four of
-/// those the middle. Prices are below 2^64, so a search ends within 64 times five tests, whatever
-/// the hints are.
-fn next_test(low: u64, top: u64, hint: u64, pointed: &mut u8) -> u64
-    requires { low < top }
-    ensures above { low < result }
-    ensures within { result ≤ top }
-    ensures pointed { pointed.old < 4 → pointed.new ≡ pointed.old + 1 }
-    ensures halves { 4 ≤ pointed.old
-        → (result ≡ low + (top - low - 1) / 2 + 1) × (pointed.new ≡ 0) }
-{
-    if *pointed >= POINTED_TESTS {
-        *pointed = 0;
-        return low + (top - low - 1) / 2 + 1;
-    }
-    *pointed += 1;
-    hint.min(top).max(low + 1)
-}
-
-/// The price at which the target with the highest prescore is expected to meet it.
-fn pointed_price(test: u64, alive: &[u16], approvals: &[u64], prescores: &[u64]) -> u64
-    requires above { 0 < test }
-    requires some { 1 ≤ length alive.now }
-    requires prescores { All (λ target. target < length prescores.now) alive.now }
-    requires approvals { length approvals.now ≡ length prescores.now }
-{
-    let target = usize::from(highest(alive, prescores));
-    meeting_price(test, approvals[target], prescores[target])
-}
-
-/// A target with the highest prescore. Another one would cost time alone.
+/// The first of the targets with the highest prescore.
 fn highest(targets: &[u16], prescores: &[u64]) -> u16
     requires some { 1 ≤ length targets.now }
     requires prescores { All (λ target. target < length prescores.now) targets.now }
-    ensures { result < length prescores.now }
+    ensures in_range { result < length prescores.now }
+    ensures most { All (λ target. slice_index_or prescores.now target 0
+        ≤ slice_index_or prescores.now result 0) targets.now }
 {
     let mut best = targets[0];
     for target in targets {
@@ -183,21 +184,6 @@ fn highest(targets: &[u16], prescores: &[u64]) -> u16
         }
     }
     best
-}
-
-/// Where a prescore meets the price, if it falls evenly from the approval at price 0 to what it is
-/// at the tested price. It does, but for rounding, as long as no member's support is below the
-/// price. Where rounding alone may keep it below the price, it is told itself: it is not less at a
-/// lower price, so it meets that one.
-fn meeting_price(test: u64, approval: u64, prescore: u64) -> u64
-    requires { 0 < test }
-{
-    if prescore < test && test - prescore <= ROUNDED {
-        return prescore;
-    }
-    let fall = approval.saturating_sub(prescore);
-    let price = u128::from(approval) * u128::from(test) / (u128::from(test) + u128::from(fall));
-    price.min(u128::from(u64::MAX)) as u64
 }
 
 /// The first of the targets whose prescore is at least the price.

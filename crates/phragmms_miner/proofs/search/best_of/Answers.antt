@@ -3,7 +3,7 @@ use Rattle.std.proofs.lemmas.List.{take_all, take-append-le, length-take-le, len
 use Rattle.election_snapshot.specs.Snapshot.{total_stake}
 use Rattle.weight_book.specs.Passing.{prescore}
 use Rattle.phragmms_miner.proofs.ScoreLemmas.{prescore_falls}
-use Rattle.phragmms_miner.proofs.NarrowLemmas.{narrow_start, table_found, table_none, least_first, rising_filter}
+use Rattle.phragmms_miner.proofs.NarrowLemmas.{everywhere, narrow_start, table_found, table_none, least_first, rising_filter}
 use Rattle.phragmms_miner.proofs.search.best_of.Goals as goal
 
 pub loop-low-init : goal.loop-low-init
@@ -22,8 +22,9 @@ loop-low-preserved-in-Some c =
     let (there, reaches, first) = c.in-Some.ensures.found in
     let found = table_found c.args.outside.now (λ price target. prescore price c.args.snapshot.now c.args.edges.now target) (total_stake c.args.snapshot.now)
     (prescore_falls c.args.snapshot.now c.args.edges.now) c.loop-low.low c.loop-low.top c.loop-low.pick
-    (take c.loop-low.count c.loop-low.outside) narrow c.next_test-test.result c.next_test-test.ensures.above c.next_test-test.ensures.within most
-    c.test_price.new.prescores c.test_price.ensures c.in-Some.target there reaches first in
+    (take c.loop-low.count c.loop-low.outside) narrow c.next-test.result c.next-test.ensures.above c.next-test.ensures.within most
+    c.test_price.new.prescores c.test_price.ensures c.in-Some.target there reaches first (get_or c.test_price.new.prescores c.highest.result 0)
+    (everywhere (take c.loop-low.count c.loop-low.outside) c.test_price.new.prescores (get_or c.test_price.new.prescores c.highest.result 0) c.highest.ensures.most) in
     let new = c.keep_above-count.new.alive in
     let rest = drop c.loop-low.count c.loop-low.outside in
     let taken = length-take-le c.loop-low.count c.loop-low.outside count in
@@ -32,11 +33,11 @@ loop-low-preserved-in-Some c =
     let cut = take-append-le c.keep_above-count.result new rest (omega (arith, fewer, size)) in
     let whole : length (new ++ rest) ≡ length c.args.outside.now = omega (arith, length-append new rest, length-drop c.loop-low.count c.loop-low.outside, size, count, long) in
     rw (cut, c.keep_above-count.ensures.kept) (
-      found,
-      most,
+      rw (c.min-top.ensures, c.from-likeliest.ensures) found,
+      omega (arith, most, c.min-top.ensures),
       omega (arith, length-append new rest, fewer, size),
       whole,
-      rising_filter (length c.args.snapshot.now.targets) (λ target. nat_lt c.next_test-test.result (get_or c.test_price.new.prescores target 0))
+      rising_filter (length c.args.snapshot.now.targets) (λ target. nat_lt c.next-test.result (get_or c.test_price.new.prescores target 0))
           (take c.loop-low.count c.loop-low.outside) up,
       search rules,
       search rules,
@@ -48,6 +49,6 @@ loop-low-preserved c =
     let (narrow, most, count, long, up, rates, stakes, targets) = c.loop-low.invariant in
     let none = table_none c.args.outside.now (λ price target. prescore price c.args.snapshot.now c.args.edges.now target) (total_stake c.args.snapshot.now)
     (prescore_falls c.args.snapshot.now c.args.edges.now) c.loop-low.low c.loop-low.top c.loop-low.pick
-    (take c.loop-low.count c.loop-low.outside) narrow c.next_test-test.result c.next_test-test.ensures.above c.next_test-test.ensures.within most
+    (take c.loop-low.count c.loop-low.outside) narrow c.next-test.result c.next-test.ensures.above c.next-test.ensures.within most
     c.test_price.new.prescores c.test_price.ensures c.in-None.ensures.none in
-    (none, omega (arith, c.next_test-test.ensures.within, most), count, long, up, search rules, search rules, search rules)
+    (none, omega (arith, c.next-test.ensures.within, most), count, long, up, search rules, search rules, search rules)
