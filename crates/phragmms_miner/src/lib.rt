@@ -8,6 +8,7 @@ pub mod laws;
 mod miner;
 mod pass;
 mod search;
+mod some;
 
 pub use miner::mine_mms;
 

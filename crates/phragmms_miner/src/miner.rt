@@ -20,7 +20,7 @@ use weight_book::Weights;
 pub(crate) struct Tables {
     /// By target, what part of its support is paid.
     rates: Vec<u64>,
-    /// By voter, what it has left.
+    /// By voter, what it has left, or where its edges begin: each kind of test writes its own.
     left: Vec<u64>,
     /// By target, what its nominators had left in its last test, and before it what they have in all.
     prescores: Vec<u64>,

@@ -54,7 +54,7 @@ fn rate_of(price: u64, support: u128) -> u64
 
 /// By voter, its stake less what its edges pay.
 #[inline(never)]
-fn fill_slacks(
+pub(crate) fn fill_slacks(
     price: u64,
     snapshot: &Snapshot,
     edges: &[Edge],

@@ -1,6 +1,4 @@
-use Rattle.std.proofs.Common.{rules, arith, ◌≡◌, ◌≤◌, nat_lt, get_or, ap, ◌∙◌}
-use Rattle.std.proofs.lemmas.Bool.{ltb-true, ltb-false}
-use Rattle.std.proofs.lemmas.List.Sorted.{IsPartitionPoint-from_clause, IsPartitionedBy-ltb}
+use Rattle.std.proofs.Common.{◌≡◌, ◌≤◌, get_or, ap, ◌∙◌}
 use Rattle.npos_base.specs.declared.figures.Edge.{Edge}
 use Rattle.weight_book.specs.Weights.{support, spent}
 use Rattle.weight_book.specs.Passing.{pay}
@@ -12,16 +10,12 @@ use Rattle.phragmms_miner.proofs.few.slack_of.Goals as goal
 abbrev none : Edge
 none = record { voter = 0; target = 0; amount = 0 }
 
+pub row_start-at-requires : goal.row_start-at-requires
+row_start-at-requires c = voters_rise c.args.snapshot.now c.args.edges.now c.args.supports.now c.requires.spare
+
 pub loop-at-init : goal.loop-at-init
-loop-at-init c =
-    let edges = c.args.edges.now in
-    let voter = c.args.voter in
-    let rise = voters_rise c.args.snapshot.now edges c.args.supports.now c.requires.spare in
-    let parted = IsPartitionedBy-ltb (λ (e : Edge). e.voter) edges voter rise in
-    let point = IsPartitionPoint-from_clause (λ (e : Edge). nat_lt e.voter voter) _ _ c.partition_point-at.ensures.partitioned parted (λ a r q k. search rules) in
-    rw c.stake-left.ensures.stake (walk_start c.args.price c.args.snapshot.now edges voter c.partition_point-at.result c.partition_point-at.ensures.bound
-    (λ k d l h. ltb-true (get_or edges k d).voter voter (point.0 k d (omega arith) l))
-    (λ k d l h. ltb-false (get_or edges k d).voter voter (point.1 k d l h)))
+loop-at-init c = rw c.stake-left.ensures.stake (walk_start c.args.price c.args.snapshot.now c.args.edges.now c.args.voter
+    c.row_start-at.result c.row_start-at.ensures.within c.row_start-at.ensures.before c.row_start-at.ensures.behind)
 
 pub pay-left-requires-clause-within : goal.pay-left-requires-clause-within
 pay-left-requires-clause-within c =
