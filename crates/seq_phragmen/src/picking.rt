@@ -11,7 +11,7 @@ ghost use Rattle.seq_phragmen.specs.Kept.{score_by, rise_of, AreBurdens, AreFloo
 use crate::rise::Rise;
 use election_snapshot::Snapshot;
 use npos_base::NoMemory;
-use seat_race::{quotient, raise_wide_at};
+use seat_race::raise_wide_at;
 
 /// No score is greater.
 const GREATEST_SCORE: u64 = i64::MAX as u64;
@@ -80,16 +80,23 @@ fn is_ahead(best: Option<u16>, least: u64, score: u64) -> bool
 }
 
 /// The load of each of some voters with this stake in all, where a seat comes to what they carry.
-fn share_load(seat: u128, carried: u128, stake: u64, guess: u64) -> u64
-    requires { seat + carried < 2 ^ 128 }
+/// Mostly it is the floor, which a product tells; a division takes several times as long.
+fn share_load(seat: u128, carried: u128, stake: u64, floor: u64) -> u64
+    requires fits { seat + carried < 2 ^ 128 }
+    requires floor { floor ≤ shared_load seat carried stake }
     ensures load { result ≡ shared_load seat carried stake }
     ensures most { result ≤ greatest_score }
 {
     if stake == 0 {
         return GREATEST_SCORE;
     }
-    let load = quotient(seat + carried, stake, guess);
-    load.min(u128::from(GREATEST_SCORE)) as u64
+    let whole = seat + carried;
+    let stake = u128::from(stake);
+    let rest = whole - u128::from(floor) * stake;
+    if rest < stake {
+        return floor;
+    }
+    (whole / stake).min(u128::from(GREATEST_SCORE)) as u64
 }
 
 /// Raises the loads of the target's nominators to the score, notes by how much, and marks the
