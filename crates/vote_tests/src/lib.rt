@@ -7,6 +7,8 @@
 #[cfg(test)]
 mod balances;
 #[cfg(test)]
+mod divisions;
+#[cfg(test)]
 mod fills;
 #[cfg(test)]
 mod json;
