@@ -22,7 +22,7 @@ shared_grows seat a b stake l = at (nat_eq stake 0) where
   at true = omega arith
   at false = omega (arith, quotients)
 
-shared_most : (seat carried stake : ℕ) → shared_load seat carried stake ≤ greatest_score
+pub shared_most : (seat carried stake : ℕ) → shared_load seat carried stake ≤ greatest_score
 shared_most seat carried stake = cond_both (nat_eq stake 0) greatest_score (min greatest_score ((seat + carried) / stake)) (λ n. n ≤ greatest_score) (λ _. omega arith) (λ _. omega arith)
 
 shared_some : (seat carried stake : ℕ) → stake ≤ seat → 0 < shared_load seat carried stake

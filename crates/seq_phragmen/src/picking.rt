@@ -1,5 +1,5 @@
 //! One pick: the target that joins, and what its nominators carry from then on.
-ghost use Rattle.std.specs.Prelude.{◌≡◌, ℕ, ◌+◌, ◌-◌, ◌*◌, ◌/◌, ◌^◌, ◌<◌, ◌≤◌, ◌++◌, if◌then◌else◌, length, map, nat_lt, slice_set, is_none, option_map, ◌||◌, IfSome, OnOk};
+ghost use Rattle.std.specs.Prelude.{◌≡◌, ℕ, ◌+◌, ◌-◌, ◌*◌, ◌/◌, ◌^◌, ◌<◌, ◌≤◌, ◌++◌, if◌then◌else◌, length, map, slice_set, option_map, IfSome, OnOk};
 ghost use Rattle.npos_base.specs.declared.limits.TheConstants.{MOST_TARGETS};
 ghost use Rattle.election_snapshot.specs.Snapshot.{nominates, total_stake};
 ghost use Rattle.weight_book.specs.Passing.{nominators};
@@ -25,7 +25,8 @@ pub(crate) struct Candidate {
 
 /// The lowest of the targets that are not picked with the least score, if one is not picked. No
 /// score is below its floor. So a score is made only where the floor is below the least score so
-/// far, with the floor as a guess, and is then the floor.
+/// far, with the floor as a guess, and is then the floor. No score is above the greatest one, and
+/// the least begins as a number that none reaches.
 pub(crate) fn lightest_outside(
     seat: u128,
     burdens: &[u128],
@@ -49,12 +50,12 @@ pub(crate) fn lightest_outside(
     ensures in_range { IfSome result (λ candidate. candidate.target < length is_picked.now) }
 {
     let mut best = None;
-    let mut least = 0;
+    let mut least = u64::MAX;
     for target in 0..is_picked.len() {
-        if is_ahead(best, least, floors[target]) && !is_picked[target] {
+        if floors[target] < least && !is_picked[target] {
             let score = share_load(seat, burdens[target], approvals[target], floors[target]);
             floors[target] = score;
-            if is_ahead(best, least, score) {
+            if score < least {
                 best = Some(target as u16);
                 least = score;
             }
@@ -66,16 +67,6 @@ pub(crate) fn lightest_outside(
             score: least,
         }),
         None => None,
-    }
-}
-
-/// Whether a score is less than the least so far, or the first one.
-fn is_ahead(best: Option<u16>, least: u64, score: u64) -> bool
-    ensures { result ≡ (is_none best || nat_lt score least) }
-{
-    match best {
-        Some(_) => score < least,
-        None => true,
     }
 }
 
