@@ -4,6 +4,8 @@ pub mod Appending
 pub mod Figures
 pub mod Bytes
 pub mod Readings
+pub mod Grammar
+pub mod Fronts
 pub mod RangeLemmas
 pub mod BackLemmas
 pub mod LineLemmas

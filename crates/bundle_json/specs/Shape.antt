@@ -39,17 +39,20 @@ figure_in text =
     if bytes_eq (decimal n) text && nat_lt n (2 ^ 128) then Some n else None
 
 -- 64 hexadecimal digits, of either case
-abbrev pub account_in : Data → Option AccountId
-account_in d = do
-  text ← as_str d
+abbrev pub account_from : List ℕ → Option AccountId
+account_from text = do
   bytes ← result_ok (decode_sized text 32)
   Some (account_of bytes)
 
+abbrev pub account_in : Data → Option AccountId
+account_in d = as_str d >>= account_from
+
 -- two hexadecimal digits for each of the bytes of a solution
+abbrev pub solution_from : List ℕ → Option (List ℕ)
+solution_from text = if nat_le (length text) (2 * MOST_SOLUTION_BYTES) then result_ok (decode_of text) else None
+
 abbrev pub solution_in : Data → Option (List ℕ)
-solution_in d = do
-  text ← as_str d
-  if nat_le (length text) (2 * MOST_SOLUTION_BYTES) then result_ok (decode_of text) else None
+solution_in d = as_str d >>= solution_from
 
 -- ## Arrays and objects
 

@@ -1,12 +1,13 @@
 -- How a text in JSON stands to the value that it is.
-use Rattle.std.specs.Prelude.{◌≡◌, ℕ, List, ◌++◌, Option, Some, None, Result, Ok, Err, OnOk, if◌then◌else◌}
+use Rattle.std.specs.Prelude.{◌≡◌, ◌≤◌, ℕ, List, ◌++◌, Option, Some, None, Result, Ok, Err, OnOk, if◌then◌else◌}
 use Rattle.std.specs.List.{flat_map}
 use Rattle.std.specs.Str.{is_utf8}
+use Rattle.json.specs.Json.{value}
 use Rattle.json.specs.Token.{Token}
 use Rattle.json.specs.Tree.{json_tokens}
 use Rattle.json.specs.Written.{Written}
 use Rattle.serde_json.specs.Data.{Data}
-use Rattle.serde_json.specs.Read.{read}
+use Rattle.serde_json.specs.Read.{converted, of_json, read}
 use Rattle.serde_json.specs.Written.{outline}
 use Rattle.block_wire.specs.declared.bundle.Bundle.{Bundle}
 use Rattle.bundle_json.specs.declared.fault.JsonFault.{JsonFault}
@@ -31,6 +32,15 @@ bundle_or_fault None = Err Json
 -- whose value stands for no bundle as Shape.
 abbrev pub bundle_in_text : List ℕ → Result Bundle JsonFault
 bundle_in_text text = bundle_or_fault (reading text)
+
+-- What the value at the front of the tokens stands for, where it nests no deeper than so many, and
+-- the tokens behind it.
+abbrev pub at_front : {A : Type 0} → (Data → Option A) → ℕ → List Token → Option (A × List Token)
+at_front stands depth ts = converted stands (converted of_json (value depth ts))
+
+-- the tokens begin with a value that stands for x and nests no deeper than so many, and go on as new
+abbrev pub Front : {A : Type 0} → (Data → Option A) → ℕ → List Token → A → List Token → Type 0
+Front stands nests old x new = (depth : ℕ) → nests ≤ depth → at_front stands depth old ≡ Some (x, new)
 
 -- ## Writing
 

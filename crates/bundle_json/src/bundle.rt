@@ -1,20 +1,23 @@
 //! Bundles in JSON.
-ghost use Rattle.std.specs.Prelude.{◌≡◌, ◌≢◌, IfOk};
+ghost use Rattle.std.specs.Prelude.{◌≡◌, ◌≢◌, Some, option_and_then, IfOk};
+ghost use Rattle.serde_json.specs.Read.{read};
 ghost use Rattle.serde_json.specs.View.{view};
 ghost use Rattle.serde_json.specs.Written.{compact_text};
 ghost use Rattle.bundle_json.specs.Json.{json_of};
 ghost use Rattle.bundle_json.specs.Shape.{bundle_of};
-ghost use Rattle.bundle_json.specs.Text.{Appends, bundle_in_text};
+ghost use Rattle.bundle_json.specs.Text.{Appends, Front, bundle_in_text};
 ghost use Rattle.block_wire.specs.Bundles.{bundle_form};
 
 use crate::fault::JsonFault;
-use crate::item::{list_from, list_in, write_list};
+use crate::item::{list_at, list_from, list_in, write_list};
 use crate::parts::{split, u32_in, with_keys};
-use crate::work::{work_in, write_work};
+use crate::tokens::{Miss, close_object, key, open_object, u32_at};
+use crate::work::{work_at, work_in, write_work};
 use block_wire::Bundle;
-use json::Writer;
+use json::{Reader, Scratch, Writer};
 use npos_base::{List, MOST_TARGETS, MOST_VOTERS, NoMemory};
 use serde_json::Value;
+use simdutf8::compat::from_utf8;
 use std::alloc::Global;
 
 /// The room that a text is begun with, in bytes.
@@ -54,7 +57,15 @@ pub fn bundle_from_json(alloc: Global, text: &[u8]) -> Result<Bundle, JsonFault>
     ensures determined { result ≢ Err JsonFault.NoMemory → result ≡ bundle_in_text text.now }
     ensures in_range { IfOk result bundle_form.in_range }
 {
-    let value = match Value::from_slice(alloc, text) {
+    let Ok(text) = from_utf8(text) else {
+        return Err(JsonFault::Json);
+    };
+    match bundle_from_tokens(alloc, text) {
+        Ok(bundle) => return Ok(bundle),
+        Err(Miss::NoMemory) => return Err(JsonFault::NoMemory),
+        Err(Miss::Otherwise) => {}
+    }
+    let value = match Value::from_str(alloc, text) {
         Ok(value) => value,
         Err(error) if error.is_memory() => return Err(JsonFault::NoMemory),
         Err(_) => return Err(JsonFault::Json),
@@ -64,6 +75,42 @@ pub fn bundle_from_json(alloc: Global, text: &[u8]) -> Result<Bundle, JsonFault>
         Ok(None) => Err(JsonFault::Shape),
         Err(NoMemory) => Err(JsonFault::NoMemory),
     }
+}
+
+// The bundle that the text stands for, where it stands as bundles are written: each key once, in
+// rising order. It is read from the tokens, with no value between; where it stands otherwise, the
+// caller reads it again as a value.
+fn bundle_from_tokens(alloc: Global, text: &str) -> Result<Bundle, Miss>
+    ensures { IfOk result (λ bundle. option_and_then bundle_of (read text.now) ≡ Some bundle) }
+{
+    let mut scratch = Scratch::new(alloc);
+    let mut tokens = Reader::new(text, &mut scratch)?;
+    let bundle = bundle_at(alloc, &mut tokens)?;
+    if tokens.next().is_some() {
+        return Err(Miss::Otherwise);
+    }
+    Ok(bundle)
+}
+
+fn bundle_at(alloc: Global, tokens: &mut Reader<'_>) -> Result<Bundle, Miss>
+    ensures { IfOk result (λ bundle. Front bundle_of 4 tokens.old bundle tokens.new) }
+{
+    open_object(tokens)?;
+    key(tokens, "seats")?;
+    let seats = u32_at(tokens)?;
+    key(tokens, "targets")?;
+    let targets = list_at(alloc, tokens, MOST_TARGETS)?;
+    key(tokens, "voters")?;
+    let voters = list_at(alloc, tokens, MOST_VOTERS)?;
+    key(tokens, "work")?;
+    let work = work_at(alloc, tokens)?;
+    close_object(tokens)?;
+    Ok(Bundle {
+        seats,
+        targets,
+        voters,
+        work,
+    })
 }
 
 // The bundle that the value stands for, or none. The voters are most of it: they go as they are

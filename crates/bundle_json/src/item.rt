@@ -1,24 +1,30 @@
 //! What stands in the arrays of a bundle.
-ghost use Rattle.std.specs.Prelude.{◌≡◌, Option, IfOk};
+ghost use Rattle.std.specs.Prelude.{◌≡◌, ℕ, suc, Option, IfOk};
 ghost use Rattle.hex.specs.Hex.{encode_lower};
 ghost use Rattle.serde_json.specs.Data.{Data, string};
 ghost use Rattle.serde_json.specs.View.{view, items_view};
 ghost use Rattle.bundle_json.specs.Json.{list_json};
 ghost use Rattle.bundle_json.specs.Shape.{list_in, each};
-ghost use Rattle.bundle_json.specs.Text.{Appends, AppendsTokens, tokens_of};
+ghost use Rattle.bundle_json.specs.Text.{Appends, AppendsTokens, Front, tokens_of};
 
-use crate::parts::{account_in, edge_in, u16_in};
-use json::Writer;
+use crate::parts::{account_from, account_in, edge_in, u16_in};
+use crate::tokens::{Miss, close_array, open_array, text_at, u16_at, u32_at, u64_at};
+use json::{Reader, Writer};
 use npos_base::{AccountId, Edge, List, NoMemory};
 use serde_json::Value;
 use std::alloc::Global;
 
-/// A type whose values stand in arrays: `json` is what a value is written as, and `read` the value
-/// that JSON stands for.
+/// Items that a list from tokens has room for at first.
+const FIRST_ITEMS: usize = 16;
+
+/// A type whose values stand in arrays: `json` is what a value is written as, `read` the value
+/// that JSON stands for, and `nests` how deep arrays and objects nest in it.
 pub(crate) trait Item: Drop {
     ghost json: { Self → Data };
 
     ghost read: { Data → Option Self };
+
+    ghost nests: { ℕ };
 
     /// Writes the item.
     fn write(&self, alloc: Global, out: &mut Writer) -> Result<(), NoMemory>
@@ -27,6 +33,10 @@ pub(crate) trait Item: Drop {
     /// The item that the value stands for, or none.
     fn from_json(alloc: Global, value: &Value) -> Result<Option<Self>, NoMemory>
         ensures { IfOk result (λ item. item ≡ read (view value.now)) };
+
+    /// The item at the front of the tokens.
+    fn from_tokens(alloc: Global, tokens: &mut Reader<'_>) -> Result<Self, Miss>
+        ensures { IfOk result (λ item. Front read nests tokens.old item tokens.new) };
 }
 
 /// Writes a text of hexadecimal digits in lower case, two for each byte.
@@ -128,6 +138,26 @@ fn each_from<T: Item>(alloc: Global, items: Vec<Value>) -> Result<Option<List<T>
     Ok(Some(List::from_vec(found)))
 }
 
+/// The array of at most so many items at the front of the tokens.
+pub(crate) fn list_at<T: Item>(
+    alloc: Global,
+    tokens: &mut Reader<'_>,
+    most: usize,
+) -> Result<List<T>, Miss>
+    ensures { IfOk result
+        (λ list. Front (list_in T.read most) (suc T.nests) tokens.old list tokens.new) }
+{
+    open_array(tokens)?;
+    let mut found = Vec::with_capacity(alloc, most.min(FIRST_ITEMS))?;
+    while !tokens.take_end_array() {
+        if found.len() == most {
+            return Err(Miss::Otherwise);
+        }
+        found.push(T::from_tokens(alloc, tokens)?)?;
+    }
+    Ok(List::from_vec(found))
+}
+
 impl Item for u16 {
     ghost use Rattle.bundle_json.specs.Json.{whole_json};
     ghost use Rattle.bundle_json.specs.Shape.{whole_in};
@@ -136,6 +166,8 @@ impl Item for u16 {
 
     ghost read = { whole_in 16 };
 
+    ghost nests = { 0 };
+
     fn write(&self, _alloc: Global, out: &mut Writer) -> Result<(), NoMemory> {
         out.u64(u64::from(*self))?;
         Ok(())
@@ -143,6 +175,10 @@ impl Item for u16 {
 
     fn from_json(_alloc: Global, value: &Value) -> Result<Option<u16>, NoMemory> {
         Ok(u16_in(value))
+    }
+
+    fn from_tokens(_alloc: Global, tokens: &mut Reader<'_>) -> Result<u16, Miss> {
+        u16_at(tokens)
     }
 }
 
@@ -154,12 +190,18 @@ impl Item for AccountId {
 
     ghost read = { account_in };
 
+    ghost nests = { 0 };
+
     fn write(&self, alloc: Global, out: &mut Writer) -> Result<(), NoMemory> {
         write_hex(&self.to_bytes(), alloc, out)
     }
 
     fn from_json(_alloc: Global, value: &Value) -> Result<Option<AccountId>, NoMemory> {
         Ok(account_in(value))
+    }
+
+    fn from_tokens(_alloc: Global, tokens: &mut Reader<'_>) -> Result<AccountId, Miss> {
+        account_from(text_at(tokens)?).ok_or(Miss::Otherwise)
     }
 }
 
@@ -170,6 +212,8 @@ impl Item for Edge {
     ghost json = { edge_json };
 
     ghost read = { edge_in };
+
+    ghost nests = { 1 };
 
     fn write(&self, _alloc: Global, out: &mut Writer) -> Result<(), NoMemory> {
         out.begin_array()?;
@@ -182,5 +226,18 @@ impl Item for Edge {
 
     fn from_json(_alloc: Global, value: &Value) -> Result<Option<Edge>, NoMemory> {
         Ok(edge_in(value))
+    }
+
+    fn from_tokens(_alloc: Global, tokens: &mut Reader<'_>) -> Result<Edge, Miss> {
+        open_array(tokens)?;
+        let voter = u32_at(tokens)?;
+        let target = u16_at(tokens)?;
+        let amount = u64_at(tokens)?;
+        close_array(tokens)?;
+        Ok(Edge {
+            voter,
+            target,
+            amount,
+        })
     }
 }

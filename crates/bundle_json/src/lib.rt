@@ -7,6 +7,7 @@ mod item;
 pub mod laws;
 mod limits;
 mod parts;
+mod tokens;
 mod voter;
 mod work;
 

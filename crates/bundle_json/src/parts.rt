@@ -1,12 +1,15 @@
 //! The parts of a bundle in JSON that take no memory: numbers, texts, and what arrays and objects
 //! have.
-ghost use Rattle.std.specs.Prelude.{◌≡◌, ◌≢◌, ℕ, List, option_map};
+ghost use Rattle.std.specs.Prelude.{◌≡◌, ◌≢◌, ℕ, List, option_map, IfOk};
 ghost use Rattle.serde_json.specs.Find.{get};
 ghost use Rattle.serde_json.specs.View.{view};
-ghost use Rattle.bundle_json.specs.Shape.{whole_in, figure_in, account_in, with_items, with_keys, edge_in, claim_in};
+ghost use Rattle.bundle_json.specs.Shape.{whole_in, figure_in, account_from, account_in, with_items, with_keys, edge_in, claim_in};
+ghost use Rattle.bundle_json.specs.Text.{Front};
 
+use crate::tokens::{Miss, close_array, open_array, text_at, u64_at};
 use hex::FromHex;
 use itoa::Buffer;
+use json::Reader;
 use npos_base::{AccountId, Edge, Score};
 use serde_json::Value;
 
@@ -46,14 +49,21 @@ pub(crate) fn figure_in(text: &str) -> Option<u128>
     }
 }
 
-/// An account: 64 hexadecimal digits.
-pub(crate) fn account_in(value: &Value) -> Option<AccountId>
-    ensures { result ≡ account_in (view value.now) }
+/// The account that the text is: 64 hexadecimal digits.
+pub(crate) fn account_from(text: &str) -> Option<AccountId>
+    ensures { result ≡ account_from text.now }
 {
-    match <[u8; 32]>::from_hex(value.as_str()?) {
+    match <[u8; 32]>::from_hex(text) {
         Ok(bytes) => Some(AccountId::from_bytes(&bytes)),
         Err(_) => None,
     }
+}
+
+/// An account.
+pub(crate) fn account_in(value: &Value) -> Option<AccountId>
+    ensures { result ≡ account_in (view value.now) }
+{
+    account_from(value.as_str()?)
 }
 
 /// The value itself, where it is an array of exactly so many items.
@@ -116,5 +126,21 @@ pub(crate) fn claim_in(value: &Value) -> Option<Score>
         minimal: u64_in(array.get(0)?)?,
         sum: u64_in(array.get(1)?)?,
         squares: figure_in(array.get(2)?.as_str()?)?,
+    })
+}
+
+/// The claim at the front of the tokens.
+pub(crate) fn claim_at(tokens: &mut Reader<'_>) -> Result<Score, Miss>
+    ensures { IfOk result (λ claim. Front claim_in 1 tokens.old claim tokens.new) }
+{
+    open_array(tokens)?;
+    let minimal = u64_at(tokens)?;
+    let sum = u64_at(tokens)?;
+    let squares = figure_in(text_at(tokens)?).ok_or(Miss::Otherwise)?;
+    close_array(tokens)?;
+    Ok(Score {
+        minimal,
+        sum,
+        squares,
     })
 }

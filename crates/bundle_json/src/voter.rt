@@ -1,10 +1,11 @@
 //! Voters in JSON.
-use crate::item::{Item, list_in, write_list};
+use crate::item::{Item, list_at, list_in, write_list};
 use crate::limits::MOST_VOTES;
 use crate::parts::{account_in, u64_in, with_keys};
+use crate::tokens::{Miss, close_object, key, open_object, u64_at};
 use block_wire::BundleVoter;
-use json::Writer;
-use npos_base::NoMemory;
+use json::{Reader, Writer};
+use npos_base::{AccountId, NoMemory};
 use serde_json::Value;
 use std::alloc::Global;
 
@@ -15,6 +16,8 @@ impl Item for BundleVoter {
     ghost json = { voter_json };
 
     ghost read = { voter_in };
+
+    ghost nests = { 2 };
 
     fn write(&self, alloc: Global, out: &mut Writer) -> Result<(), NoMemory> {
         out.begin_object()?;
@@ -49,5 +52,21 @@ impl Item for BundleVoter {
             stake,
             votes,
         }))
+    }
+
+    fn from_tokens(alloc: Global, tokens: &mut Reader<'_>) -> Result<BundleVoter, Miss> {
+        open_object(tokens)?;
+        key(tokens, "account")?;
+        let account = AccountId::from_tokens(alloc, tokens)?;
+        key(tokens, "stake")?;
+        let stake = u64_at(tokens)?;
+        key(tokens, "votes")?;
+        let votes = list_at(alloc, tokens, MOST_VOTES)?;
+        close_object(tokens)?;
+        Ok(BundleVoter {
+            account,
+            stake,
+            votes,
+        })
     }
 }

@@ -58,9 +58,10 @@ impl Course {
     }
 
     /// Notes the highest prescore at a tested price, which is that of a target with this approval.
-    /// Prescores fall less and less steeply as the price rises, but for rounding. So neither the
-    /// line from the approval at price 0 nor the one between what was reached and what was missed
-    /// meets the price too low; and a prescore that is below the tested price is reached itself.
+    /// A prescore falls less and less steeply as the price rises, but for rounding. So where that
+    /// target's is the highest at all these prices, neither the line from its approval at price 0
+    /// nor the one between what was reached and what was missed meets the price too low. A highest
+    /// prescore that is below the tested price is reached itself, whoever has it.
     pub(crate) fn note(&mut self, test: u64, prescore: u64, approval: u64)
         requires { 0 < test }
         ensures { self.new.pointed ≡ self.old.pointed }
