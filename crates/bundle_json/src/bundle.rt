@@ -13,24 +13,58 @@ use crate::item::{list_at, list_from, list_in, write_list};
 use crate::parts::{split, u32_in, with_keys};
 use crate::tokens::{Miss, close_object, key, open_object, u32_at};
 use crate::work::{work_at, work_in, write_work};
-use block_wire::Bundle;
+use block_wire::{Bundle, Work};
 use json::{Reader, Scratch, Writer};
 use npos_base::{List, MOST_TARGETS, MOST_VOTERS, NoMemory};
 use serde_json::Value;
 use simdutf8::compat::from_utf8;
 use std::alloc::Global;
 
-/// The room that a text is begun with, in bytes.
-const FIRST_ROOM: usize = 1024;
+/// Bytes of the text of a bundle besides its lists, about.
+const FRAME: usize = 1024;
+
+/// Bytes of a target.
+const TARGET: usize = 67;
+
+/// Bytes of a voter without its votes, about.
+const VOTER: usize = 128;
+
+/// Bytes of a vote, or of a member, at most.
+const VOTE: usize = 6;
+
+/// Bytes of an edge, about.
+const EDGE: usize = 32;
 
 /// The bundle as JSON with no blank in it: keys in rising order, accounts and bytes in lower-case
 /// hexadecimal, the squares of a claim as a text.
 pub fn bundle_to_json(alloc: Global, bundle: &Bundle) -> Result<List<u8>, NoMemory>
     ensures { IfOk result (λ text. text ≡ compact_text (json_of bundle.now)) }
 {
-    let mut out = Writer::new(Vec::with_capacity(alloc, FIRST_ROOM)?);
+    let mut out = Writer::new(Vec::with_capacity(alloc, room_of(bundle))?);
     write_bundle(bundle, alloc, &mut out)?;
     Ok(List::from_vec(out.into_inner()))
+}
+
+// About as many bytes as the text of a bundle has, so that it need not be moved as it grows. Nothing
+// rests on it but time.
+fn room_of(bundle: &Bundle) -> usize {
+    let mut votes: usize = 0;
+    for voter in bundle.voters.as_slice() {
+        votes = votes.saturating_add(voter.votes.len());
+    }
+    let work = match &bundle.work {
+        Work::Nothing => 0,
+        Work::Packed { bytes, .. } => bytes.len().saturating_mul(2),
+        Work::Plain { committee, edges } => committee
+            .len()
+            .saturating_mul(VOTE)
+            .saturating_add(edges.len().saturating_mul(EDGE)),
+    };
+    FRAME
+        .saturating_add(bundle.targets.len().saturating_mul(TARGET))
+        .saturating_add(bundle.voters.len().saturating_mul(VOTER))
+        .saturating_add(votes.saturating_mul(VOTE))
+        .saturating_add(work)
 }
 
 fn write_bundle(bundle: &Bundle, alloc: Global, out: &mut Writer) -> Result<(), NoMemory>

@@ -1,6 +1,6 @@
 //! What stands at the front of the tokens of a text, where it stands as it is written: each key of
 //! an object once, in rising order. What stands otherwise is missed here and not refused: the value
-//! that the text is tells what it stands for.
+//! that the text is tells what it stands for. So nothing rests on a miss but time.
 ghost use Rattle.std.specs.Prelude.{◌≡◌, ◌∷◌, Some, None, IfOk, OnOk};
 ghost use Rattle.json.specs.Json.{after_end_array, read_key};
 ghost use Rattle.json.specs.Token.{begin_array, begin_object};
