@@ -1,8 +1,10 @@
--- Weights that pass are proportional. Suppose a group that holds the stake of r seats, and agrees on r targets, nominates
--- fewer than r members. Then one of these targets is outside, and all of the group nominate it. The group pays for members
--- that it nominates alone, for each at most the price of a seat, so for fewer than r seats in all. What it has left of the
--- stake of r seats is the price of a seat or more, so the target outside outweighs.
-use Rattle.std.proofs.Common.{◌≡◌, ℕ, zero, suc, ◌+◌, ◌*◌, ◌/◌, ◌<◌, ◌≤◌, ◌⊎◌, min, Bool, true, false, cond, nat_eq, List, [], ◌∷◌, length, get_or, filter, sum_by, count_by, All, AllPairs, ◌≢◌, inl, inr, refl, ap, ◌∙◌, arith}
+-- Weights that pass deny nobody. Suppose a group that holds the stake of r seats, all of whom nominate one target outside,
+-- nominates fewer than r members. The group pays for members that it nominates alone, for each at most the price of a seat, so
+-- for fewer than r seats in all. What it has left of the stake of r seats is the price of a seat or more, so the target
+-- outside outweighs. And a committee that denies nobody is proportional, since a group that agrees on r targets and nominates
+-- fewer than r members nominates one target outside.
+use Rattle.std.proofs.Common.{◌≡◌, ℕ, zero, suc, ◌+◌, ◌*◌, ◌/◌, ◌<◌, ◌≤◌, ◌⊎◌, min, Bool, true, false, cond, nat_eq, List, [], ◌∷◌}
+use Rattle.std.proofs.Common.{length, get_or, filter, sum_by, count_by, All, AllPairs, ◌≢◌, inl, inr, refl, ap, sym, subst, ◌∙◌, arith}
 use Rattle.std.specs.List.{IsDistinct, list_any, range_with_len}
 use Rattle.std.specs.List.Sorted.{IsStrictlyIncreasing}
 use Rattle.std.proofs.Math.Nat.{mul-div-le, le_of_mul-le-mul_left, div-zero, mul-add, add-mul, mul_comm, mul-le-mul_left}
@@ -17,9 +19,10 @@ use Rattle.std.proofs.lemmas.Map.Made.{IsDistinct-from_AllPairs}
 use Rattle.npos_base.specs.declared.figures.Edge.{Edge}
 use Rattle.election_snapshot.specs.Snapshot.{Snapshot, IsWellFormed, has, nominates, stake_of, total_stake, threshold}
 use Rattle.election_snapshot.proofs.HasLemmas.{filter_has}
-use Rattle.weight_book.specs.Weights.{Weights, edges_to, support, amount_sum}
+use Rattle.weight_book.specs.Weights.{Weights, edges_to, support, amount_sum, IsFeasible}
 use Rattle.weight_book.specs.Passing.{pay, paid, slack, nominators, prescore, Passes}
 use Rattle.weight_book.specs.Proportional.{IsCohesive, nominated_by, group_stake, AveragingLaw}
+use Rattle.weight_book.specs.Answered.{IsClaim, IsDenied, IsAnswered, IsWitnessed, WitnessLaw, PassingLaw, AnsweredLaw}
 use Rattle.weight_book.proofs.SumLemmas.{sum_among, at_least, at_most, sum_covered, sum_of_ones, sum_le, sum_of_sums, sum_filter-cons, has_range}
 
 -- a test of a number that stands in a list
@@ -93,8 +96,8 @@ pays_to cap edges target =
     let within : sum_by (λ (edge : Edge). edge.amount * price / support edges target) (edges_to edges target) ≤ price = within_price price (support edges target) (edges_to edges target) refl in
     omega (arith, within, same_support cap edges target edges)
 
-module _ (snapshot : Snapshot) (weights : Weights) (formed : IsWellFormed snapshot) (passes : Passes snapshot weights) (group : List ℕ) (r : ℕ)
-    (some : 1 ≤ r) (cohesive : IsCohesive snapshot group r) where
+module _ (snapshot : Snapshot) (weights : Weights) (formed : IsWellFormed snapshot) (feasible : IsFeasible snapshot weights) (target : ℕ) (group : List ℕ)
+    (r : ℕ) (claim : IsClaim snapshot target group r) where
   abbrev represented : List ℕ
   represented = filter (nominated_by snapshot group) weights.committee
 
@@ -106,7 +109,7 @@ module _ (snapshot : Snapshot) (weights : Weights) (formed : IsWellFormed snapsh
       ≤ sum_among (λ (edge : Edge). edge.target) (pay t weights.edges) weights.edges represented
   pays_elsewhere = sum_le (λ (edge : Edge). cond (has group edge.voter) (pay t weights.edges edge) 0)
       (λ (edge : Edge). cond (has represented edge.target) (pay t weights.edges edge) 0) weights.edges
-      (λ k d h. one (get_or weights.edges k d) (passes.feasible.follows.to_members k d h) (passes.feasible.follows.nominated k d h))
+      (λ k d h. one (get_or weights.edges k d) (feasible.follows.to_members k d h) (feasible.follows.nominated k d h))
     where
       one : (edge : Edge) → has weights.committee edge.target ≡ true → nominates snapshot edge.voter edge.target ≡ true
           → cond (has group edge.voter) (pay t weights.edges edge) 0 ≤ cond (has represented edge.target) (pay t weights.edges edge) 0
@@ -119,7 +122,7 @@ module _ (snapshot : Snapshot) (weights : Weights) (formed : IsWellFormed snapsh
       ]
 
   group_distinct : IsDistinct nat_eq group
-  group_distinct = rising_distinct group cohesive.rising
+  group_distinct = rising_distinct group claim.rising
 
   group_pays : sum_by (paid t weights.edges) group ≤ length represented * t
   group_pays =
@@ -137,15 +140,57 @@ module _ (snapshot : Snapshot) (weights : Weights) (formed : IsWellFormed snapsh
 
   -- the group holds the price of r seats
   group_holds : r * t ≤ group_stake snapshot group
-  group_holds = held snapshot.seats r t (total_stake snapshot) (group_stake snapshot group) formed.seats_some (mul-div-le (total_stake snapshot) snapshot.seats) cohesive.enough_stake where
+  group_holds = held snapshot.seats r t (total_stake snapshot) (group_stake snapshot group) formed.seats_some (mul-div-le (total_stake snapshot) snapshot.seats) claim.enough_stake where
     held : (k r price total stake : ℕ) → 0 < k → k * price ≤ total → r * total ≤ k * stake → r * price ≤ stake
     held k r price total stake pos h enough =
         let more = mul-le-mul_left r h in
         le_of_mul-le-mul_left {k = k} (grind (arith, more, enough)) pos
 
-  -- a target of the group's is outside, where it nominates too few members
-  outside : length represented < r → (k : ℕ) × (k < length cohesive.common) × (has weights.committee (get_or cohesive.common k 0) ≡ false)
-  outside few = elim (all_or_one cohesive.common weights.committee) [
+  -- what the group has left counts for that target
+  left_counts : sum_by (slack t snapshot weights.edges) group ≤ prescore t snapshot weights.edges target
+  left_counts = sum_covered (slack t snapshot weights.edges) group (nominators snapshot target) group_distinct
+      (λ i d l. filter_has (λ voter. nominates snapshot voter target) (range_with_len 0 (length snapshot.voters)) (get_or group i d)
+      (has_range 0 (length snapshot.voters) (get_or group i d) (omega arith) (omega (arith, claim.voters_in_range i d l)))
+      (claim.all_nominate i d l))
+
+  enough : prescore t snapshot weights.edges target < t → length represented < r → ⊥
+  enough below few =
+      short (length represented) r t (group_stake snapshot group) (sum_by (slack t snapshot weights.edges) group) (sum_by (paid t weights.edges) group)
+      few group_holds group_left group_pays (omega (arith, below, left_counts))
+    where
+      short : (m r price stake left pays : ℕ) → m < r → r * price ≤ stake → stake ≤ left + pays → pays ≤ m * price → left < price → ⊥
+      short m r price stake left pays h holds split few_pays below = omega (arith, holds, split, few_pays, below, mul-le (m + 1) price r price (omega arith) (omega arith), add-mul m 1 price)
+
+-- each target outside has its own witness
+pub witnessed : WitnessLaw
+witnessed snapshot committee formed witness target denied =
+    let w = witness target denied.in_range denied.outside in
+    enough snapshot w.weights formed w.feasible target denied.group denied.r denied.claim w.below
+    (omega (
+      arith,
+      denied.few,
+      length-filter (nominated_by snapshot denied.group) w.weights.committee,
+      ap (λ (members : List ℕ). count_by (nominated_by snapshot denied.group) members) w.of_committee,
+    ))
+
+pub passing : PassingLaw
+passing snapshot weights formed passes =
+    witnessed snapshot weights.committee formed
+    (λ target inside out. record {
+      weights = weights;
+      of_committee = refl;
+      feasible = passes.feasible;
+      below = passes.none_outweighs target inside out;
+    })
+
+-- a group that agrees on r targets and nominates fewer than r members is denied one of them
+module _ (snapshot : Snapshot) (committee : List ℕ) (formed : IsWellFormed snapshot) (group : List ℕ) (r : ℕ)
+    (some : 1 ≤ r) (cohesive : IsCohesive snapshot group r) where
+  abbrev members : List ℕ
+  members = filter (nominated_by snapshot group) committee
+
+  outside : length members < r → (k : ℕ) × (k < length cohesive.common) × (has committee (get_or cohesive.common k 0) ≡ false)
+  outside few = elim (all_or_one cohesive.common committee) [
     | inl all ↦ absurd (too_many all)
     | inr one ↦ one
   ] where
@@ -159,33 +204,37 @@ module _ (snapshot : Snapshot) (weights : Weights) (formed : IsWellFormed snapsh
       nonempty [] h = absurd (omega arith)
       nonempty (voter ∷ voters) h = omega arith
 
-    too_many : All (λ target. has weights.committee target ≡ true) cohesive.common → ⊥
+    too_many : All (λ target. has committee target ≡ true) cohesive.common → ⊥
     too_many all =
-        let covered = sum_covered (λ _. 1) cohesive.common represented cohesive.common_distinct
-        (λ k d h. filter_has (nominated_by snapshot group) weights.committee (get_or cohesive.common k d) (all k d h)
+        let covered = sum_covered (λ _. 1) cohesive.common members cohesive.common_distinct
+        (λ k d h. filter_has (nominated_by snapshot group) committee (get_or cohesive.common k d) (all k d h)
         (list_any_at (λ voter. nominates snapshot voter (get_or cohesive.common k d)) group 0 0 some_voter (cohesive.all_nominate 0 0 some_voter k d h))) in
-        omega (arith, few, covered, sum_of_ones cohesive.common, sum_of_ones represented, cohesive.common_count)
+        omega (arith, few, covered, sum_of_ones cohesive.common, sum_of_ones members, cohesive.common_count)
 
-  -- what the group has left counts for that target
-  left_counts : (k : ℕ) → k < length cohesive.common
-      → sum_by (slack t snapshot weights.edges) group ≤ prescore t snapshot weights.edges (get_or cohesive.common k 0)
-  left_counts k h = sum_covered (slack t snapshot weights.edges) group (nominators snapshot (get_or cohesive.common k 0)) group_distinct
-      (λ i d l. filter_has (λ voter. nominates snapshot voter (get_or cohesive.common k 0)) (range_with_len 0 (length snapshot.voters)) (get_or group i d)
-      (has_range 0 (length snapshot.voters) (get_or group i d) (omega arith) (omega (arith, cohesive.voters_in_range i d l)))
-      (cohesive.all_nominate i d l k 0 h))
+  -- the group is denied the one outside
+  denies : (few : length members < r) → IsDenied snapshot committee (get_or cohesive.common (outside few).0 0)
+  denies few = let one = outside few in record {
+    in_range = cohesive.common_in_range one.0 0 one.1;
+    outside = one.2;
+    group = group;
+    r = r;
+    claim = record {
+      rising = cohesive.rising;
+      voters_in_range = cohesive.voters_in_range;
+      all_nominate = λ i d l. cohesive.all_nominate i d l one.0 0 one.1;
+      enough_stake = cohesive.enough_stake;
+    };
+    few = omega (arith, few, length-filter (nominated_by snapshot group) committee);
+  }
 
-  enough : length represented < r → ⊥
-  enough few =
-      let one = outside few in
-      let below = passes.none_outweighs (get_or cohesive.common one.0 0) (cohesive.common_in_range one.0 0 one.1) one.2 in
-      short (length represented) r t (group_stake snapshot group) (sum_by (slack t snapshot weights.edges) group) (sum_by (paid t weights.edges) group)
-      few group_holds group_left group_pays (omega (arith, below, left_counts one.0 one.1))
-    where
-      short : (m r price stake left pays : ℕ) → m < r → r * price ≤ stake → stake ≤ left + pays → pays ≤ m * price → left < price → ⊥
-      short m r price stake left pays h holds split few_pays below = omega (arith, holds, split, few_pays, below, mul-le (m + 1) price r price (omega arith) (omega arith), add-mul m 1 price)
-
-pub averaging : AveragingLaw
-averaging snapshot weights formed passes group r some most cohesive = elim (cases_lt (count_by (nominated_by snapshot group) weights.committee) r) [
-  | inl few ↦ absurd (enough snapshot weights formed passes group r some cohesive (omega (arith, length-filter (nominated_by snapshot group) weights.committee)))
+pub answered : AnsweredLaw
+answered snapshot weights formed nobody group r some most cohesive = elim (cases_lt (count_by (nominated_by snapshot group) weights.committee) r) [
+  | inl few ↦
+      let short : length (filter (nominated_by snapshot group) weights.committee) < r = omega (arith, few, length-filter (nominated_by snapshot group) weights.committee) in
+      let one = outside snapshot weights.committee formed group r some cohesive short in
+      absurd (nobody (get_or cohesive.common one.0 0) (denies snapshot weights.committee formed group r some cohesive short))
   | inr h ↦ h
 ]
+
+pub averaging : AveragingLaw
+averaging snapshot weights formed passes = answered snapshot weights formed (passing snapshot weights formed passes)

@@ -1,3 +1,4 @@
+pub mod Answered
 pub mod Exchange
 pub mod GivenEdges
 pub mod Kept

@@ -1,4 +1,5 @@
 //! What holds of weights. Each law is the contract of a function that does nothing.
+ghost use Rattle.weight_book.specs.Answered.{AnsweredLaw, PassingLaw, WitnessLaw};
 ghost use Rattle.weight_book.specs.Exchange.{ExchangeLaw};
 ghost use Rattle.weight_book.specs.GivenEdges.{OneOrderLaw};
 ghost use Rattle.weight_book.specs.Proportional.{AveragingLaw};
@@ -20,4 +21,22 @@ pub fn voters_give_what_targets_get()
 /// support each target as all the edges do. Whoever sorts them comes to the same edges.
 pub fn edges_that_give_stand_in_one_order()
     ensures { OneOrderLaw }
+{}
+
+/// Where each target outside has feasible weights of the committee that leave its nominators less
+/// than the price of a seat, be they other weights for each, nobody is denied: each group of voters
+/// that all nominate one target outside has as many members, among all that it nominates, as its
+/// stake stands for seats. This is PJR+ of Brill and Peters, with stakes.
+pub fn committees_with_witnesses_are_answered()
+    ensures { WitnessLaw }
+{}
+
+/// A committee whose weights pass the check denies nobody, whoever made the weights.
+pub fn committees_that_pass_are_answered()
+    ensures { PassingLaw }
+{}
+
+/// A committee that denies nobody is proportional.
+pub fn answered_committees_are_proportional()
+    ensures { AnsweredLaw }
 {}

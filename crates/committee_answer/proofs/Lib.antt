@@ -1,0 +1,10 @@
+pub mod AnswerLemmas
+pub mod DualityLemmas
+pub mod HandLemmas
+pub mod LayLemmas
+pub mod LeadLemmas
+pub mod OfferLemmas
+pub mod ReachLemmas
+pub mod TableLemmas
+pub mod TellLemmas
+pub mod WayLemmas

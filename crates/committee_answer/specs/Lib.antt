@@ -1,0 +1,5 @@
+pub mod Denials
+pub mod Limits
+pub mod Offers
+pub mod Search
+pub mod Ways
