@@ -1,19 +1,20 @@
 -- What is told of a generated election.
-use Rattle.std.proofs.Common.{◌≡◌, ◌≢◌, ℕ, List, ◌++◌, Result, Ok, Err, IfOk, IfErr, OnOk, ap, ◌∙◌, append_assoc}
-use Rattle.compact_solution.specs.Solution.{Entry}
-use Rattle.compact_solution.specs.declared.packing.PackFault.{PackFault}
-use Rattle.compact_solution.specs.declared.packing.PackFault.TheVariants as faults
-use Rattle.bundle_reports.specs.Demo.{IsPackedAs}
+use Rattle.std.proofs.Common.{◌≡◌, ℕ, List, ◌++◌, Result, Ok, Err, OnOk, ap, sym, ◌∙◌, append_assoc}
+use Rattle.npos_base.specs.declared.miner.Miner.TheVariants as miners
+use Rattle.election_snapshot.specs.Snapshot.{Snapshot}
+use Rattle.weight_book.specs.Weights.{Weights}
+use Rattle.quota_fill.specs.Filled.{filled}
+use Rattle.seq_phragmen.specs.Mined.{mined}
+use Rattle.election_check.specs.Laws.{packed_of}
+use Rattle.election_work.specs.declared.finding.Finding.{Finding}
+use Rattle.election_work.specs.Mining.{Outcome, plain_mined, packed_mined, IsMining}
 
--- what packing answers is what is due
-pub packed_told : (due : Result (List (List Entry)) ℕ) (result : Result (List (List Entry)) PackFault) → IfOk result (λ solution. due ≡ Ok solution)
-    → IfErr result (λ fault. fault ≢ faults.NoMemory → (member : ℕ) × (fault ≡ faults.LostWinner member) × (due ≡ Err member)) → IsPackedAs due result
-packed_told due (Ok solution) is lost = is
-packed_told due (Err faults.NoMemory) is lost = tt
-packed_told due (Err (faults.LostWinner member)) is lost =
-    let l = lost (λ e. cc) in
-    let same : l.0 ≡ member = let e : faults.LostWinner member ≡ faults.LostWinner l.0 = l.1 in cc in
-    l.2 ∙ ap Err same
+pub fill_comes_to : (snapshot : Snapshot) (due : Result Outcome Finding) → IsMining miners.Fill snapshot due → due ≡ Ok (plain_mined snapshot (filled snapshot))
+fill_comes_to snapshot due (own, made, is) = is ∙ ap (λ (w : Weights). Ok (plain_mined snapshot w)) made
+
+pub seq_comes_to : (snapshot : Snapshot) (due : Result Outcome Finding) → IsMining miners.Seq snapshot due
+    → due ≡ packed_mined snapshot (packed_of snapshot (mined snapshot))
+seq_comes_to snapshot due (own, made, is) = is ∙ ap (λ (w : Weights). packed_mined snapshot (packed_of snapshot w)) made
 
 -- the three lines one behind the other
 pub lines_told : {E : Type 0} (result : Result (Unit {0}) E) (new before behind old size first last : List ℕ) → before ≡ old ++ size → behind ≡ before ++ first

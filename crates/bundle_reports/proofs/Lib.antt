@@ -1,7 +1,4 @@
-pub mod ReadingLemmas
 pub mod MineLaws
-pub mod SpelledLaws
-pub mod MinedLaws
 pub mod SoundLaws
 pub mod ReportLaws
 pub mod LongLaws

@@ -1,24 +1,15 @@
--- The election of the bytes of a bundle, with the work of its solver, and what is reported of that work.
-use Rattle.std.specs.Prelude.{ℕ, ◌-◌, nat_lt, if◌then◌else◌, List, [], ◌++◌, length, Result, Ok, Err}
-use Rattle.scale_wire.specs.declared.fault.WireFault.{WireFault}
-use Rattle.scale_wire.specs.WholeReading.{read_as}
-use Rattle.block_wire.specs.declared.bundle.Bundle.{Bundle}
-use Rattle.block_wire.specs.declared.bundle.Work.{Work}
-use Rattle.block_wire.specs.declared.bundle.Work.TheVariants.{Nothing, Packed, Plain}
-use Rattle.block_wire.specs.Bundles.{bundle_form}
-use Rattle.block_wire.specs.BundleLaws.{bundle_laws}
-use Rattle.election_snapshot.specs.declared.fault.SnapshotFault.{SnapshotFault}
-use Rattle.election_snapshot.specs.Snapshot.{Snapshot}
+-- What is reported of what was found of a bundle.
+use Rattle.std.specs.Prelude.{ℕ, List, ◌++◌}
 use Rattle.election_check.specs.declared.verdict.Verdict.{Verdict}
 use Rattle.election_check.specs.declared.verdict.Verdict.TheVariants.{Yes}
-use Rattle.election_check.specs.Plain.{verdict_plain}
-use Rattle.election_check.specs.Packed.{verdict_packed}
+use Rattle.election_work.specs.declared.finding.Finding.{Finding}
+use Rattle.election_work.specs.declared.finding.Finding.TheVariants.{Judged, Lost, Unsolved, Unread}
+use Rattle.election_work.specs.declared.reading.NoElection.{NoElection}
+use Rattle.election_work.specs.declared.reading.NoElection.TheVariants.{Long, Refused, Unelectable}
 use Rattle.bundle_reports.specs.declared.ending.Ending.{Ending}
 use Rattle.bundle_reports.specs.declared.ending.Ending.TheVariants as endings
-use Rattle.bundle_reports.specs.declared.reading.Election.{Election}
 use Rattle.bundle_reports.specs.Texts.{fault_line}
-use Rattle.bundle_reports.specs.Elections.{snapshot_of}
-use Rattle.bundle_reports.specs.Verdicts.{verdict_line, snapshot_line, no_solution_line, long_line}
+use Rattle.bundle_reports.specs.Verdicts.{verdict_line, snapshot_line, no_solution_line, lost_line, long_line}
 
 pub record Report : Type 0 where
   pub text : List ℕ
@@ -36,30 +27,24 @@ verdict_ending _ = endings.No
 abbrev pub told : List ℕ → Verdict → Report
 told lines verdict = record { text = lines ++ verdict_line verdict; ending = verdict_ending verdict }
 
-abbrev pub judged : Verdict → Report
-judged verdict = told [] verdict
+-- ## What was found
 
--- The verdict on the work. Work that is nothing is spelled by its tag, the last byte of the bundle.
-abbrev pub work_report : ℕ → Snapshot → Work → Report
-work_report size snapshot Nothing = faulty (no_solution_line (size - 1))
-work_report size snapshot (Packed claim solution) = judged (verdict_packed snapshot claim solution)
-work_report size snapshot (Plain committee edges) = judged
-    (verdict_plain snapshot (record { committee = committee; edges = edges }))
+abbrev pub no_election_line : NoElection → List ℕ
+no_election_line Long = long_line
+no_election_line (Refused fault) = fault_line fault.at fault.why
+no_election_line (Unelectable fault) = snapshot_line fault
 
--- ## The election
+abbrev pub finding_line : Finding → List ℕ
+finding_line (Judged verdict) = verdict_line verdict
+finding_line (Lost member) = lost_line member
+finding_line (Unsolved at) = no_solution_line at
+finding_line (Unread why) = no_election_line why
 
--- the election is built before its work is looked at
-abbrev pub election_of : Bundle → Result Snapshot SnapshotFault → Result Election Report
-election_of bundle (Ok snapshot) = Ok (record { snapshot = snapshot; work = bundle.work })
-election_of bundle (Err fault) = Err (faulty (snapshot_line fault))
+abbrev pub finding_ending : Finding → Ending
+finding_ending (Judged verdict) = verdict_ending verdict
+finding_ending (Lost member) = endings.No
+finding_ending (Unsolved at) = endings.BadInput
+finding_ending (Unread why) = endings.BadInput
 
--- the bundle is read whole before its election is built
-abbrev pub read_election : Result Bundle WireFault → Result Election Report
-read_election (Ok bundle) = election_of bundle (snapshot_of bundle)
-read_election (Err fault) = Err (faulty (fault_line fault.at fault.why))
-
--- the election that the bytes spell, or the report of their first fault
-abbrev pub election_in : List ℕ → Result Election Report
-election_in bytes =
-    if nat_lt 16777216 (length bytes) then Err (faulty long_line)
-    else read_election (read_as bundle_form bundle_laws bytes)
+abbrev pub reported : Finding → Report
+reported finding = record { text = finding_line finding; ending = finding_ending finding }

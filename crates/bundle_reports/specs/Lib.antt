@@ -1,7 +1,4 @@
 pub mod Texts
-pub mod Rounds
-pub mod Elections
-pub mod Growing
 pub mod Verdicts
 pub mod Bundles
 pub mod Mining

@@ -1,15 +1,14 @@
-//! What is answered on a bundle: a text and a ending.
-ghost use Rattle.std.specs.Prelude.{◌≡◌, ◌++◌, IfOk};
+//! What is answered on a bundle: a text and an ending.
+ghost use Rattle.std.specs.Prelude.{◌≡◌, ◌++◌, IfOk, OnOk};
 ghost use Rattle.bundle_reports.specs.Verdicts.{no_solution_line};
-ghost use Rattle.bundle_reports.specs.Bundles.{faulty, told, verdict_ending};
-ghost use Rattle.bundle_reports.specs.Mining.{lost_report};
-ghost use Rattle.bundle_reports.specs.Answer.{report_of, no_election_report};
+ghost use Rattle.bundle_reports.specs.Bundles.{told, verdict_ending, no_election_line, finding_line, finding_ending, reported};
+ghost use Rattle.bundle_reports.specs.Answer.{report_of};
 
 use crate::Ending;
 use crate::numbers::{tell_lost, tell_snapshot_fault, tell_verdict};
-use crate::reading::NoElection;
 use crate::telling::tell_fault;
 use election_check::Verdict;
+use election_work::{Finding, NoElection};
 use npos_base::NoMemory;
 use std::alloc::Global;
 use told_lines::{Piece, tell};
@@ -21,50 +20,72 @@ pub struct Answer {
     pub ending: Ending,
 }
 
-/// The answer of bytes that spell no election.
-pub fn no_election(alloc: Global, why: NoElection) -> Result<Answer, NoMemory>
-    ensures { IfOk result (λ answer. report_of answer ≡ no_election_report why) }
+/// Appends the line of a bundle without work, whose tag stands at this place.
+fn tell_unsolved(text: &mut Vec<u8>, at: u64) -> Result<(), NoMemory>
+    ensures { OnOk result (text.new.items ≡ text.old.items ++ no_solution_line at) }
 {
-    let mut text = Vec::new(alloc);
-    match why {
-        NoElection::Long => tell(&mut text, &[Piece::Words("fault 16777216 long\n")])?,
-        NoElection::Refused(fault) => tell_fault(&mut text, fault.at, fault.why)?,
-        NoElection::Unelectable(fault) => tell_snapshot_fault(&mut text, fault)?,
-    }
-    Ok(Answer {
-        text,
-        ending: Ending::BadInput,
-    })
-}
-
-/// The answer of a bundle without work, whose tag stands at this place.
-pub fn unsolved(alloc: Global, at: u64) -> Result<Answer, NoMemory>
-    ensures { IfOk result (λ answer. report_of answer ≡ faulty (no_solution_line at)) }
-{
-    let mut text = Vec::new(alloc);
     tell(
-        &mut text,
+        text,
         &[
             Piece::Words("fault "),
             Piece::Number(at),
             Piece::Words(" nosolution\n"),
         ],
-    )?;
-    Ok(Answer {
-        text,
-        ending: Ending::BadInput,
-    })
+    )
 }
 
-/// The answer of weights that lose this member as they are packed.
-pub fn lost(alloc: Global, member: u16) -> Result<Answer, NoMemory>
-    ensures { IfOk result (λ answer. report_of answer ≡ lost_report member) }
+/// Appends the line of bytes that spell no election.
+fn tell_no_election(text: &mut Vec<u8>, why: NoElection) -> Result<(), NoMemory>
+    ensures { OnOk result (text.new.items ≡ text.old.items ++ no_election_line why) }
+{
+    match why {
+        NoElection::Long => tell(text, &[Piece::Words("fault 16777216 long\n")]),
+        NoElection::Refused(fault) => tell_fault(text, fault.at, fault.why),
+        NoElection::Unelectable(fault) => tell_snapshot_fault(text, fault),
+    }
+}
+
+/// Appends the line of what was found.
+pub fn tell_finding(text: &mut Vec<u8>, finding: Finding) -> Result<(), NoMemory>
+    ensures { OnOk result (text.new.items ≡ text.old.items ++ finding_line finding) }
+{
+    match finding {
+        Finding::Judged(verdict) => tell_verdict(text, verdict),
+        Finding::Lost(member) => tell_lost(text, member),
+        Finding::Unsolved(at) => tell_unsolved(text, at),
+        Finding::Unread(why) => tell_no_election(text, why),
+    }
+}
+
+fn verdict_ending(verdict: Verdict) -> Ending
+    ensures { result ≡ verdict_ending verdict }
+{
+    match verdict {
+        Verdict::Yes => Ending::Done,
+        _ => Ending::No,
+    }
+}
+
+/// How what was found ends.
+pub fn finding_ending(finding: Finding) -> Ending
+    ensures { result ≡ finding_ending finding }
+{
+    match finding {
+        Finding::Judged(verdict) => verdict_ending(verdict),
+        Finding::Lost(_) => Ending::No,
+        Finding::Unsolved(_) | Finding::Unread(_) => Ending::BadInput,
+    }
+}
+
+/// The answer of what was found.
+pub fn finding_answer(alloc: Global, finding: Finding) -> Result<Answer, NoMemory>
+    ensures { IfOk result (λ answer. report_of answer ≡ reported finding) }
 {
     let mut text = Vec::new(alloc);
-    tell_lost(&mut text, member)?;
+    tell_finding(&mut text, finding)?;
     Ok(Answer {
         text,
-        ending: Ending::No,
+        ending: finding_ending(finding),
     })
 }
 
@@ -78,13 +99,4 @@ pub fn told(lines: Vec<u8>, verdict: Verdict) -> Result<Answer, NoMemory>
         text,
         ending: verdict_ending(verdict),
     })
-}
-
-fn verdict_ending(verdict: Verdict) -> Ending
-    ensures { result ≡ verdict_ending verdict }
-{
-    match verdict {
-        Verdict::Yes => Ending::Done,
-        _ => Ending::No,
-    }
 }

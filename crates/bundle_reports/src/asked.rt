@@ -1,4 +1,4 @@
-//! What is asked of the bytes of a bundle.
+//! What is asked of the bytes of a bundle besides what is to be made of its election.
 
 /// The form in which a bundle is written.
 #[derive(Clone, Copy, Debug, PartialEq, Eq)]
@@ -7,25 +7,4 @@ pub enum Rewriting {
     Pack,
     /// In JSON; it is read in SCALE.
     Show,
-}
-
-/// What is to be reported of a bundle.
-#[derive(Clone, Copy, Debug, PartialEq, Eq)]
-pub enum Task {
-    /// The verdict on its work.
-    Check,
-    /// The committee that a miner makes of its election, with the verdict on that. The work of the
-    /// bundle is not looked at.
-    Mine(Miner),
-}
-
-/// Who makes a committee.
-#[derive(Clone, Copy, Debug, PartialEq, Eq)]
-pub enum Miner {
-    /// The greedy fill, which always passes.
-    Fill,
-    /// Sequential Phragmén.
-    Seq,
-    /// PHRAGMMS, with so many balancing rounds after each pick.
-    Mms(u32),
 }

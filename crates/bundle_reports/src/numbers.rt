@@ -53,17 +53,18 @@ pub fn tell_score(text: &mut Vec<u8>, score: &Score) -> Result<(), NoMemory>
     tell(text, &[Piece::Words("\n")])
 }
 
-/// Appends the line of a score with the verdict on the weights that have it, behind some words.
+/// Appends the line of a score with the verdict on the weights that have it, behind the name of who
+/// made them.
 pub fn tell_judged(
     text: &mut Vec<u8>,
-    words: &str,
+    whose: &str,
     score: &Score,
     verdict: Verdict,
 ) -> Result<(), NoMemory>
     ensures { OnOk result (text.new.items ≡ text.old.items
-        ++ judged_line words.now score.now verdict) }
+        ++ judged_line whose.now score.now verdict) }
 {
-    tell(text, &[Piece::Words(words)])?;
+    tell(text, &[Piece::Words(whose), Piece::Words(" score")])?;
     tell_numbers(text, score)?;
     tell(text, &[Piece::Words(" ")])?;
     tell_verdict(text, verdict)

@@ -7,11 +7,11 @@ ghost use Rattle.bundle_reports.specs.Bundles.{faulty};
 ghost use Rattle.bundle_reports.specs.Rewriting.{pack_report, show_report, rewritten, rewrite_report};
 
 use crate::Ending;
-use crate::answers::{Answer, no_election};
+use crate::answers::{Answer, finding_answer};
 use crate::asked::Rewriting;
-use crate::reading::{MOST_BUNDLE, NoElection};
 use block_wire::Bundle;
 use bundle_json::{JsonFault, bundle_from_json, bundle_to_json};
+use election_work::{Finding, MOST_BUNDLE, NoElection};
 use npos_base::NoMemory;
 use scale_wire::fault::ReadFault;
 use scale_wire::{Pen, Wire, read_whole};
@@ -73,7 +73,10 @@ fn show(alloc: Global, bytes: &[u8]) -> Result<Answer, NoMemory>
 {
     match read_whole::<Bundle>(alloc, bytes) {
         Ok(bundle) => shown(alloc, &bundle),
-        Err(ReadFault::Wire(fault)) => no_election(alloc, NoElection::Refused(fault)),
+        Err(ReadFault::Wire(fault)) => finding_answer(
+            alloc,
+            Finding::Unread(NoElection::Refused(fault)),
+        ),
         Err(ReadFault::NoMemory) => Err(NoMemory),
     }
 }
@@ -83,7 +86,7 @@ pub fn rewrite_bytes(alloc: Global, bytes: Vec<u8>, way: Rewriting) -> Result<An
     ensures { IfOk result (λ answer. report_of answer ≡ rewrite_report way bytes.items) }
 {
     if bytes.len() > MOST_BUNDLE {
-        return no_election(alloc, NoElection::Long);
+        return finding_answer(alloc, Finding::Unread(NoElection::Long));
     }
     match way {
         Rewriting::Pack => pack(alloc, bytes.as_slice()),

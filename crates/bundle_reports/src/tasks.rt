@@ -1,34 +1,47 @@
 //! What is answered on the bytes of a bundle.
 ghost use Rattle.std.specs.Prelude.{◌≡◌, ◌≢◌, IfOk};
-ghost use Rattle.bundle_reports.specs.declared.asked.Task.TheVariants as tasks;
-ghost use Rattle.bundle_reports.specs.declared.asked.Miner.TheVariants as miners;
+ghost use Rattle.npos_base.specs.declared.miner.Miner.TheVariants as miners;
+ghost use Rattle.npos_base.specs.Miner.{HasRounds};
+ghost use Rattle.election_work.specs.declared.asked.Task.TheVariants as tasks;
+ghost use Rattle.election_work.specs.Findings.{found_in};
+ghost use Rattle.election_work.specs.Sound.{TaskHasRounds, IsSoundElection, IsSound};
 ghost use Rattle.bundle_reports.specs.declared.ending.Ending.TheVariants as endings;
-ghost use Rattle.bundle_reports.specs.Tasks.{IsTaskReport, IsBundleReport, IsSound, IsSoundElection};
+ghost use Rattle.bundle_reports.specs.Bundles.{reported};
+ghost use Rattle.bundle_reports.specs.Tasks.{IsMineReport, IsTaskReport, IsBundleReport};
 ghost use Rattle.bundle_reports.specs.Answer.{report_of};
-ghost use Rattle.bundle_reports.specs.Rounds.{TaskHasRounds};
 
-use crate::answers::{Answer, no_election};
-use crate::asked::Task;
-use crate::checking::check_work;
-use crate::laws::every_snapshot_is_well_formed;
-use crate::mining::mine;
-use crate::reading::{Election, Reading, read_election};
-use npos_base::NoMemory;
+use crate::answers::{Answer, finding_answer};
+use crate::mining::mining_answer;
+use election_work::{
+    Election, Finding, Reading, Task, check_election, mine_election, read_election,
+};
+use npos_base::{Miner, NoMemory};
 use std::alloc::Global;
 
-/// The answer on the election of a bundle that has so many bytes.
-fn report_on(alloc: Global, election: Election, task: Task, size: u64) -> Result<Answer, NoMemory>
-    requires { TaskHasRounds task }
-    ensures { IfOk result (λ answer. IsTaskReport task size election (report_of answer)) }
+/// The answer of a check of an election whose bundle has so many bytes.
+fn check_answer(alloc: Global, election: Election, size: u64) -> Result<Answer, NoMemory>
+    ensures report { IfOk result (λ answer. report_of answer ≡ reported (found_in size election)) }
+    ensures sound { IfOk result (λ answer. answer.ending ≡ endings.Done
+        → IsSoundElection tasks.Check election) }
 {
-    let Election { snapshot, work } = election;
-    match task {
-        Task::Check => check_work(alloc, snapshot, work, size),
-        Task::Mine(miner) => mine(alloc, snapshot, miner),
-    }
+    let found = check_election(alloc, election, size)?;
+    finding_answer(alloc, found)
 }
 
-/// The same, with what follows for weights that get a Yes.
+/// The answer of a miner on an election.
+fn mine_answer(alloc: Global, election: Election, miner: Miner) -> Result<Answer, NoMemory>
+    requires { HasRounds miner }
+    ensures report { IfOk result (λ answer. IsMineReport miner election.snapshot
+        (report_of answer)) }
+    ensures sound { IfOk result (λ answer. answer.ending ≡ endings.Done
+        → IsSoundElection (tasks.Mine miner) election) }
+    ensures passes { miner ≡ miners.Fill → IfOk result (λ answer. answer.ending ≢ endings.No) }
+{
+    let mining = mine_election(alloc, election, miner)?;
+    mining_answer(alloc, &mining)
+}
+
+/// The answer on the election of a bundle that has so many bytes.
 fn answer_election(
     alloc: Global,
     election: Election,
@@ -42,8 +55,10 @@ fn answer_election(
     ensures passes { task ≡ tasks.Mine miners.Fill
         → IfOk result (λ answer. answer.ending ≢ endings.No) }
 {
-    every_snapshot_is_well_formed(&election.snapshot);
-    report_on(alloc, election, task, size)
+    match task {
+        Task::Check => check_answer(alloc, election, size),
+        Task::Mine(miner) => mine_answer(alloc, election, miner),
+    }
 }
 
 /// The answer on the bytes of a bundle, which go once they are read.
@@ -60,6 +75,6 @@ pub fn answer_bytes(alloc: Global, bytes: Vec<u8>, task: Task) -> Result<Answer,
     drop(bytes);
     match read {
         Reading::Stands(election) => answer_election(alloc, election, task, size),
-        Reading::Refused(why) => no_election(alloc, why),
+        Reading::Refused(why) => finding_answer(alloc, Finding::Unread(why)),
     }
 }

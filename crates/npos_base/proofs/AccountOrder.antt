@@ -29,7 +29,9 @@ account_apart x y differ = by_order (account_cmp x y) refl where
 
 -- the test tells accounts apart exactly
 pub same_exact : (x y : AccountId) → same_account x y ≡ true → x ≡ y
-same_exact x y e = ap₂ (λ hi lo. record { hi = hi; lo = lo }) (number_tie x.hi y.hi (and_parts (nat_eq x.hi y.hi) (nat_eq x.lo y.lo) e).0) (number_tie x.lo y.lo (and_parts (nat_eq x.hi y.hi) (nat_eq x.lo y.lo) e).1)
+same_exact x y e = ap₂ (λ hi lo. record { hi = hi; lo = lo })
+    (number_tie x.hi y.hi (and_parts (nat_eq x.hi y.hi) (nat_eq x.lo y.lo) e).0)
+    (number_tie x.lo y.lo (and_parts (nat_eq x.hi y.hi) (nat_eq x.lo y.lo) e).1)
 
 pub same_itself : (x : AccountId) → same_account x x ≡ true
 same_itself x = rw (number_same x.hi, number_same x.lo) refl

@@ -1,5 +1,6 @@
 -- Writes one after another append their pieces one after another.
-use Rattle.std.proofs.Common.{◌≡◌, ℕ, ◌+◌, ◌-◌, List, [], ◌++◌, length, take, drop, Option, Some, None, Bool, true, false, nat_eq, if◌then◌else◌, refl, sym, ◌∙◌, ap, subst, append_assoc, arith, length-drop}
+use Rattle.std.proofs.Common.{◌≡◌, ℕ, ◌+◌, ◌-◌, List, [], ◌++◌, length, take, drop, Option, Some, None, Bool, true}
+use Rattle.std.proofs.Common.{false, nat_eq, if◌then◌else◌, refl, sym, ◌∙◌, ap, subst, append_assoc, arith, length-drop}
 use Rattle.std.proofs.lemmas.List.{append-nil, take_all}
 use Rattle.std.proofs.Math.Seq.{take-add}
 use Rattle.npos_base.specs.Outside.{Told, Appends, Flushes}

@@ -69,7 +69,8 @@ same_value (b ∷ bs) (c ∷ cs) l p q e =
     let both : b * 256 ^ length bs + value_of_bytes bs ≡ c * 256 ^ length bs + value_of_bytes cs =
     e ∙ ap (λ k. c * 256 ^ k + value_of_bytes cs) (sym lengths) in
     let first : b ≡ c = sym (div-mul-add b (256 ^ length bs) (value_of_bytes bs) low) ∙ ap (λ n. n / 256 ^ length bs) both ∙ div-mul-add c (256 ^ length bs) (value_of_bytes cs) other in
-    let rest : value_of_bytes bs ≡ value_of_bytes cs = sym (mod-mul-add b (256 ^ length bs) (value_of_bytes bs) low) ∙ ap (λ n. n % 256 ^ length bs) both ∙ mod-mul-add c (256 ^ length bs) (value_of_bytes cs) other in
+    let rest : value_of_bytes bs ≡ value_of_bytes cs = sym (mod-mul-add b (256 ^ length bs) (value_of_bytes bs) low)
+    ∙ ap (λ n. n % 256 ^ length bs) both ∙ mod-mul-add c (256 ^ length bs) (value_of_bytes cs) other in
     ap₂ (λ x xs. x ∷ xs) first (same_value bs cs lengths p.1 q.1 rest)
 
 pub high_first_value : (bs : List ℕ) → AreBytes bs → bytes_high_first (length bs) (value_of_bytes bs) ≡ bs

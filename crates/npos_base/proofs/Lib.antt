@@ -5,3 +5,4 @@ pub mod BigEndian
 pub mod NumberTests
 pub mod Refusals
 pub mod EntryLemmas
+pub mod MinerLaws

@@ -8,3 +8,4 @@ pub mod Refusal
 pub mod Room
 pub mod Score
 pub mod Limits
+pub mod Miner

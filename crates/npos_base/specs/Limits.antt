@@ -1,6 +1,8 @@
 -- The limits of a chain, in numbers: what the specifications of all rooms cite by name.
 use Rattle.std.specs.Prelude.{◌≡◌, ℕ, Bool, ◌&&◌, nat_le}
-use Rattle.npos_base.specs.declared.limits.TheConstants.{MOST_NOMINATIONS, MOST_VALIDATORS, MOST_TARGETS, MOST_VOTERS, MOST_EDGES, MOST_SEATS, MOST_THRESHOLDS, MOST_ENDOWMENTS, MOST_SOLUTION_BYTES, MOST_QUEUED, MOST_PAST_ERAS, WHOLE_FRACTION}
+use Rattle.npos_base.specs.declared.limits.TheConstants.{MOST_NOMINATIONS, MOST_VALIDATORS, MOST_TARGETS, MOST_VOTERS}
+use Rattle.npos_base.specs.declared.limits.TheConstants.{MOST_EDGES, MOST_SEATS, MOST_THRESHOLDS, MOST_ENDOWMENTS}
+use Rattle.npos_base.specs.declared.limits.TheConstants.{MOST_SOLUTION_BYTES, MOST_ROUNDS, MOST_QUEUED, MOST_PAST_ERAS, WHOLE_FRACTION}
 
 pub record AreTheLimits : Type 0 where
   pub nominations : MOST_NOMINATIONS ≡ 24
@@ -12,6 +14,7 @@ pub record AreTheLimits : Type 0 where
   pub thresholds : MOST_THRESHOLDS ≡ 200
   pub endowments : MOST_ENDOWMENTS ≡ 65536
   pub solution_bytes : MOST_SOLUTION_BYTES ≡ 2097152
+  pub rounds : MOST_ROUNDS ≡ 100
   pub queued : MOST_QUEUED ≡ 16
   pub past_eras : MOST_PAST_ERAS ≡ 84
   pub fraction : WHOLE_FRACTION ≡ 1000000000

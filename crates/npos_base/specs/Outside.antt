@@ -1,5 +1,6 @@
 -- The edge to the outside: a source that gives bytes, a sink that takes them, and their counts of faults.
-use Rattle.std.specs.Prelude.{◌≡◌, ⊤, ℕ, ◌+◌, ◌-◌, ◌^◌, ◌<◌, ◌≤◌, min, nat_eq, nat_lt, true, false, ◌||◌, ◌&&◌, List, [], ◌++◌, length, take, drop, Option, Some, None, Result, Ok, Err, IfOk, OnOk, OnErr, MatchResult}
+use Rattle.std.specs.Prelude.{◌≡◌, ⊤, ℕ, ◌+◌, ◌-◌, ◌^◌, ◌<◌, ◌≤◌, min, nat_eq, nat_lt, true, false, ◌||◌, ◌&&◌, List, []}
+use Rattle.std.specs.Prelude.{◌++◌, length, take, drop, Option, Some, None, Result, Ok, Err, IfOk, OnOk, OnErr, MatchResult}
 use Rattle.npos_base.specs.declared.outside.Asked.{Asked}
 use Rattle.npos_base.specs.declared.outside.Tried.{Tried}
 

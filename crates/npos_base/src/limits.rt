@@ -29,6 +29,9 @@ pub const MOST_ENDOWMENTS: u32 = 65_536;
 /// Bytes of a solution.
 pub const MOST_SOLUTION_BYTES: u32 = 2_097_152;
 
+/// Balancing rounds that PHRAGMMS is asked for.
+pub const MOST_ROUNDS: u32 = 100;
+
 /// Submissions that wait in one round.
 pub const MOST_QUEUED: u32 = 16;
 

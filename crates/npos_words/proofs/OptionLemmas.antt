@@ -12,7 +12,9 @@ use Rattle.std.proofs.lemmas.List.Elements.{All-head, All-tail}
 use Rattle.std.proofs.lemmas.Bool.{or_parts}
 use Rattle.clap.proofs.WalkLemmas.{list_any-map}
 use Rattle.clap.specs.Lexer.{long_of, short_of}
-use Rattle.clap.specs.Walk.{Held, Row, Rule, Text, Waiting, Walk, idle, option, after_step, at_row, arg_by_id, arg_by_index, arg_by_long, arg_by_short, finished, has_row, long_or_other, more_values, reading_by, settled, subcommand_met, used, walk_from, walked, with_default, with_values}
+use Rattle.clap.specs.Walk.{Held, Row, Rule, Text, Waiting, Walk, idle, option, after_step, at_row, arg_by_id}
+use Rattle.clap.specs.Walk.{arg_by_index, arg_by_long, arg_by_short, finished, has_row, long_or_other, more_values}
+use Rattle.clap.specs.Walk.{reading_by, settled, subcommand_met, used, walk_from, walked, with_default, with_values}
 use Rattle.clap.specs.Simple.{Shape, built, filled}
 use Rattle.clap.specs.Kinds.{Kinds, or_else}
 use Rattle.clap.specs.Takes.{is_given as is_given_row}

@@ -1,11 +1,13 @@
 -- Words are read as the options that they spell.
-use Rattle.std.proofs.Common.{◌≡◌, ◌∙◌, ◌⊎◌, inl, inr, ◌+◌, ℕ, Bool, true, false, suc, refl, sym, ap, ap₂, subst, arith, List, [], ◌∷◌, ◌++◌, take, drop, Option, Some, None, codes, All, true≢false, append-nil, append_assoc, eqb-true}
+use Rattle.std.proofs.Common.{◌≡◌, ◌∙◌, ◌⊎◌, inl, inr, ◌+◌, ℕ, Bool, true, false, suc, refl, sym, ap, ap₂, subst, arith, List, []}
+use Rattle.std.proofs.Common.{◌∷◌, ◌++◌, take, drop, Option, Some, None, codes, All, true≢false, append-nil, append_assoc, eqb-true}
 use Rattle.std.specs.List.{list_any, before_first, after_first, position_or_len}
 use Rattle.std.specs.Prelude.{◌==◌, is_some, unwrap_or}
 use Rattle.std.specs.Str.{bytes_eq}
 use Rattle.std.proofs.lemmas.List.Elements.{All-head, All-tail, All-cons, All-nil}
 use Rattle.std.proofs.lemmas.Bool.{or_parts}
-use Rattle.npos_words.specs.Options.{Text, Setting, begins_with_hyphen, flag_of, flag_text, is_among, is_equals_sign, is_given, name_and_value, options_from, with_flag, with_next_word, with_setting, with_value}
+use Rattle.npos_words.specs.Options.{Text, Setting, begins_with_hyphen, flag_of, flag_text, is_among, is_equals_sign, is_given}
+use Rattle.npos_words.specs.Options.{name_and_value, options_from, with_flag, with_next_word, with_setting, with_value}
 use Rattle.npos_words.specs.Laws.{AreApart, IsName, NamesAreNames, ReadsWhatIsSpelled, Spell, flag_word, joined_word}
 use Rattle.npos_words.proofs.OptionLemmas.{is_blank, same_text, equal_self}
 

@@ -7,11 +7,15 @@ use Rattle.clap.specs.Words.{first_value, found_of}
 use Rattle.clap.specs.declared.parser.matches.ArgMatches.{ArgMatches}
 use Rattle.npos_words.specs.declared.command.Command.{Command}
 use Rattle.npos_words.specs.declared.command.Command.TheVariants as commands
-use Rattle.npos_words.specs.declared.command.Miner.{Miner}
+use Rattle.npos_base.specs.declared.limits.TheConstants.{MOST_ROUNDS}
+use Rattle.npos_base.specs.declared.miner.Miner.{Miner}
+use Rattle.npos_base.specs.Miner.{named, KeepsRounds}
+use Rattle.npos_base.proofs.MinerLaws.{named_keeps}
 use Rattle.npos_words.specs.Found.{Finds}
 use Rattle.npos_words.specs.Numbers.{number_within}
 use Rattle.npos_words.specs.Options.{Setting, Text, options_of, value_of}
-use Rattle.npos_words.specs.Words.{Verb, Values, alone, asked_by, verbs, begins_with_verb, command_after, command_by, command_of, demo_by, demo_names, demo_of, has_verb, is_bare, is_verb, KeepsBounds, mine_by, mine_names, mine_of, miner_of, option_number, rounds_of}
+use Rattle.npos_words.specs.Words.{Verb, Values, asked_by, verbs, begins_with_verb, command_after, command_by, command_of, demo_names}
+use Rattle.npos_words.specs.Words.{demo_of, has_verb, is_bare, KeepsBounds, mine_names, mine_of, option_number, rounds_of}
 use Rattle.npos_words.proofs.NumberLemmas.{within_bounds}
 
 pub found_gives : {X : Type 0} (read : Values → Option X) (m : ArgMatches) (o : Option (List Setting)) → Finds (Some m) o
@@ -52,20 +56,25 @@ no_verb words e = go (list_any is_bare (drop 1 words)) (drop 1 words) e
 abbrev Within : ℕ → ℕ → Option ℕ → Type 0
 Within least most o = IfSome o (λ number. (least ≤ number) × (number ≤ most))
 
-rounds_kept : (miner : Miner) (text : Option Text) → KeepsBounds (option_map (commands.Mine miner) (rounds_of text))
-rounds_kept miner None = (omega arith, omega arith)
-rounds_kept miner (Some text) = by (number_within 1 100 text) (within_bounds 1 100 text)
-  where
-    by : (o : Option ℕ) → Within 1 100 o → KeepsBounds (option_map (commands.Mine miner) o)
-    by None h = tt
-    by (Some number) h = h
-
 mine_kept : (values : Values) → KeepsBounds (mine_of values)
-mine_kept values = by (option_and_then miner_of (values (codes "miner")))
+mine_kept values = by_rounds (values (codes "rounds"))
   where
-    by : (o : Option Miner) → KeepsBounds (option_and_then (λ miner. option_map (commands.Mine miner) (rounds_of (values (codes "rounds")))) o)
-    by None = tt
-    by (Some miner) = rounds_kept miner (values (codes "rounds"))
+    of : (o : Option Miner) → IfSome o KeepsRounds → KeepsBounds (option_map commands.Mine o)
+    of None keeps = tt
+    of (Some miner) keeps = keeps
+
+    by : (rounds : ℕ) → 1 ≤ rounds → rounds ≤ MOST_ROUNDS → (name : Option Text) → KeepsBounds (option_map commands.Mine (option_and_then (λ name. named name rounds) name))
+    by rounds some few None = tt
+    by rounds some few (Some name) = of (named name rounds) (named_keeps name rounds some few)
+
+    by_given : (o : Option ℕ) → Within 1 MOST_ROUNDS o
+        → KeepsBounds (option_and_then (λ rounds. option_map commands.Mine (option_and_then (λ name. named name rounds) (values (codes "miner")))) o)
+    by_given None within = tt
+    by_given (Some rounds) within = by rounds within.0 within.1 (values (codes "miner"))
+
+    by_rounds : (text : Option Text) → KeepsBounds (option_and_then (λ rounds. option_map commands.Mine (option_and_then (λ name. named name rounds) (values (codes "miner")))) (rounds_of text))
+    by_rounds None = by_given (Some 8) (omega arith, omega arith)
+    by_rounds (Some text) = by_given (number_within 1 MOST_ROUNDS text) (within_bounds 1 MOST_ROUNDS text)
 
 number_kept : (values : Values) (name : Text) (least most : ℕ) → Within least most (option_number values name least most)
 number_kept values name least most = by (values name)
@@ -112,7 +121,34 @@ asked_keeps (verb ∷ more) word words keeps = go (bytes_eq word verb.name) (ask
   go false others = others
 
 by_kept : (word : Text) (words : List Text) → KeepsBounds (command_by word words)
-by_kept word words = asked_keeps verbs word words ((λ w. alone_kept commands.Replay tt (options_of [] w)), ((λ w. alone_kept commands.Check tt (options_of [] w)), ((λ w. read_kept mine_of mine_kept (options_of mine_names w)), ((λ w. alone_kept commands.Pack tt (options_of [] w)), ((λ w. alone_kept commands.Show tt (options_of [] w)), ((λ w. read_kept demo_of demo_kept (options_of demo_names w)), ((λ w. alone_kept commands.Checkpoint tt (options_of [] w)), ((λ w. alone_kept commands.Resume tt (options_of [] w)), ((λ w. alone_kept commands.Pools tt (options_of [] w)), tt)))))))))
+by_kept word words = asked_keeps verbs word words (
+  (λ w. alone_kept commands.Replay tt (options_of [] w)),
+  (
+    (λ w. alone_kept commands.Check tt (options_of [] w)),
+    (
+      (λ w. read_kept mine_of mine_kept (options_of mine_names w)),
+      (
+        (λ w. alone_kept commands.Pack tt (options_of [] w)),
+        (
+          (λ w. alone_kept commands.Show tt (options_of [] w)),
+          (
+            (λ w. read_kept demo_of demo_kept (options_of demo_names w)),
+            (
+              (λ w. alone_kept commands.Checkpoint tt (options_of [] w)),
+              (
+                (λ w. alone_kept commands.Resume tt (options_of [] w)),
+                (
+                  (λ w. alone_kept commands.Pools tt (options_of [] w)),
+                  tt,
+                ),
+              ),
+            ),
+          ),
+        ),
+      ),
+    ),
+  ),
+)
 
 after_keeps : (words : List Text) → KeepsBounds (command_after words)
 after_keeps [] = tt

@@ -2,26 +2,12 @@
 use Rattle.std.specs.Prelude.{⊤, ℕ, ◌≤◌, Bool, false, not, ◌&&◌, ◌||◌, ◌^◌, ◌-◌, List, [], ◌∷◌, drop, codes, Option, Some, None, option_map, option_and_then, if◌then◌else◌}
 use Rattle.std.specs.List.{list_any}
 use Rattle.std.specs.Str.{bytes_eq}
-use Rattle.npos_base.specs.declared.limits.TheConstants.{MOST_SEATS, MOST_VOTERS}
+use Rattle.npos_base.specs.declared.limits.TheConstants.{MOST_ROUNDS, MOST_SEATS, MOST_VOTERS}
+use Rattle.npos_base.specs.Miner.{named, KeepsRounds}
 use Rattle.npos_words.specs.declared.command.Command.{Command}
 use Rattle.npos_words.specs.declared.command.Command.TheVariants as commands
-use Rattle.npos_words.specs.declared.command.Miner.{Miner}
-use Rattle.npos_words.specs.declared.command.Miner.TheVariants as miners
 use Rattle.npos_words.specs.Numbers.{number_within}
 use Rattle.npos_words.specs.Options.{Text, options_of, value_of}
-
--- ## The values
-
-abbrev pub miner_of : Text → Option Miner
-miner_of text =
-    if bytes_eq text (codes "fill") then Some miners.Fill
-    else if bytes_eq text (codes "seq") then Some miners.Seq
-    else if bytes_eq text (codes "mms") then Some miners.Mms
-    else None
-
-abbrev pub rounds_of : Option Text → Option ℕ
-rounds_of None = Some 8
-rounds_of (Some text) = number_within 1 100 text
 
 -- ## The commands, by the value of each option that is given
 
@@ -32,10 +18,16 @@ Values = Text → Option Text
 abbrev pub option_number : Values → Text → ℕ → ℕ → Option ℕ
 option_number values name least most = option_and_then (number_within least most) (values name)
 
+-- 8 rounds where none are given
+abbrev pub rounds_of : Option Text → Option ℕ
+rounds_of None = Some 8
+rounds_of (Some text) = number_within 1 MOST_ROUNDS text
+
+-- the rounds are within their bounds whoever mines
 abbrev pub mine_of : Values → Option Command
 mine_of values =
-    option_and_then (λ miner. option_map (commands.Mine miner) (rounds_of (values (codes "rounds"))))
-    (option_and_then miner_of (values (codes "miner")))
+    option_and_then (λ rounds. option_map commands.Mine (option_and_then (λ name. named name rounds) (values (codes "miner"))))
+    (rounds_of (values (codes "rounds")))
 
 abbrev pub demo_of : Values → Option Command
 demo_of values =
@@ -122,7 +114,7 @@ has_verb words = begins_with_verb (drop 1 words) && not (list_any is_bare (drop 
 
 -- each number of a command is one that its option may have
 abbrev pub KeepsBounds : Option Command → Type 0
-KeepsBounds (Some (commands.Mine miner rounds)) = (1 ≤ rounds) × (rounds ≤ 100)
+KeepsBounds (Some (commands.Mine miner)) = KeepsRounds miner
 KeepsBounds (Some (commands.Demo seed voters seats)) = (1 ≤ voters) × (voters ≤ MOST_VOTERS)
     × (1 ≤ seats) × (seats ≤ MOST_SEATS)
 KeepsBounds command = ⊤

@@ -1,5 +1,7 @@
 //! What a call may ask for.
 
+use npos_base::Miner;
+
 /// What the program is to do.
 #[derive(Clone, Copy, Debug, PartialEq, Eq)]
 pub enum Command {
@@ -7,14 +9,8 @@ pub enum Command {
     Replay,
     /// To judge the work of a bundle.
     Check,
-    /// To make a committee of a bundle's election.
-    Mine {
-        /// Who makes it.
-        miner: Miner,
-        /// How many balancing rounds follow each pick of PHRAGMMS, from 1 to 100. The other miners
-        /// do not look at it.
-        rounds: u32,
-    },
+    /// To make a committee of a bundle's election. PHRAGMMS has 1 to 100 balancing rounds.
+    Mine(Miner),
     /// To read a bundle in JSON and to write it in SCALE.
     Pack,
     /// To read a bundle in SCALE and to write it in JSON.
@@ -34,15 +30,4 @@ pub enum Command {
     Resume,
     /// To go through what is asked of a stake pool.
     Pools,
-}
-
-/// Who makes a committee.
-#[derive(Clone, Copy, Debug, PartialEq, Eq)]
-pub enum Miner {
-    /// The greedy fill, which always passes.
-    Fill,
-    /// Sequential Phragmén.
-    Seq,
-    /// PHRAGMMS.
-    Mms,
 }

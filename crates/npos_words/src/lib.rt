@@ -7,5 +7,5 @@ mod numbers;
 mod options;
 mod words;
 
-pub use command::{Command, Miner};
+pub use command::Command;
 pub use words::command_of;

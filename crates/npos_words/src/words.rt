@@ -2,36 +2,24 @@
 ghost use Rattle.std.specs.Prelude.{◌≡◌, ◌≤◌, IsOk, false, drop, map, option_map, IfOk, IfSome, string_bytes};
 ghost use Rattle.std.specs.List.{list_any};
 ghost use Rattle.clap.specs.Words.{found_of, first_value};
-ghost use Rattle.npos_words.specs.Words.{command_of, command_after, command_by, alone, mine_by, demo_by, mine_of, demo_of, miner_of, rounds_of, option_number, is_bare, is_verb, begins_with_verb, has_verb, KeepsBounds};
+ghost use Rattle.npos_words.specs.Words.{command_of, command_after, command_by, alone, mine_by, demo_by, mine_of, demo_of, rounds_of, option_number, is_bare, is_verb, begins_with_verb, has_verb, KeepsBounds};
 
+use crate::Command;
 use crate::numbers::number_within;
 use crate::options::options_of;
-use crate::{Command, Miner};
 use clap::ArgMatches;
-use npos_base::{MOST_SEATS, MOST_VOTERS, NoMemory};
+use npos_base::{MOST_ROUNDS, MOST_SEATS, MOST_VOTERS, Miner, NoMemory};
 use std::alloc::Global;
 
 /// The rounds where none are given.
 const ROUNDS: u32 = 8;
 
-/// The miner of this name.
-fn miner_of(text: &str) -> Option<Miner>
-    ensures { result ≡ miner_of text.now }
-{
-    match text {
-        "fill" => Some(Miner::Fill),
-        "seq" => Some(Miner::Seq),
-        "mms" => Some(Miner::Mms),
-        _ => None,
-    }
-}
-
-/// The rounds that the option gives.
+/// The rounds that the option gives. They are looked at whoever mines.
 fn rounds_of(text: Option<&str>) -> Option<u32>
     ensures { result ≡ rounds_of (option_map (λ text. text.now) text.entry) }
 {
     match text {
-        Some(text) => Some(number_within(text, 1, 100)? as u32),
+        Some(text) => Some(number_within(text, 1, u64::from(MOST_ROUNDS))? as u32),
         None => Some(ROUNDS),
     }
 }
@@ -48,9 +36,9 @@ fn option_number(options: &ArgMatches, name: &str, least: u64, most: u64) -> Opt
 fn mine_of(options: &ArgMatches) -> Option<Command>
     ensures { result ≡ mine_of (first_value (found_of options.now)) }
 {
-    let miner = miner_of(options.get_str("miner")?)?;
     let rounds = rounds_of(options.get_str("rounds"))?;
-    Some(Command::Mine { miner, rounds })
+    let miner = Miner::named(options.get_str("miner")?, rounds)?;
+    Some(Command::Mine(miner))
 }
 
 /// The command of the verb `demo` with these options.

@@ -12,6 +12,7 @@ returns c = record {
   thresholds = refl;
   endowments = refl;
   solution_bytes = refl;
+  rounds = refl;
   queued = refl;
   past_eras = refl;
   fraction = refl;

@@ -1,6 +1,0 @@
-use Rattle.std.proofs.Common.{◌≡◌, drop}
-use Rattle.bundle_reports.specs.Elections.{with_targets}
-use Rattle.bundle_reports.proofs.election.add_targets.Given as goal
-
-abbrev pub invariant-loop-who : goal.invariant-loop-who
-invariant-loop-who l = with_targets (drop l.who-index l.targets) l.builder ≡ with_targets l.targets l.fn.builder
