@@ -1,0 +1,2 @@
+pub mod SeatingLemmas
+pub mod ReportLemmas

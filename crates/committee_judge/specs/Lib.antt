@@ -1,0 +1,3 @@
+pub mod Committees
+pub mod Judgements
+pub mod Reports
