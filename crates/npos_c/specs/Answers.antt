@@ -3,14 +3,14 @@ use Rattle.std.specs.Prelude.{◌≡◌, ◌⊎◌, ℕ, nat_lt, ◌≤◌, if�
 use Rattle.npos_base.specs.declared.limits.TheConstants.{MOST_SEATS, MOST_VOTERS}
 use Rattle.bundle_reports.specs.declared.ending.Ending.{Ending}
 use Rattle.bundle_reports.specs.declared.ending.Ending.TheVariants as endings
-use Rattle.bundle_reports.specs.Bundles.{Report}
+use Rattle.election_work.specs.declared.finding.Finding.{Finding}
+use Rattle.bundle_reports.specs.Bundles.{Report, finding_ending}
 use Rattle.bundle_reports.specs.Demo.{demo_report}
 use Rattle.npos_c.specs.declared.asked.Asked.{Asked}
-use Rattle.npos_c.specs.declared.finding.Finding.{Finding}
 use Rattle.npos_c.specs.declared.finding.NposFinding.{NposFinding}
 use Rattle.npos_c.specs.declared.numbers.TheConstants.{DONE, NO, UNKNOWN, BAD_INPUT, NO_MEMORY, SMALL}
 use Rattle.npos_c.specs.Buffers.{over}
-use Rattle.npos_c.specs.Findings.{reported, told_as}
+use Rattle.npos_c.specs.Findings.{told_as}
 use Rattle.npos_c.specs.Asked.{IsDue}
 
 -- the number of an ending is the exit status of the program
@@ -20,18 +20,16 @@ ending_number endings.No = NO
 ending_number endings.BadInput = BAD_INPUT
 
 abbrev pub answer_of : Finding → ℕ
-answer_of finding = ending_number (reported finding).ending
+answer_of finding = ending_number (finding_ending finding)
 
 -- what memory was refused for is left as it was
 abbrev pub IsLeft : {A : Type 0} → ℕ → A → A → ℕ → Type 0
 IsLeft number old new answer = (answer ≡ number) × (new ≡ old)
 
--- memory was refused, or a finding whose report is due is told
-abbrev pub IsFound : (Report → Type 0) → NposFinding → NposFinding → ℕ → Type 0
-IsFound IsDueReport old new answer =
-    IsLeft NO_MEMORY old new answer
-    ⊎ ((finding : Finding) × IsDueReport (reported finding) × (new ≡ told_as finding)
-    × (answer ≡ answer_of finding))
+-- memory was refused, or what is found is told
+abbrev pub IsFound : Finding → NposFinding → NposFinding → ℕ → Type 0
+IsFound finding old new answer =
+    IsLeft NO_MEMORY old new answer ⊎ ((new ≡ told_as finding) × (answer ≡ answer_of finding))
 
 -- ## Texts
 

@@ -3,3 +3,5 @@ pub mod Findings
 pub mod Asked
 pub mod Answers
 pub mod Mining
+pub mod Judging
+pub mod Limits

@@ -17,3 +17,11 @@ pub fn put_members(buffer: &mut [u16], members: &[u16])
 {
     buffer[..members.len()].copy_from_slice(members);
 }
+
+/// Puts the voters at the front of a buffer in which they have room.
+pub fn put_voters(buffer: &mut [u32], voters: &[u32])
+    requires { length voters.now ≤ length buffer.old }
+    ensures { buffer.new ≡ over voters.now buffer.old }
+{
+    buffer[..voters.len()].copy_from_slice(voters);
+}

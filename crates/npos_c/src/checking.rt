@@ -1,61 +1,27 @@
 //! The verdict on the work of a bundle.
-ghost use Rattle.std.specs.Prelude.{◌≡◌, ◌≤◌, length, IfOk};
-ghost use Rattle.bundle_reports.specs.declared.asked.Task.TheVariants as tasks;
-ghost use Rattle.bundle_reports.specs.declared.ending.Ending.TheVariants as endings;
-ghost use Rattle.bundle_reports.specs.Bundles.{work_report};
-ghost use Rattle.bundle_reports.specs.Tasks.{IsTaskReport, IsBundleReport, IsSoundElection, IsSound};
-ghost use Rattle.npos_c.specs.Findings.{reported};
+ghost use Rattle.std.specs.Prelude.{◌≡◌, IfOk};
+ghost use Rattle.election_check.specs.declared.verdict.Verdict.TheVariants.{Yes};
+ghost use Rattle.election_work.specs.declared.asked.Task.TheVariants as tasks;
+ghost use Rattle.election_work.specs.declared.finding.Finding.TheVariants as findings;
+ghost use Rattle.election_work.specs.Findings.{bundle_found};
+ghost use Rattle.election_work.specs.Sound.{IsSound};
 ghost use Rattle.npos_c.specs.Answers.{IsFound};
 
-use crate::finding::{Finding, NposFinding, told_as};
+use crate::finding::{NposFinding, told_as};
 use crate::numbers::{NO_MEMORY, answer_of};
-use crate::reading::{Reading, read_election};
-use block_wire::Work;
-use bundle_reports::laws::every_snapshot_is_well_formed;
-use bundle_reports::{Election, packed_verdict, plain_verdict};
-use election_snapshot::Snapshot;
+use election_work::{Finding, Reading, check_election, read_election};
 use npos_base::NoMemory;
 use std::alloc::Global;
 
-/// What is found of the work in a bundle that has so many bytes.
-fn check_work(alloc: Global, snapshot: Snapshot, work: Work, size: u64) -> Result<Finding, NoMemory>
-    ensures { IfOk result (λ finding. reported finding ≡ work_report size snapshot work) }
-{
-    match work {
-        Work::Nothing => Ok(Finding::Unsolved(size.saturating_sub(1))),
-        Work::Packed { claim, bytes } => {
-            let verdict = packed_verdict(alloc, snapshot, &claim, bytes.as_slice())?;
-            Ok(Finding::Judged(verdict))
-        }
-        Work::Plain { committee, edges } => {
-            let verdict = plain_verdict(alloc, snapshot, committee, edges)?;
-            Ok(Finding::Judged(verdict))
-        }
-    }
-}
-
-/// What is found of the work on an election, with what follows for weights that get a Yes.
-fn check_election(alloc: Global, election: Election, size: u64) -> Result<Finding, NoMemory>
-    ensures report { IfOk result (λ finding. IsTaskReport tasks.Check size election
-        (reported finding)) }
-    ensures sound { IfOk result (λ finding. (reported finding).ending ≡ endings.Done
-        → IsSoundElection tasks.Check election) }
-{
-    every_snapshot_is_well_formed(&election.snapshot);
-    let Election { snapshot, work } = election;
-    check_work(alloc, snapshot, work, size)
-}
-
 /// What a check finds of the bytes of a bundle.
 fn check_bytes(alloc: Global, bytes: &[u8]) -> Result<Finding, NoMemory>
-    ensures report { IfOk result (λ finding. IsBundleReport tasks.Check bytes.now
-        (reported finding)) }
-    ensures sound { IfOk result (λ finding. (reported finding).ending ≡ endings.Done
+    ensures found { IfOk result (λ finding. finding ≡ bundle_found bytes.now) }
+    ensures sound { IfOk result (λ finding. finding ≡ findings.Judged Yes
         → IsSound tasks.Check bytes.now) }
 {
     match read_election(alloc, bytes)? {
         Reading::Stands(election) => check_election(alloc, election, bytes.len() as u64),
-        Reading::Refused(finding) => Ok(finding),
+        Reading::Refused(why) => Ok(Finding::Unread(why)),
     }
 }
 
@@ -64,8 +30,7 @@ fn check_bytes(alloc: Global, bytes: &[u8]) -> Result<Finding, NoMemory>
 /// memory was refused; then nothing is written.
 #[unsafe(no_mangle)]
 pub extern "C" fn npos_c_check(alloc: Global, bundle: &[u8], finding: &mut NposFinding) -> u32
-    ensures found { IsFound (IsBundleReport tasks.Check bundle.now) finding.old finding.new
-        result }
+    ensures found { IsFound (bundle_found bundle.now) finding.old finding.new result }
     ensures sound { result ≡ 0 → IsSound tasks.Check bundle.now }
 {
     match check_bytes(alloc, bundle) {

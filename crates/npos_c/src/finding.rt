@@ -1,30 +1,14 @@
-//! What is found of a bundle, and the numbers that it is told by.
+//! The numbers by which it is told what was found of a bundle.
 ghost use Rattle.std.specs.Prelude.{◌≡◌, ◌/◌, ◌%◌, ◌^◌, [], ◌∷◌};
 ghost use Rattle.election_check.specs.Number.{verdict_number};
+ghost use Rattle.election_work.specs.declared.finding.Finding.TheVariants as findings;
 ghost use Rattle.bundle_reports.specs.Verdicts.{verdict_details, fault_numbers};
 ghost use Rattle.npos_c.specs.Findings.{figures, told_as};
 
-use bundle_reports::{MOST_BUNDLE, numbers_of};
+use bundle_reports::numbers_of;
 use election_check::Verdict;
 use election_snapshot::SnapshotFault;
-use scale_wire::fault::WireFault;
-
-/// What is found of the bytes of a bundle.
-#[derive(Clone, Copy, Debug)]
-pub enum Finding {
-    /// The verdict on the work, or on what was mined.
-    Judged(Verdict),
-    /// The lowest member to whom no edge is kept as weights are packed.
-    Lost(u16),
-    /// The bytes spell no bundle.
-    Refused(WireFault),
-    /// The election of the bundle has this fault.
-    Unelectable(SnapshotFault),
-    /// The work of the bundle is nothing; its tag stands at this place.
-    Unsolved(u64),
-    /// There are more bytes than a bundle has.
-    Long,
-}
+use election_work::{Finding, MOST_BUNDLE, NoElection};
 
 /// What is found of a bundle, in numbers: of which kind it is, its number among those of its kind,
 /// and up to three details. A detail that it does not have is 0. The third stands in two parts of
@@ -126,6 +110,17 @@ fn fault_figures(fault: SnapshotFault) -> NposFinding
     figures(UNELECTABLE, numbers.number, numbers.detail, seats)
 }
 
+/// Why bytes spell no election, in numbers.
+fn unread_figures(why: NoElection) -> NposFinding
+    ensures { result ≡ told_as (findings.Unread why) }
+{
+    match why {
+        NoElection::Refused(fault) => figures(REFUSED, u32::from(fault.why.number()), fault.at, 0),
+        NoElection::Unelectable(fault) => fault_figures(fault),
+        NoElection::Long => figures(LONG, 0, MOST_BUNDLE as u64, 0),
+    }
+}
+
 /// A finding in numbers.
 pub fn told_as(finding: Finding) -> NposFinding
     ensures { result ≡ told_as finding }
@@ -133,9 +128,7 @@ pub fn told_as(finding: Finding) -> NposFinding
     match finding {
         Finding::Judged(verdict) => verdict_figures(verdict),
         Finding::Lost(member) => figures(LOST, 0, u64::from(member), 0),
-        Finding::Refused(fault) => figures(REFUSED, u32::from(fault.why.number()), fault.at, 0),
-        Finding::Unelectable(fault) => fault_figures(fault),
         Finding::Unsolved(at) => figures(UNSOLVED, 0, at, 0),
-        Finding::Long => figures(LONG, 0, MOST_BUNDLE as u64, 0),
+        Finding::Unread(why) => unread_figures(why),
     }
 }

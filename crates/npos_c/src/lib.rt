@@ -6,11 +6,13 @@ mod buffers;
 mod checking;
 mod demo;
 mod finding;
+mod judging;
+pub mod laws;
 mod mined;
 mod mining;
 mod numbers;
-mod reading;
 mod reporting;
 
 pub use finding::NposFinding;
+pub use judging::NposDenied;
 pub use mined::NposMined;

@@ -1,31 +1,12 @@
 //! What was mined, and how it is handed out.
 ghost use Rattle.std.specs.Prelude.{◌≡◌};
-ghost use Rattle.bundle_reports.specs.declared.ending.Ending.TheVariants as endings;
-ghost use Rattle.npos_c.specs.Mining.{outcome_of, due_of, handed, hand_answer, hand_of, told_outcome};
+ghost use Rattle.election_work.specs.Mining.{outcome_of, due_of};
+ghost use Rattle.npos_c.specs.Mining.{bytes_in, handed, hand_answer, hand_of, told_outcome};
 
 use crate::buffers::{put_bytes, put_members};
-use crate::finding::{Finding, NposFinding, halves_of, told_as};
+use crate::finding::{NposFinding, halves_of, told_as};
 use crate::numbers::{SMALL, answer_of, verdict_answer};
-use election_check::Verdict;
-use npos_base::{List, Score};
-use weight_book::Weights;
-
-/// A committee that was mined, its members rising, with its score, the bytes of its solution where
-/// it is packed, and the verdict on it.
-#[derive(Drop)]
-pub struct Mined {
-    pub weights: Weights,
-    pub score: Score,
-    pub bytes: List<u8>,
-    pub verdict: Verdict,
-}
-
-/// What a miner makes of a bundle.
-#[derive(Drop)]
-pub enum Mining {
-    Done(Mined),
-    Refused(Finding),
-}
+use election_work::{Finding, Mined, Mining};
 
 /// What was mined, in numbers: how many members and how many bytes of a solution there are, the
 /// score, whose third part stands in two parts of 64 bits, and what was found. Where nothing was
@@ -42,6 +23,16 @@ pub struct NposMined {
     pub finding: NposFinding,
 }
 
+/// The bytes of the solution. Weights that are not packed have none.
+fn bytes_of(mined: &Mined) -> &[u8]
+    ensures { result.now ≡ bytes_in mined.now.solution }
+{
+    match &mined.solution {
+        Some(bytes) => bytes.as_slice(),
+        None => &[],
+    }
+}
+
 /// What was mined in numbers.
 fn told_outcome(mined: &Mined) -> NposMined
     ensures { result ≡ told_outcome (outcome_of mined.now) }
@@ -49,7 +40,7 @@ fn told_outcome(mined: &Mined) -> NposMined
     let (squares_high, squares_low) = halves_of(mined.score.squares);
     NposMined {
         members: mined.weights.committee().len(),
-        bytes: mined.bytes.len(),
+        bytes: bytes_of(mined).len(),
         minimal: mined.score.minimal,
         sum: mined.score.sum,
         squares_high,
@@ -67,11 +58,12 @@ fn hand_mined(mined: &Mined, committee: &mut [u16], bytes: &mut [u8], told: &mut
 {
     *told = told_outcome(mined);
     let members = mined.weights.committee();
-    if members.len() > committee.len() || mined.bytes.len() > bytes.len() {
+    let solution = bytes_of(mined);
+    if members.len() > committee.len() || solution.len() > bytes.len() {
         return SMALL;
     }
     put_members(committee, members);
-    put_bytes(bytes, mined.bytes.as_slice());
+    put_bytes(bytes, solution);
     verdict_answer(mined.verdict)
 }
 

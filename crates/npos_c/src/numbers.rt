@@ -3,9 +3,9 @@ ghost use Rattle.std.specs.Prelude.{◌≡◌};
 ghost use Rattle.npos_c.specs.Answers.{ending_number, answer_of};
 ghost use Rattle.bundle_reports.specs.Bundles.{verdict_ending};
 
-use crate::finding::Finding;
 use bundle_reports::Ending;
 use election_check::Verdict;
+use election_work::Finding;
 
 /// What was asked is done; of a verdict, it is Yes.
 pub const DONE: u32 = 0;
@@ -19,8 +19,6 @@ pub const BAD_INPUT: u32 = 3;
 pub const NO_MEMORY: u32 = 6;
 /// A buffer is too small.
 pub const SMALL: u32 = 8;
-/// The most balancing rounds of PHRAGMMS.
-pub const MOST_ROUNDS: u32 = 100;
 
 /// The number of a report's ending.
 pub fn ending_number(ending: Ending) -> u32
@@ -50,8 +48,6 @@ pub fn answer_of(finding: Finding) -> u32
     match finding {
         Finding::Judged(verdict) => verdict_answer(verdict),
         Finding::Lost(_) => NO,
-        Finding::Refused(_) | Finding::Unelectable(_) | Finding::Unsolved(_) | Finding::Long => {
-            BAD_INPUT
-        }
+        Finding::Unsolved(_) | Finding::Unread(_) => BAD_INPUT,
     }
 }

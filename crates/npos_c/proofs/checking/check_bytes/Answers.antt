@@ -1,7 +1,6 @@
 use Rattle.std.proofs.Common.{subst}
-use Rattle.npos_c.specs.declared.reading.Reading.{Reading}
-use Rattle.npos_c.specs.Findings.{IsReading}
-use Rattle.bundle_reports.specs.Bundles.{election_in}
+use Rattle.election_work.specs.declared.reading.Reading.{Reading}
+use Rattle.election_work.specs.Bundles.{election_in, IsReading}
 use Rattle.npos_c.proofs.YesLaws.{sound_found}
 use Rattle.npos_c.proofs.checking.check_bytes.Goals as goal
 

@@ -1,6 +1,7 @@
 use Rattle.std.proofs.Common.{sym, subst, ◌∙◌, Option}
-use Rattle.bundle_reports.specs.declared.asked.Miner.{Miner}
-use Rattle.npos_c.specs.Mining.{due_of, hand_of, IsSoundFor}
+use Rattle.npos_base.specs.declared.miner.Miner.{Miner}
+use Rattle.election_work.specs.Mining.{due_of}
+use Rattle.npos_c.specs.Mining.{hand_of, IsSoundFor}
 use Rattle.npos_c.proofs.YesLaws.{hand_done}
 use Rattle.npos_c.proofs.mining.npos_c_mine.Goals as goal
 
