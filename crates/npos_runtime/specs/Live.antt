@@ -8,9 +8,9 @@ use Rattle.npos_runtime.specs.declared.chain.Chain.{Chain}
 use Rattle.block_wire.specs.declared.genesis.Params.{Params}
 use Rattle.chain_params.specs.Rules.{era_of, place_of, places_of}
 use Rattle.chain_params.specs.Faults.{AreSound, CanWait}
-use Rattle.npos_runtime.specs.Ballots.{commission_in}
-use Rattle.npos_runtime.specs.Committee.{Committee}
-use Rattle.npos_runtime.specs.BookCalls.{release_now}
+use Rattle.npos_runtime.specs.Rules.Ballots.{commission_in}
+use Rattle.npos_runtime.specs.Rules.Committee.{Committee}
+use Rattle.npos_runtime.specs.Rules.BookCalls.{release_now}
 use Rattle.npos_base.specs.Account.{same_account}
 use Rattle.voter_lists.specs.Ranked.{AreRanked}
 use Rattle.voter_lists.specs.Roles.{RoleList, role_of, nominated_by, validators_of, has_repeated_account}
@@ -25,7 +25,7 @@ use Rattle.era_book.specs.Members.{Members}
 use Rattle.npos_runtime.specs.declared.round.Round.{Round}
 use Rattle.npos_runtime.specs.declared.round.Round.TheVariants.{Open}
 use Rattle.round_decision.specs.Deposits.{AreHeld}
-use Rattle.npos_runtime.specs.Lists.{has_role}
+use Rattle.npos_runtime.specs.Rules.Lists.{has_role}
 
 -- an account is listed in the bags exactly while it has a role
 abbrev pub IsJoined : RoleList → Listing → Type 0

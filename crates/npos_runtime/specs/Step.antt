@@ -10,14 +10,14 @@ use Rattle.block_receipts.specs.declared.line.Line.TheVariants as lines
 use Rattle.block_receipts.specs.declared.refusal.Refusal.{Refusal}
 use Rattle.chain_params.specs.Rules.{begun_era}
 use Rattle.block_receipts.specs.Refusals.{code_of}
-use Rattle.npos_runtime.specs.Outcome.{Election, Outcome, telling, quiet, after}
-use Rattle.npos_runtime.specs.Committee.{Committee}
-use Rattle.npos_runtime.specs.Exposed.{exposed}
-use Rattle.npos_runtime.specs.Rounds.{round_phase}
-use Rattle.npos_runtime.specs.Deciding.{decision_phase}
-use Rattle.npos_runtime.specs.CallRule.{CallRule}
-use Rattle.npos_runtime.specs.Calls.{rule_for}
-use Rattle.npos_runtime.specs.Offices.{applied}
+use Rattle.npos_runtime.specs.Rules.Outcome.{Election, Outcome, telling, quiet, after}
+use Rattle.npos_runtime.specs.Rules.Committee.{Committee}
+use Rattle.npos_runtime.specs.Rules.Exposed.{exposed}
+use Rattle.npos_runtime.specs.Rules.Rounds.{round_phase}
+use Rattle.npos_runtime.specs.Rules.Deciding.{decision_phase}
+use Rattle.npos_runtime.specs.Rules.CallRule.{CallRule}
+use Rattle.npos_runtime.specs.Rules.Calls.{rule_for}
+use Rattle.npos_runtime.specs.Rules.Offices.{applied}
 
 abbrev pub opened : ℕ → Chain → Outcome
 opened number chain = telling (lines.Block number ∷ []) chain

@@ -1,14 +1,14 @@
 //! The kinds of call, one function each.
 ghost use Rattle.std.specs.Prelude.{◌≡◌, ◌+◌, ◌<◌, ◌^◌, ◌++◌, Err, None, Some, OnOk, IfOk, IfErr};
-ghost use Rattle.npos_runtime.specs.Outcome.{Untold};
+ghost use Rattle.npos_runtime.specs.Rules.Outcome.{Untold};
 ghost use Rattle.npos_runtime.specs.Live.{IsLive, IsJoined, CanDefer};
-ghost use Rattle.npos_runtime.specs.Ballots.{active_of};
-ghost use Rattle.npos_runtime.specs.CallRule.{Follows};
-ghost use Rattle.npos_runtime.specs.BookCalls.{release_now, least_active, transfer_rule, bond_rule, bond_extra_rule, unbond_rule, rebond_rule, withdraw_rule};
-ghost use Rattle.npos_runtime.specs.ListCalls.{role_refusal, nominate_rule, validate_rule, chill_rule, rebag_rule, put_in_front_rule};
-ghost use Rattle.npos_runtime.specs.Calls.{rule_of, told_of};
+ghost use Rattle.npos_runtime.specs.Rules.Ballots.{active_of};
+ghost use Rattle.npos_runtime.specs.Rules.CallRule.{Follows};
+ghost use Rattle.npos_runtime.specs.Rules.BookCalls.{release_now, least_active, transfer_rule, bond_rule, bond_extra_rule, unbond_rule, rebond_rule, withdraw_rule};
+ghost use Rattle.npos_runtime.specs.Rules.ListCalls.{role_refusal, nominate_rule, validate_rule, chill_rule, rebag_rule, put_in_front_rule};
+ghost use Rattle.npos_runtime.specs.Rules.Calls.{rule_of, told_of};
 ghost use Rattle.voter_lists.specs.Bags.{is_listed};
-ghost use Rattle.npos_runtime.specs.Lists.{followed, listed_anew, retired, unlisted};
+ghost use Rattle.npos_runtime.specs.Rules.Lists.{followed, listed_anew, retired, unlisted};
 
 use crate::Chain;
 use crate::ahead::Ahead;
@@ -142,7 +142,7 @@ fn unlist(bags: &mut Bags, who: AccountId, listed: bool)
 
 /// The account goes to the tail of the bag of its score, and leaves its old place first, where it
 /// has one.
-#[tactic(auto, using(crate::proofs::ListLemmas::nowhere_unlisted))]
+#[tactic(auto, using(crate::proofs::Rules::ListLemmas::nowhere_unlisted))]
 fn list_anew(bags: &mut Bags, who: AccountId, score: u64, listed: bool) -> Result<(), NoMemory>
     requires { is_listed bags.old.order who ≡ listed }
     ensures { OnOk result (bags.new ≡ listed_anew bags.old who score) }
@@ -151,7 +151,7 @@ fn list_anew(bags: &mut Bags, who: AccountId, score: u64, listed: bool) -> Resul
     bags.insert(who, score)
 }
 
-#[tactic(auto, using(crate::proofs::ListLemmas::role_listed))]
+#[tactic(auto, using(crate::proofs::Rules::ListLemmas::role_listed))]
 fn nominate(chain: &mut Chain, who: AccountId, targets: List<AccountId>) -> Result<(), Stop>
     requires { IsJoined chain.old.roles chain.old.bags }
     ensures { Follows (nominate_rule chain.old who targets) chain.old chain.new result }
@@ -164,7 +164,7 @@ fn nominate(chain: &mut Chain, who: AccountId, targets: List<AccountId>) -> Resu
     Ok(())
 }
 
-#[tactic(auto, using(crate::proofs::ListLemmas::role_listed))]
+#[tactic(auto, using(crate::proofs::Rules::ListLemmas::role_listed))]
 fn validate(chain: &mut Chain, who: AccountId, commission: u32) -> Result<(), Stop>
     requires { IsJoined chain.old.roles chain.old.bags }
     ensures { Follows (validate_rule chain.old who commission) chain.old chain.new result }
@@ -205,7 +205,7 @@ fn put_in_front(chain: &mut Chain, who: AccountId, lighter: AccountId) -> Result
 
 /// Does what the call asks for, or stops. What it tells besides that it was accepted is appended to
 /// `more`; a refused call tells nothing. A transfer may find its accounts by the guesses made ahead.
-#[tactic(auto, unfolding(crate::specs::Calls::rule_of))]
+#[tactic(auto, unfolding(crate::specs::Rules::Calls::rule_of))]
 pub fn act(
     alloc: Global,
     chain: &mut Chain,

@@ -4,9 +4,9 @@ ghost use Rattle.npos_base.specs.declared.account.AccountId.{AccountId};
 ghost use Rattle.npos_base.specs.declared.limits.TheConstants.{MOST_VOTERS};
 ghost use Rattle.voter_lists.specs.Roles.{role_of, validators_of};
 ghost use Rattle.voter_lists.specs.Ranked.{AreRanked};
-ghost use Rattle.npos_runtime.specs.Ballots.{ballot_of, commission_in, commissions_of, is_eligible, snapshot_of};
-ghost use Rattle.npos_runtime.specs.Rounds.{round_line, round_now};
-ghost use Rattle.npos_runtime.specs.Polling.{IsPolled, polled};
+ghost use Rattle.npos_runtime.specs.Rules.Ballots.{ballot_of, commission_in, commissions_of, is_eligible, snapshot_of};
+ghost use Rattle.npos_runtime.specs.Rules.Rounds.{round_line, round_now};
+ghost use Rattle.npos_runtime.specs.Rules.Polling.{IsPolled, polled};
 ghost use Rattle.npos_runtime.specs.Live.{IsLive};
 
 use crate::{Chain, Round};
@@ -18,7 +18,7 @@ use std::alloc::Global;
 use voter_lists::{Electorate, Role, Roles};
 
 /// Adds all validators by rising account.
-#[tactic(auto, using(crate::proofs::BallotLemmas::target_free, crate::proofs::BallotLemmas::target_next))]
+#[tactic(auto, using(crate::proofs::Rules::BallotLemmas::target_free, crate::proofs::Rules::BallotLemmas::target_next))]
 fn add_targets(parts: &mut SnapshotParts, roles: &Roles) -> Result<(), NoMemory>
     requires empty { parts.old ≡ record { targets = []; voters = [] } }
     requires ranked { AreRanked roles.now (validators_of roles.now) }
@@ -102,7 +102,7 @@ fn commission(roles: &Roles, who: AccountId) -> u32
 }
 
 /// The commissions of the targets, in their order.
-#[tactic(auto, using(crate::proofs::BallotLemmas::mapped_next))]
+#[tactic(auto, using(crate::proofs::Rules::BallotLemmas::mapped_next))]
 fn commissions(alloc: Global, roles: &Roles) -> Result<List<u32>, NoMemory>
     ensures { IfOk result (λ noted. noted ≡ commissions_of roles.now) }
 {
@@ -115,7 +115,7 @@ fn commissions(alloc: Global, roles: &Roles) -> Result<List<u32>, NoMemory>
 
 /// Begins the round of this number with its snapshot. It is void where there are fewer targets than
 /// seats, or too little stake.
-#[tactic(auto, using(crate::proofs::VoidLemmas::few_void, crate::proofs::VoidLemmas::poor_void))]
+#[tactic(auto, using(crate::proofs::Rules::VoidLemmas::few_void, crate::proofs::Rules::VoidLemmas::poor_void))]
 pub fn take_snapshot(alloc: Global, chain: &Chain, number: u32) -> Result<(Round, Line), NoMemory>
     requires { IsLive chain.now }
     ensures { IfOk result (λ begun. (begun.0 ≡ round_now chain.now number)

@@ -35,7 +35,7 @@ fn endow(book: &mut Book, place: u32, endowment: Endowment) -> Result<(), Genesi
 }
 
 /// Opens the endowments in order, up to the first fault.
-#[tactic(auto, using(crate::proofs::EndowLemmas::fault_ahead, crate::proofs::EndowLemmas::opened_more, crate::proofs::EndowLemmas::all_opened))]
+#[tactic(auto, using(crate::proofs::Rules::EndowLemmas::fault_ahead, crate::proofs::Rules::EndowLemmas::opened_more, crate::proofs::Rules::EndowLemmas::all_opened))]
 fn endow_all(book: &mut Book, endowments: &[Endowment]) -> Result<(), GenesisFault>
     requires unopened { book.old ≡ empty_ledger }
     requires few { length endowments.now ≤ MOST_ENDOWMENTS }
@@ -82,7 +82,7 @@ fn empty_bags(alloc: Global, params: &Option<Params>, room: usize) -> Result<Bag
 }
 
 /// The chain that starts from a genesis, or the first fault that the genesis has.
-#[tactic(auto, using(crate::proofs::FaultLemmas::is_first, crate::proofs::FaultLemmas::is_then, chain_params::proofs::FaultLemmas::no_fault))]
+#[tactic(auto, using(crate::proofs::Rules::FaultLemmas::is_first, crate::proofs::Rules::FaultLemmas::is_then, chain_params::proofs::FaultLemmas::no_fault))]
 pub fn begin(alloc: Global, genesis: Genesis) -> Result<Chain, GenesisFault>
     requires few_endowments { length (endowments_of genesis) ≤ MOST_ENDOWMENTS }
     requires few_thresholds { length (thresholds_of genesis) ≤ MOST_THRESHOLDS }

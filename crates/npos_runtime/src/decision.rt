@@ -1,8 +1,8 @@
 //! The decision of a round, where one is due.
 ghost use Rattle.std.specs.Prelude.{OnOk};
-ghost use Rattle.npos_runtime.specs.Outcome.{Goes};
+ghost use Rattle.npos_runtime.specs.Rules.Outcome.{Goes};
 ghost use Rattle.npos_runtime.specs.Live.{IsLive};
-ghost use Rattle.npos_runtime.specs.Deciding.{decision_phase};
+ghost use Rattle.npos_runtime.specs.Rules.Deciding.{decision_phase};
 
 use crate::{Chain, Round, Waiting};
 use block_receipts::Line;

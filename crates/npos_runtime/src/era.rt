@@ -4,8 +4,8 @@ ghost use Rattle.std.specs.List.{range_with_len};
 ghost use Rattle.election_snapshot.specs.Draft.{accounts_of};
 ghost use Rattle.weight_book.specs.Weights.{support};
 ghost use Rattle.era_book.specs.Eras.{started};
-ghost use Rattle.npos_runtime.specs.Outcome.{Goes};
-ghost use Rattle.npos_runtime.specs.Exposed.{exposed, exposures_of};
+ghost use Rattle.npos_runtime.specs.Rules.Outcome.{Goes};
+ghost use Rattle.npos_runtime.specs.Rules.Exposed.{exposed, exposures_of};
 ghost use Rattle.npos_runtime.specs.Step.{era_phase};
 ghost use Rattle.npos_runtime.specs.Live.{IsLive, IsNotedCommittee, AreNoted};
 

@@ -5,19 +5,22 @@ ghost use Rattle.block_wire.specs.declared.block.Block.{Block as ABlock};
 ghost use Rattle.stake_ledger.specs.Ledger.{IsBalanced};
 ghost use Rattle.npos_runtime.specs.Step.{after_blocks};
 ghost use Rattle.npos_runtime.specs.History.{StartLaw};
-ghost use Rattle.npos_runtime.specs.Deposits.{DepositsLaw, DepositsGoOnLaw};
-ghost use Rattle.npos_runtime.specs.Seatings.{SeatingsLaw};
-ghost use Rattle.npos_runtime.specs.Laws.{SoundStepLaw, SeatedSoundLaw, SeatsLaw, HeldLaw, SettledLaw, FateLaw, NoneCrowdedOutLaw};
-ghost use Rattle.npos_runtime.specs.EraLaws.{HistoryLaw, PaidOnLaw, PaidWithinRewardLaw, ToldOnLaw, PaidAsToldLaw, SlashLaw, TakenLaw, OnceLaw, OnceOnLaw, DuesOnLaw, DueWithinStakeLaw};
-ghost use Rattle.npos_runtime.specs.DeferredLaws.{QueuedLaw, AppliedLaw, TakenInAllLaw};
-ghost use Rattle.npos_runtime.specs.KeptLaws.{AlikeStepLaw, AlikeLaw, SameKeptLaw, ToldLaw, ResumeLaw, RestoreLaw, CheckpointLaw};
-ghost use Rattle.npos_runtime.specs.SoundLaws.{BooksStaySound, RolesStaySound, ErasStaySound, RoundStaysSound, SubmissionsStaySound, WaitingStaysSound, SlashesStaySound, StartsSound, KeepsSoundLaw, StaysSoundLaw, NoCauseLaw};
-ghost use Rattle.npos_runtime.specs.Savable.{SavableStartLaw, SavableStepLaw, SavedStateLaw, RestoredStateLaw};
+ghost use Rattle.npos_runtime.specs.Histories.Deposits.{DepositsLaw, DepositsGoOnLaw};
+ghost use Rattle.npos_runtime.specs.Histories.Seatings.{SeatingsLaw};
+ghost use Rattle.npos_runtime.specs.Histories.Sums.{SumsLaw, SumsOnLaw};
+ghost use Rattle.npos_runtime.specs.Histories.Answers.{AnswersLaw};
+ghost use Rattle.npos_runtime.specs.Histories.Promise.{PromiseLaw};
+ghost use Rattle.npos_runtime.specs.Histories.Laws.{SoundStepLaw, SeatedSoundLaw, SeatsLaw, HeldLaw, SettledLaw, FateLaw, NoneCrowdedOutLaw};
+ghost use Rattle.npos_runtime.specs.Histories.Eras.{HistoryLaw, PaidOnLaw, PaidWithinRewardLaw, ToldOnLaw, PaidAsToldLaw, SlashLaw, TakenLaw, OnceLaw, OnceOnLaw, DuesOnLaw, DueWithinStakeLaw};
+ghost use Rattle.npos_runtime.specs.Histories.Deferred.{QueuedLaw, AppliedLaw, TakenInAllLaw};
+ghost use Rattle.npos_runtime.specs.Kept.Laws.{AlikeStepLaw, AlikeLaw, SameKeptLaw, ToldLaw, ResumeLaw, RestoreLaw, CheckpointLaw};
+ghost use Rattle.npos_runtime.specs.Kept.Soundness.{BooksStaySound, RolesStaySound, ErasStaySound, RoundStaysSound, SubmissionsStaySound, WaitingStaysSound, SlashesStaySound, StartsSound, KeepsSoundLaw, StaysSoundLaw, NoCauseLaw};
+ghost use Rattle.npos_runtime.specs.Kept.Savable.{SavableStartLaw, SavableStepLaw, SavedStateLaw, RestoredStateLaw};
 
 use crate::Runtime;
 use election_check::laws::{a_packed_yes_is_a_plain_yes, a_plain_yes_is_passing};
 use quota_fill::laws::every_fill_passes;
-use weight_book::laws::weights_that_pass_are_proportional;
+use weight_book::laws::{committees_that_pass_are_answered, weights_that_pass_are_proportional};
 
 /// After every list of blocks all holdings equal genesis plus minted less burned. There are no more
 /// blocks than numbers of blocks, which are u32.
@@ -36,7 +39,8 @@ pub fn every_history_starts_ready()
 {}
 
 /// Every committee that is seated, from a signed solution or from the fill, has a member for each
-/// seat, follows nominations, spends no voter beyond its stake, and is proportional.
+/// seat, follows nominations, spends no voter beyond its stake, denies nobody, and so is
+/// proportional.
 pub fn every_seated_committee_is_sound()
     ensures step { SoundStepLaw }
     ensures blocks { SeatedSoundLaw }
@@ -44,6 +48,7 @@ pub fn every_seated_committee_is_sound()
     a_packed_yes_is_a_plain_yes();
     a_plain_yes_is_passing();
     every_fill_passes();
+    committees_that_pass_are_answered();
     weights_that_pass_are_proportional();
 }
 
@@ -236,3 +241,37 @@ pub fn a_saved_state_has_no_fault()
 pub fn a_state_without_a_fault_is_kept()
     ensures { RestoredStateLaw }
 {}
+
+/// The books count what was told. What they call genesis is the sum of the endowments, and what they
+/// call minted and burned are the sums of the lines that were told, after every list of blocks: so all
+/// that the accounts hold, with what was burned, is what was endowed and minted.
+pub fn the_books_count_what_was_told()
+    ensures genesis { SumsLaw }
+    ensures further { SumsOnLaw }
+{}
+
+/// Each call is answered at its place: it is accepted, and more may be told; or it is refused for the
+/// reason of one of the numbers from 1 to 32, that alone is told, and nothing has changed.
+pub fn every_call_is_answered()
+    ensures { AnswersLaw }
+{}
+
+/// Whatever blocks follow a genesis without a fault, the promise holds behind every one of them: the
+/// committees are sound and seated in time, nothing valid is crowded out for free, the books count
+/// what was endowed and told, deposits are settled once, eras and slashes stay within their bounds,
+/// and each call is answered.
+pub fn every_history_keeps_its_promise()
+    ensures { PromiseLaw }
+{
+    every_history_starts_ready();
+    every_seated_committee_is_sound();
+    every_round_ends_as_it_began();
+    nothing_valid_is_crowded_out_for_free();
+    the_books_count_what_was_told();
+    deposits_are_settled();
+    payouts_are_within_the_reward();
+    slashes_are_within_the_stake();
+    each_round_is_decided_once();
+    slashes_that_wait_take_what_is_due();
+    every_call_is_answered();
+}

@@ -3,14 +3,14 @@ ghost use Rattle.std.specs.Prelude.{◌≡◌};
 ghost use Rattle.stake_ledger.specs.Rows.{is_bonded};
 ghost use Rattle.stake_ledger.specs.Ledger.{row_at};
 ghost use Rattle.npos_runtime.specs.Live.{IsJoined};
-ghost use Rattle.npos_runtime.specs.Lists.{has_role, is_role, retired};
+ghost use Rattle.npos_runtime.specs.Rules.Lists.{has_role, is_role, retired};
 
 use crate::Chain;
 use npos_base::AccountId;
 use voter_lists::Role;
 
 /// Whether the account has a role.
-#[tactic(auto, using(crate::proofs::ListLemmas::role_tells))]
+#[tactic(auto, using(crate::proofs::Rules::ListLemmas::role_tells))]
 pub fn has_role(chain: &Chain, who: AccountId) -> bool
     ensures { result ≡ has_role chain.now.roles who }
 {

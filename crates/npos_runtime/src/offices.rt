@@ -3,10 +3,10 @@ ghost use Rattle.std.specs.Prelude.{◌≡◌, ◌+◌, ◌<◌, ◌≤◌, ◌^
 ghost use Rattle.std.specs.Vec.{vec_capacity};
 ghost use Rattle.stake_ledger.specs.Calls.{minted_free, room_of};
 ghost use Rattle.era_book.specs.Exposures.{amount_sum};
-ghost use Rattle.npos_runtime.specs.Outcome.{Goes, Untold};
-ghost use Rattle.npos_runtime.specs.CallRule.{Follows};
+ghost use Rattle.npos_runtime.specs.Rules.Outcome.{Goes, Untold};
+ghost use Rattle.npos_runtime.specs.Rules.CallRule.{Follows};
 ghost use Rattle.npos_runtime.specs.Live.{IsLive, CanDefer};
-ghost use Rattle.npos_runtime.specs.Offices.{is_root, points_rule, payout_rule, all_minted, paid_line, slashing_rule, deferring_rule, offence_rule, cancel_rule, slash_outcome, slashes, applied};
+ghost use Rattle.npos_runtime.specs.Rules.Offices.{is_root, points_rule, payout_rule, all_minted, paid_line, slashing_rule, deferring_rule, offence_rule, cancel_rule, slash_outcome, slashes, applied};
 
 use crate::Chain;
 use crate::ahead::Ahead;

@@ -5,8 +5,8 @@ ghost use Rattle.era_book.specs.declared.deferred.TheConstants.{MOST_SLASHES};
 ghost use Rattle.era_book.specs.Exposures.{amount_sum};
 ghost use Rattle.era_book.specs.Eras.{is_unknown, with_members};
 ghost use Rattle.era_book.specs.Records.{entry_from, members_from};
-ghost use Rattle.npos_runtime.specs.KeptChain.{member_entry, eras_back};
-ghost use Rattle.npos_runtime.specs.Remade.{AreSoundMembers, AreSoundEras, AreSoundSlashes};
+ghost use Rattle.npos_runtime.specs.Kept.Chain.{member_entry, eras_back};
+ghost use Rattle.npos_runtime.specs.Kept.Remade.{AreSoundMembers, AreSoundEras, AreSoundSlashes};
 
 use era_book::{Backer, DeferredSlash, EraBook, Exposure, MemberRecord};
 use npos_base::{List, NoMemory};

@@ -7,8 +7,8 @@ ghost use Rattle.submission_queue.specs.Rank.{IsRanked};
 ghost use Rattle.chain_params.specs.Rules.{thresholds_in, places_of, deposit_of};
 ghost use Rattle.chain_params.specs.Faults.{AreSound};
 ghost use Rattle.state_rules.specs.Roles.{is_scoreless};
-ghost use Rattle.npos_runtime.specs.KeptChain.{with_role, roles_in, bag_entry, submission_in};
-ghost use Rattle.npos_runtime.specs.Remade.{CanStand, AreSoundRoles, AreRolesBetween, AreSoundItems};
+ghost use Rattle.npos_runtime.specs.Kept.Chain.{with_role, roles_in, bag_entry, submission_in};
+ghost use Rattle.npos_runtime.specs.Kept.Remade.{CanStand, AreSoundRoles, AreRolesBetween, AreSoundItems};
 
 use block_wire::Params;
 use chain_params::{copy_thresholds, deposit_of, places_of};

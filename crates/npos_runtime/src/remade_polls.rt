@@ -8,10 +8,10 @@ ghost use Rattle.chain_params.specs.Faults.{AreSound};
 ghost use Rattle.state_rules.specs.Rounds.{draft_of};
 ghost use Rattle.state_rules.specs.Sound.{IsSoundWaiting};
 ghost use Rattle.state_rules.specs.Terms.{params_of};
-ghost use Rattle.npos_runtime.specs.KeptChain.{committee_in, round_in};
+ghost use Rattle.npos_runtime.specs.Kept.Chain.{committee_in, round_in};
 ghost use Rattle.npos_runtime.specs.Live.{CanBeDue};
-ghost use Rattle.npos_runtime.specs.Restoring.{unless_yes, election_fault, IsDueFault};
-ghost use Rattle.npos_runtime.specs.Remade.{AreTargetsTaken, AreVotersTaken, IsBuilt, IsBuiltRound, IsBuiltCommittee};
+ghost use Rattle.npos_runtime.specs.Kept.Restoring.{unless_yes, election_fault, IsDueFault};
+ghost use Rattle.npos_runtime.specs.Kept.Remade.{AreTargetsTaken, AreVotersTaken, IsBuilt, IsBuiltRound, IsBuiltCommittee};
 
 use crate::{Round, StateFault, Waiting};
 use block_wire::{BundleVoter, Params};

@@ -10,10 +10,10 @@ ghost use Rattle.state_rules.specs.Causes as causes;
 ghost use Rattle.state_rules.specs.Terms.{HasSoundTerms, params_of, defer_of, defer_in};
 ghost use Rattle.state_rules.specs.Sound.{IsSoundState, HasSoundSlashes};
 ghost use Rattle.state_checkpoint.specs.Layout.{state_form};
-ghost use Rattle.npos_runtime.specs.KeptChain.{chain_of, committee_in, roles_in, bag_entry, round_in, submission_in, eras_back};
-ghost use Rattle.npos_runtime.specs.Remade.{AreRolesBetween, AreSoundItems, AreSoundEras, AreSoundSlashes, IsBuiltRound};
+ghost use Rattle.npos_runtime.specs.Kept.Chain.{chain_of, committee_in, roles_in, bag_entry, round_in, submission_in, eras_back};
+ghost use Rattle.npos_runtime.specs.Kept.Remade.{AreRolesBetween, AreSoundItems, AreSoundEras, AreSoundSlashes, IsBuiltRound};
 ghost use Rattle.npos_runtime.specs.Live.{CanBeDue};
-ghost use Rattle.npos_runtime.specs.Restoring.{state_fault, due_fault, params_fault, stated, IsDueFault};
+ghost use Rattle.npos_runtime.specs.Kept.Restoring.{state_fault, due_fault, params_fault, stated, IsDueFault};
 
 use crate::remade_eras::past_of;
 use crate::remade_lists::{accounts_of, queue_of};
@@ -83,7 +83,7 @@ fn check_terms_of(state: &mut State) -> Result<(), StateFault>
 }
 
 /// Whether the state has none of the causes but those of slashes.
-#[tactic(auto, using(crate::proofs::RemadeStateLemmas::cause_stated))]
+#[tactic(auto, using(crate::proofs::Kept::Remade::StateLemmas::cause_stated))]
 fn check_causes(alloc: Global, state: &State) -> Result<(), StateFault>
     requires { HasSoundTerms state.now }
     ensures ok { OnOk result (causes.first_cause state.now ≡ None) }
@@ -97,7 +97,7 @@ fn check_causes(alloc: Global, state: &State) -> Result<(), StateFault>
 }
 
 /// Whether the state has none of the causes of slashes.
-#[tactic(auto, using(crate::proofs::RemadeStateLemmas::cause_stated))]
+#[tactic(auto, using(crate::proofs::Kept::Remade::StateLemmas::cause_stated))]
 fn check_slashes(alloc: Global, state: &State) -> Result<(), StateFault>
     requires { HasSoundTerms state.now }
     ensures ok { OnOk result (causes.slash_cause state.now ≡ None) }
@@ -390,7 +390,7 @@ fn remake_state(alloc: Global, state: State, waiting: Option<Waiting>) -> Result
 
 /// The chain that goes on from a state whose number and params are without a fault, or the first
 /// fault that it has.
-#[tactic(auto, using(crate::proofs::RemadeStateLemmas::cause_first, crate::proofs::RemadeStateLemmas::election_first, crate::proofs::RemadeStateLemmas::slashes_first, crate::proofs::RemadeStateLemmas::no_fault))]
+#[tactic(auto, using(crate::proofs::Kept::Remade::StateLemmas::firsts))]
 fn go_on(alloc: Global, state: State) -> Result<Chain, StateFault>
     requires due { due_fault state.due ≡ None }
     requires sound { terms_fault (params_of state) (defer_of state) ≡ None }
@@ -409,7 +409,7 @@ fn go_on(alloc: Global, state: State) -> Result<Chain, StateFault>
 }
 
 /// The chain that goes on from the state, or the first fault that the state has.
-#[tactic(auto, using(crate::proofs::RemadeStateLemmas::due_first, crate::proofs::RemadeStateLemmas::terms_first))]
+#[tactic(auto, using(crate::proofs::Kept::Remade::StateLemmas::due_first, crate::proofs::Kept::Remade::StateLemmas::terms_first))]
 pub fn chain_of(alloc: Global, state: State) -> Result<Chain, StateFault>
     requires { state_form.in_range state }
     ensures ok { IfOk result (λ chain. (state_fault state ≡ None) × (chain ≡ chain_of state)) }

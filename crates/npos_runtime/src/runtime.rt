@@ -4,13 +4,13 @@ ghost use Rattle.npos_base.specs.declared.limits.TheConstants.{MOST_ENDOWMENTS, 
 ghost use Rattle.stake_ledger.specs.Ledger.{IsBalanced, totals_of};
 ghost use Rattle.npos_runtime.specs.Genesis.{IsFault, endowments_of, genesis_chain, genesis_fault, thresholds_of};
 ghost use Rattle.npos_runtime.specs.declared.state_fault.SaveFault.TheVariants as save_faults;
-ghost use Rattle.npos_runtime.specs.KeptChain.{chain_of};
-ghost use Rattle.npos_runtime.specs.KeptState.{kept};
-ghost use Rattle.npos_runtime.specs.Restoring.{state_fault, IsDueFault};
+ghost use Rattle.npos_runtime.specs.Kept.Chain.{chain_of};
+ghost use Rattle.npos_runtime.specs.Kept.State.{kept};
+ghost use Rattle.npos_runtime.specs.Kept.Restoring.{state_fault, IsDueFault};
 ghost use Rattle.state_checkpoint.specs.Layout.{state_form};
 ghost use Rattle.std.specs.Option.{option_copied};
 ghost use Rattle.npos_runtime.specs.Life.{AppliesWell, HasFault};
-ghost use Rattle.npos_runtime.specs.Committee.{IsSeated};
+ghost use Rattle.npos_runtime.specs.Rules.Committee.{IsSeated};
 ghost use Rattle.npos_runtime.specs.Live.{IsReady, IsJoined};
 ghost use Rattle.npos_runtime.specs.declared.runtime.BlockFault.TheVariants as faults;
 ghost use Rattle.npos_runtime.specs.declared.runtime.BlockFault.TheVariants.{NoMemory as NoMemoryFault};
@@ -87,7 +87,7 @@ impl Model for Runtime {
 
 impl Runtime {
     /// The chain of a genesis, or the first fault that the genesis has.
-    #[tactic(auto, using(crate::proofs::BeginLemmas::ready_begun))]
+    #[tactic(auto, using(crate::proofs::Rules::BeginLemmas::ready_begun))]
     pub fn start(alloc: Global, genesis: Genesis) -> Result<Runtime, GenesisFault>
         requires few_endowments { length (endowments_of genesis) ≤ MOST_ENDOWMENTS }
         requires few_thresholds { length (thresholds_of genesis) ≤ MOST_THRESHOLDS }
@@ -188,7 +188,7 @@ impl Runtime {
     /// The first fault that the state has: the number of the next block, the params, the causes of
     /// `state_rules` but those of slashes, the committee that waits where the verdict on it is not
     /// Yes, and the slashes. `NoMemory` may come at any time.
-    #[tactic(auto, using(crate::proofs::RestoredLemmas::restored_ready))]
+    #[tactic(auto, using(crate::proofs::Kept::Restored::WholeLemmas::restored_ready))]
     pub fn restore(alloc: Global, state: State) -> Result<Runtime, StateFault>
         requires { state_form.in_range state }
         ensures ok { IfOk result (λ runtime. (state_fault state ≡ None)

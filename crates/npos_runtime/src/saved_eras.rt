@@ -2,7 +2,7 @@
 ghost use Rattle.std.specs.Prelude.{◌≡◌, ◌++◌, map, IfOk, OnOk};
 ghost use Rattle.era_book.specs.Eras.{members_in};
 ghost use Rattle.era_book.specs.Records.{entry_from};
-ghost use Rattle.npos_runtime.specs.KeptState.{member_row, era_row, era_rows};
+ghost use Rattle.npos_runtime.specs.Kept.State.{member_row, era_row, era_rows};
 
 use era_book::{EraBook, Exposure, MemberRecord};
 use npos_base::{List, MOST_PAST_ERAS, NoMemory};

@@ -1,6 +1,6 @@
 //! Copies of the lists that a chain keeps.
 ghost use Rattle.std.specs.Prelude.{◌≡◌, map, IfOk};
-ghost use Rattle.npos_runtime.specs.KeptState.{queue_row};
+ghost use Rattle.npos_runtime.specs.Kept.State.{queue_row};
 
 use era_book::DeferredSlash;
 use npos_base::{List, NoMemory};

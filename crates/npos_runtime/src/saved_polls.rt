@@ -3,8 +3,8 @@ ghost use Rattle.std.specs.Prelude.{◌≡◌, ◌<◌, length, map, filter, opt
 ghost use Rattle.std.specs.List.{zip};
 ghost use Rattle.election_snapshot.specs.Snapshot.{voter_at};
 ghost use Rattle.weight_book.specs.GivenEdges.{gives, kept_edges};
-ghost use Rattle.npos_runtime.specs.Kept.{open_of, kept_committee};
-ghost use Rattle.npos_runtime.specs.KeptState.{voter_row, round_row, open_row, waiting_row};
+ghost use Rattle.npos_runtime.specs.Kept.Parts.{open_of, kept_committee};
+ghost use Rattle.npos_runtime.specs.Kept.State.{voter_row, round_row, open_row, waiting_row};
 ghost use Rattle.npos_runtime.specs.Live.{AreNoted, IsSoundRound, IsNotedCommittee};
 
 use crate::saved_lists::copied;

@@ -2,7 +2,7 @@
 ghost use Rattle.std.specs.Prelude.{◌≡◌, true, map, IfOk};
 ghost use Rattle.voter_lists.specs.Bags.{is_listed, number_of, number_at};
 ghost use Rattle.voter_lists.specs.Roles.{standing_of};
-ghost use Rattle.npos_runtime.specs.KeptState.{kind_in, role_row};
+ghost use Rattle.npos_runtime.specs.Kept.State.{kind_in, role_row};
 
 use npos_base::{AccountId, List, NoMemory};
 use state_rules::{RoleKind, RoleRow};

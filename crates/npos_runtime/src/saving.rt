@@ -1,7 +1,7 @@
 //! The state that a chain keeps, as a value.
 ghost use Rattle.std.specs.Prelude.{◌≡◌, option_map, IfOk};
 ghost use Rattle.stake_ledger.specs.Ledger.{IsBalanced};
-ghost use Rattle.npos_runtime.specs.KeptState.{kept};
+ghost use Rattle.npos_runtime.specs.Kept.State.{kept};
 ghost use Rattle.npos_runtime.specs.Live.{IsReady};
 
 use crate::Chain;

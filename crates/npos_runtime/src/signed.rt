@@ -1,10 +1,10 @@
 //! Signed submissions.
 ghost use Rattle.std.specs.Prelude.{◌≡◌, ◌+◌, ◌++◌, ◌<◌, ◌^◌, None, Some, OnOk, IfErr};
-ghost use Rattle.npos_runtime.specs.Outcome.{Meets, Untold};
+ghost use Rattle.npos_runtime.specs.Rules.Outcome.{Meets, Untold};
 ghost use Rattle.npos_runtime.specs.Live.{IsLive};
 ghost use Rattle.round_decision.specs.Deposits.{return_lines};
-ghost use Rattle.npos_runtime.specs.Signed.{is_open, form_refusal, offer_refusal, ejected, submitted, submit_rule};
-ghost use Rattle.npos_runtime.specs.CallRule.{Follows};
+ghost use Rattle.npos_runtime.specs.Rules.Signed.{is_open, form_refusal, offer_refusal, ejected, submitted, submit_rule};
+ghost use Rattle.npos_runtime.specs.Rules.CallRule.{Follows};
 
 use crate::{Chain, Round};
 use block_receipts::{Line, Refusal, Stop};

@@ -2,7 +2,7 @@
 ghost use Rattle.std.specs.Prelude.{◌≡◌};
 ghost use Rattle.npos_runtime.specs.declared.state_fault.SaveFault.TheVariants.{NoMemory as NoMemorySaving};
 ghost use Rattle.npos_runtime.specs.declared.state_fault.StateFault.TheVariants.{NoMemory as NoMemoryHere};
-ghost use Rattle.npos_runtime.specs.Restoring.{stated};
+ghost use Rattle.npos_runtime.specs.Kept.Restoring.{stated};
 
 use election_check::Verdict;
 use npos_base::NoMemory;

@@ -2,9 +2,9 @@
 ghost use Rattle.std.specs.Prelude.{◌≡◌, ◌+◌, ◌<◌, ◌≤◌, ◌^◌, ◌++◌, [], ◌∷◌, length, take, vec_len, OnOk, IfOk};
 ghost use Rattle.block_receipts.specs.declared.line.Line.TheVariants as variants;
 ghost use Rattle.block_receipts.specs.Refusals.{code_of};
-ghost use Rattle.npos_runtime.specs.Outcome.{Goes, Outcome};
+ghost use Rattle.npos_runtime.specs.Rules.Outcome.{Goes, Outcome};
 ghost use Rattle.npos_runtime.specs.Step.{call_outcome, calls_outcome, opened, step};
-ghost use Rattle.npos_runtime.specs.Rounds.{round_phase};
+ghost use Rattle.npos_runtime.specs.Rules.Rounds.{round_phase};
 ghost use Rattle.npos_runtime.specs.Live.{IsLive, IsReady, CanDefer};
 
 use crate::Chain;

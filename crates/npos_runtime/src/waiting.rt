@@ -14,7 +14,7 @@ pub struct Waiting {
 }
 
 impl Model for Waiting {
-    ghost use Rattle.npos_runtime.specs.Committee.{Committee};
+    ghost use Rattle.npos_runtime.specs.Rules.Committee.{Committee};
 
     ghost Value = { Committee };
 

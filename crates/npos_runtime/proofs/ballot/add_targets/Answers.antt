@@ -1,4 +1,4 @@
-use Rattle.npos_runtime.proofs.BallotLemmas.{target_next}
+use Rattle.npos_runtime.proofs.Rules.BallotLemmas.{target_next}
 use Rattle.npos_runtime.proofs.ballot.add_targets.Goals as goal
 
 pub loop-i-preserved : goal.loop-i-preserved

@@ -1,7 +1,7 @@
 use Rattle.std.proofs.Common.{rules, ◌≡◌, ◌<◌, length}
 use Rattle.voter_lists.specs.Votes.{votes_of}
-use Rattle.npos_runtime.specs.Ballots.{active_of}
-use Rattle.npos_runtime.proofs.VoterLemmas.{no_fault}
+use Rattle.npos_runtime.specs.Rules.Ballots.{active_of}
+use Rattle.npos_runtime.proofs.Rules.VoterLemmas.{no_fault}
 use Rattle.npos_runtime.proofs.ballot.add_voter.Goals as goal
 
 pub put_voter-requires : goal.put_voter-requires

@@ -1,7 +1,7 @@
 use Rattle.std.proofs.Common.{◌+◌, length, sym, ◌∙◌, ap, subst, arith}
 use Rattle.election_snapshot.specs.Draft.{Draft}
-use Rattle.npos_runtime.specs.Polling.{IsPolled}
-use Rattle.npos_runtime.proofs.StepLemmas.{polled_first, polled_next, polled_full, polled_through, one_more, no_more}
+use Rattle.npos_runtime.specs.Rules.Polling.{IsPolled}
+use Rattle.npos_runtime.proofs.Rules.StepLemmas.{polled_first, polled_next, polled_full, polled_through, one_more, no_more}
 use Rattle.npos_runtime.proofs.ballot.add_voters.Goals as goal
 use Rattle.npos_runtime.proofs.ballot.add_voters.Goals.{else-loop-voters-test, then-loop-voters-test+in_default}
 

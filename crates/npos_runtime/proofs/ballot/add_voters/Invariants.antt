@@ -1,5 +1,5 @@
 use Rattle.std.proofs.Common.{◌≡◌, length}
-use Rattle.npos_runtime.specs.Polling.{IsPolled}
+use Rattle.npos_runtime.specs.Rules.Polling.{IsPolled}
 use Rattle.npos_runtime.proofs.ballot.add_voters.Given as goal
 
 abbrev pub decreases-loop-voters : goal.decreases-loop-voters

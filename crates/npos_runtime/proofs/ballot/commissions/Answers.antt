@@ -1,7 +1,7 @@
 use Rattle.std.proofs.Common.{[], ◌∷◌, ◌++◌, ap₂, ◌∙◌}
 use Rattle.voter_lists.specs.Roles.{role_of, validators_of}
-use Rattle.npos_runtime.specs.Ballots.{commission_in}
-use Rattle.npos_runtime.proofs.BallotLemmas.{mapped_next}
+use Rattle.npos_runtime.specs.Rules.Ballots.{commission_in}
+use Rattle.npos_runtime.proofs.Rules.BallotLemmas.{mapped_next}
 use Rattle.npos_runtime.proofs.ballot.commissions.Goals as goal
 
 pub loop-i-preserved : goal.loop-i-preserved

@@ -1,6 +1,6 @@
 use Rattle.std.proofs.Common.{◌≡◌, take, map}
 use Rattle.voter_lists.specs.Roles.{role_of, validators_of}
-use Rattle.npos_runtime.specs.Ballots.{commission_in}
+use Rattle.npos_runtime.specs.Rules.Ballots.{commission_in}
 use Rattle.npos_runtime.proofs.ballot.commissions.Given as goal
 
 -- the commissions of the validators so far

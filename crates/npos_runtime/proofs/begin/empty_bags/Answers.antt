@@ -1,4 +1,4 @@
-use Rattle.npos_runtime.proofs.BeginLemmas.{rising_params}
+use Rattle.npos_runtime.proofs.Rules.BeginLemmas.{rising_params}
 use Rattle.npos_runtime.proofs.begin.empty_bags.Goals as goal
 
 pub new-requires-clause-rising : goal.new-requires-clause-rising

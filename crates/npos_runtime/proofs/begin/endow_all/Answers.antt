@@ -1,4 +1,4 @@
-use Rattle.npos_runtime.proofs.EndowLemmas.{opened_more}
+use Rattle.npos_runtime.proofs.Rules.EndowLemmas.{opened_more}
 use Rattle.npos_runtime.proofs.begin.endow_all.Goals as goal
 
 pub loop-place-preserved : goal.loop-place-preserved

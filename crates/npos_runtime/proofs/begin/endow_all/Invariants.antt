@@ -1,4 +1,4 @@
-use Rattle.npos_runtime.proofs.EndowLemmas.{IsOpened}
+use Rattle.npos_runtime.proofs.Rules.EndowLemmas.{IsOpened}
 use Rattle.npos_runtime.proofs.begin.endow_all.Given as goal
 
 -- the endowments so far are in the books, and were without a fault

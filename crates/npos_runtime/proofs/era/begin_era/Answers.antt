@@ -3,11 +3,11 @@ use Rattle.era_book.specs.Eras.{started}
 use Rattle.block_receipts.specs.declared.line.Line.TheVariants as lines
 use Rattle.chain_params.specs.Rules.{begun_era}
 use Rattle.npos_runtime.specs.declared.chain.Chain.{Chain}
-use Rattle.npos_runtime.specs.Committee.{Committee}
-use Rattle.npos_runtime.specs.Exposed.{exposed}
-use Rattle.npos_runtime.specs.Outcome.{Goes}
-use Rattle.npos_runtime.specs.Offices.{applied}
-use Rattle.npos_runtime.proofs.EraPhaseLemmas.{era_goes}
+use Rattle.npos_runtime.specs.Rules.Committee.{Committee}
+use Rattle.npos_runtime.specs.Rules.Exposed.{exposed}
+use Rattle.npos_runtime.specs.Rules.Outcome.{Goes}
+use Rattle.npos_runtime.specs.Rules.Offices.{applied}
+use Rattle.npos_runtime.proofs.Rules.EraPhaseLemmas.{era_goes}
 use Rattle.npos_runtime.proofs.era.begin_era.Goals as goal
 
 pub returns-in_ok-apply_due : goal.returns-in_ok-apply_due

@@ -1,5 +1,5 @@
 use Rattle.std.proofs.Common.{[], ◌∷◌, ◌++◌, ap, ◌∙◌}
-use Rattle.npos_runtime.proofs.BallotLemmas.{take_next}
+use Rattle.npos_runtime.proofs.Rules.BallotLemmas.{take_next}
 use Rattle.npos_runtime.proofs.era.targets.Goals as goal
 
 pub loop-i-preserved : goal.loop-i-preserved

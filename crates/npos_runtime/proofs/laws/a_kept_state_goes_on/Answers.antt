@@ -1,4 +1,4 @@
-use Rattle.npos_runtime.proofs.KeptSoundLemmas.{resume}
+use Rattle.npos_runtime.proofs.Kept.LeftOutLemmas.{resume}
 use Rattle.npos_runtime.proofs.laws.a_kept_state_goes_on.Goals as goal
 
 pub returns : goal.returns

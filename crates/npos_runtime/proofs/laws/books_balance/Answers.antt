@@ -1,4 +1,4 @@
-use Rattle.npos_runtime.proofs.LiveLemmas.{live_blocks}
+use Rattle.npos_runtime.proofs.Rules.LiveLemmas.{live_blocks}
 use Rattle.npos_runtime.proofs.laws.books_balance.Goals as goal
 
 pub returns : goal.returns

@@ -1,4 +1,4 @@
-use Rattle.npos_runtime.proofs.SavableLemmas.{savable_start, savable_step}
+use Rattle.npos_runtime.proofs.Kept.SavableLemmas.{savable_start, savable_step}
 use Rattle.npos_runtime.proofs.laws.chains_can_be_saved.Goals as goal
 
 pub returns-clause-start : goal.returns-clause-start

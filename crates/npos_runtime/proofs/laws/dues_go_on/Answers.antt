@@ -1,5 +1,5 @@
-use Rattle.npos_runtime.proofs.EraLawLemmas.{dues_on_law}
-use Rattle.npos_runtime.proofs.OnceLemmas.{once_on_law}
+use Rattle.npos_runtime.proofs.Histories.EraLawLemmas.{dues_on_law}
+use Rattle.npos_runtime.proofs.Histories.OnceLemmas.{once_on_law}
 use Rattle.npos_runtime.proofs.laws.dues_go_on.Goals as goal
 
 pub returns-clause-once : goal.returns-clause-once

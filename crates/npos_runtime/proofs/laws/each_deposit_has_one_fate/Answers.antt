@@ -1,4 +1,4 @@
-use Rattle.npos_runtime.proofs.FateLemmas.{one_fate, settled_law}
+use Rattle.npos_runtime.proofs.Histories.FateLemmas.{one_fate, settled_law}
 use Rattle.npos_runtime.proofs.laws.each_deposit_has_one_fate.Goals as goal
 
 pub returns-clause-from_genesis : goal.returns-clause-from_genesis

@@ -1,4 +1,4 @@
-use Rattle.npos_runtime.proofs.OnceLemmas.{once_law}
+use Rattle.npos_runtime.proofs.Histories.OnceLemmas.{once_law}
 use Rattle.npos_runtime.proofs.laws.each_round_is_decided_once.Goals as goal
 
 pub returns : goal.returns

@@ -1,5 +1,5 @@
-use Rattle.npos_runtime.proofs.KeptStateLemmas.{same_kept}
-use Rattle.npos_runtime.proofs.KeptSoundLemmas.{told_law}
+use Rattle.npos_runtime.proofs.Kept.StateLemmas.{same_kept}
+use Rattle.npos_runtime.proofs.Kept.LeftOutLemmas.{told_law}
 use Rattle.npos_runtime.proofs.laws.equal_states_go_on_alike.Goals as goal
 
 pub returns-clause-step : goal.returns-clause-step

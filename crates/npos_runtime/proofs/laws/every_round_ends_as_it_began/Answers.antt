@@ -1,4 +1,4 @@
-use Rattle.npos_runtime.proofs.SeatingsLemmas.{seatings_law}
+use Rattle.npos_runtime.proofs.Histories.SeatingsLemmas.{seatings_law}
 use Rattle.npos_runtime.proofs.laws.every_round_ends_as_it_began.Goals as goal
 
 pub returns : goal.returns

@@ -1,4 +1,4 @@
-use Rattle.npos_runtime.proofs.TimeLemmas.{none_crowded_out}
+use Rattle.npos_runtime.proofs.Histories.TimeLemmas.{none_crowded_out}
 use Rattle.npos_runtime.proofs.laws.nothing_valid_is_crowded_out_for_free.Goals as goal
 
 pub returns : goal.returns

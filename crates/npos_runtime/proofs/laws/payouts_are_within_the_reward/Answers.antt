@@ -1,4 +1,4 @@
-use Rattle.npos_runtime.proofs.EraLawLemmas.{payout_law, rewards_law}
+use Rattle.npos_runtime.proofs.Histories.EraLawLemmas.{payout_law, rewards_law}
 use Rattle.npos_runtime.proofs.laws.payouts_are_within_the_reward.Goals as goal
 
 pub returns-clause-each : goal.returns-clause-each

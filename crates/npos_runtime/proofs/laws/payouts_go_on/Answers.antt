@@ -1,4 +1,4 @@
-use Rattle.npos_runtime.proofs.EraLawLemmas.{told_on_law, paid_on_law}
+use Rattle.npos_runtime.proofs.Histories.EraLawLemmas.{told_on_law, paid_on_law}
 use Rattle.npos_runtime.proofs.laws.payouts_go_on.Goals as goal
 
 pub returns-clause-each : goal.returns-clause-each

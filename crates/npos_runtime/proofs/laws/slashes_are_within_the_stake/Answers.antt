@@ -1,4 +1,4 @@
-use Rattle.npos_runtime.proofs.EraLawLemmas.{slash_law, taken_law, dues_law}
+use Rattle.npos_runtime.proofs.Histories.EraLawLemmas.{slash_law, taken_law, dues_law}
 use Rattle.npos_runtime.proofs.laws.slashes_are_within_the_stake.Goals as goal
 
 pub returns-clause-each : goal.returns-clause-each

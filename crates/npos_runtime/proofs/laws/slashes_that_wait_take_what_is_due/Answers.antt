@@ -1,4 +1,4 @@
-use Rattle.npos_runtime.proofs.DeferredLawLemmas.{queued_law, applied_law, taken_in_all}
+use Rattle.npos_runtime.proofs.Histories.DeferredLawLemmas.{queued_law, applied_law, taken_in_all}
 use Rattle.npos_runtime.proofs.laws.slashes_that_wait_take_what_is_due.Goals as goal
 
 pub returns-clause-each : goal.returns-clause-each

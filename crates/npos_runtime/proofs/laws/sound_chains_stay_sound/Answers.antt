@@ -1,4 +1,4 @@
-use Rattle.npos_runtime.proofs.SoundChainLemmas.{sound_start, keeps_sound, stays_sound}
+use Rattle.npos_runtime.proofs.Kept.Sound.ChainLemmas.{sound_start, keeps_sound, stays_sound}
 use Rattle.npos_runtime.proofs.laws.sound_chains_stay_sound.Goals as goal
 
 pub returns-clause-start : goal.returns-clause-start

@@ -1,8 +1,8 @@
-use Rattle.npos_runtime.proofs.SoundBooksLemmas.{books_stay}
-use Rattle.npos_runtime.proofs.SoundRolesLemmas.{roles_stay}
-use Rattle.npos_runtime.proofs.SoundErasLemmas.{eras_stay, slashes_stay}
-use Rattle.npos_runtime.proofs.SoundPollLemmas.{round_stays, waiting_stays}
-use Rattle.npos_runtime.proofs.SoundSubmissionLemmas.{submissions_stay}
+use Rattle.npos_runtime.proofs.Kept.Sound.BooksLemmas.{books_stay}
+use Rattle.npos_runtime.proofs.Kept.Sound.RolesLemmas.{roles_stay}
+use Rattle.npos_runtime.proofs.Kept.Sound.ErasLemmas.{eras_stay, slashes_stay}
+use Rattle.npos_runtime.proofs.Kept.Sound.PollLemmas.{round_stays, waiting_stays}
+use Rattle.npos_runtime.proofs.Kept.Sound.SubmissionLemmas.{submissions_stay}
 use Rattle.npos_runtime.proofs.laws.sound_parts_stay_sound.Goals as goal
 
 pub returns-clause-books : goal.returns-clause-books

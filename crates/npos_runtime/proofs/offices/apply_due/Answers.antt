@@ -3,12 +3,12 @@ use Rattle.era_book.specs.Eras.{Eras}
 use Rattle.era_book.specs.Deferred.{next_due}
 use Rattle.block_receipts.specs.declared.line.Line.TheVariants as lines
 use Rattle.npos_runtime.specs.declared.chain.Chain.{Chain}
-use Rattle.npos_runtime.specs.Outcome.{Goes}
+use Rattle.npos_runtime.specs.Rules.Outcome.{Goes}
 use Rattle.npos_runtime.specs.Live.{IsLive}
-use Rattle.npos_runtime.specs.Offices.{slashes}
-use Rattle.npos_runtime.proofs.PartLemmas.{with_eras}
-use Rattle.npos_runtime.proofs.OfficeCallLemmas.{slashes_live, slashes_within}
-use Rattle.npos_runtime.proofs.AppliedLemmas.{shorter, turn_applied, goes_last}
+use Rattle.npos_runtime.specs.Rules.Offices.{slashes}
+use Rattle.npos_runtime.proofs.Rules.PartLemmas.{with_eras}
+use Rattle.npos_runtime.proofs.Rules.OfficeCallLemmas.{slashes_live, slashes_within}
+use Rattle.npos_runtime.proofs.Histories.AppliedLemmas.{shorter, turn_applied, goes_last}
 use Rattle.npos_runtime.proofs.offices.apply_due.Goals as goal
 
 pub slashes-smaller : goal.slashes-smaller

@@ -1,7 +1,7 @@
 use Rattle.std.proofs.Common.{◌≡◌, length}
-use Rattle.npos_runtime.specs.Outcome.{told_after}
+use Rattle.npos_runtime.specs.Rules.Outcome.{told_after}
 use Rattle.npos_runtime.specs.Live.{IsLive}
-use Rattle.npos_runtime.specs.Offices.{applied}
+use Rattle.npos_runtime.specs.Rules.Offices.{applied}
 use Rattle.npos_runtime.proofs.offices.apply_due.Given as goal
 
 abbrev pub decreases-slashes : goal.decreases-slashes

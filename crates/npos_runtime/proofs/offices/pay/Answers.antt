@@ -1,8 +1,8 @@
 use Rattle.std.proofs.Common.{◌≡◌, List, ◌∷◌, [], ◌++◌, map, length, arith, ap, sym, ◌∙◌, append_assoc}
 use Rattle.std.specs.Vec.Iter.{into_iter_items}
 use Rattle.era_book.specs.declared.exposure.Backer.{Backer}
-use Rattle.npos_runtime.specs.Offices.{all_minted, paid_line}
-use Rattle.npos_runtime.proofs.OfficeLemmas.{line_fits, rest_fits}
+use Rattle.npos_runtime.specs.Rules.Offices.{all_minted, paid_line}
+use Rattle.npos_runtime.proofs.Rules.OfficeLemmas.{line_fits, rest_fits}
 use Rattle.npos_runtime.proofs.offices.pay.Goals as goal
 
 pub mint-requires : goal.mint-requires

@@ -2,7 +2,7 @@ use Rattle.std.proofs.Common.{◌≡◌, ◌≤◌, ◌+◌, ◌++◌, map, leng
 use Rattle.std.specs.Vec.Iter.{into_iter_items}
 use Rattle.stake_ledger.specs.Calls.{room_of}
 use Rattle.era_book.specs.Exposures.{amount_sum}
-use Rattle.npos_runtime.specs.Offices.{all_minted, paid_line}
+use Rattle.npos_runtime.specs.Rules.Offices.{all_minted, paid_line}
 use Rattle.npos_runtime.proofs.offices.pay.Given as goal
 
 -- what is still to be paid fits, and leads to the same books and lines

@@ -1,11 +1,11 @@
 use Rattle.std.proofs.Common.{◌≡◌, List, ◌∷◌, length, arith, ap, sym, subst, ◌∙◌}
 use Rattle.std.specs.Vec.Iter.{into_iter_items}
 use Rattle.era_book.specs.declared.exposure.Backer.{Backer}
-use Rattle.npos_runtime.specs.Outcome.{told_after}
+use Rattle.npos_runtime.specs.Rules.Outcome.{told_after}
 use Rattle.npos_runtime.specs.Live.{IsLive}
-use Rattle.npos_runtime.specs.Offices.{slash_outcome, slashes}
-use Rattle.npos_runtime.proofs.OfficeCallLemmas.{slashed_live}
-use Rattle.npos_runtime.proofs.OutcomeLemmas.{told_more}
+use Rattle.npos_runtime.specs.Rules.Offices.{slash_outcome, slashes}
+use Rattle.npos_runtime.proofs.Rules.OfficeCallLemmas.{slashed_live}
+use Rattle.npos_runtime.proofs.Rules.OutcomeLemmas.{told_more}
 use Rattle.npos_runtime.proofs.offices.slash_all.Goals as goal
 
 pub dues-preserved : goal.dues-preserved

@@ -1,8 +1,8 @@
 use Rattle.std.proofs.Common.{◌≡◌, ◌≤◌, ◌+◌, length, vec_len, vec_capacity}
 use Rattle.std.specs.Vec.Iter.{into_iter_items}
-use Rattle.npos_runtime.specs.Outcome.{told_after}
+use Rattle.npos_runtime.specs.Rules.Outcome.{told_after}
 use Rattle.npos_runtime.specs.Live.{IsLive}
-use Rattle.npos_runtime.specs.Offices.{slashes}
+use Rattle.npos_runtime.specs.Rules.Offices.{slashes}
 use Rattle.npos_runtime.proofs.offices.slash_all.Given as goal
 
 abbrev pub invariant-dues : goal.invariant-dues

@@ -2,7 +2,7 @@ use Rattle.std.proofs.Common.{refl, ap, sym, subst, ◌∙◌}
 use Rattle.era_book.specs.Eras.{Eras, member_in}
 use Rattle.era_book.specs.Calls.{IsBelow}
 use Rattle.npos_runtime.specs.declared.chain.Chain.{Chain}
-use Rattle.npos_runtime.proofs.OfficeCallLemmas.{slashes_within, offence_is}
+use Rattle.npos_runtime.proofs.Rules.OfficeCallLemmas.{slashes_within, offence_is}
 use Rattle.npos_runtime.proofs.offices.slash_now.Goals as goal
 
 pub mark_slashed-requires : goal.mark_slashed-requires

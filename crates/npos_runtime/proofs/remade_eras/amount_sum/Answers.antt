@@ -1,5 +1,5 @@
 use Rattle.std.proofs.Common.{arith}
-use Rattle.npos_runtime.proofs.RemadeEraLemmas.{sum_next}
+use Rattle.npos_runtime.proofs.Kept.Remade.EraLemmas.{sum_next}
 use Rattle.npos_runtime.proofs.remade_eras.amount_sum.Goals as goal
 
 pub overflow_add-sum : goal.overflow_add-sum

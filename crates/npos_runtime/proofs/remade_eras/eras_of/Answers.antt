@@ -2,9 +2,9 @@ use Rattle.std.proofs.Common.{rules, ◌∙◌, ◌+◌, [], map, min, ap, sym, 
 use Rattle.npos_base.specs.declared.limits.TheConstants.{MOST_PAST_ERAS}
 use Rattle.era_book.specs.Eras.{Eras, is_unknown, with_members}
 use Rattle.state_rules.specs.Sound.{EachIs, IsSoundEra}
-use Rattle.npos_runtime.specs.KeptChain.{member_entry}
-use Rattle.npos_runtime.proofs.RemadeLemmas.{each_next, each_before, rest_behind}
-use Rattle.npos_runtime.proofs.RemadeEraLemmas.{era_known, bare_eras, earlier_eras, era_more}
+use Rattle.npos_runtime.specs.Kept.Chain.{member_entry}
+use Rattle.npos_runtime.proofs.Kept.Remade.ItemLemmas.{each_next, each_before, rest_behind}
+use Rattle.npos_runtime.proofs.Kept.Remade.EraLemmas.{era_known, bare_eras, earlier_eras, era_more}
 use Rattle.npos_runtime.proofs.remade_eras.eras_of.Goals as goal
 
 pub loop-row-init : goal.loop-row-init

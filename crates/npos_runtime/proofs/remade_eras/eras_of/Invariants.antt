@@ -1,7 +1,7 @@
 use Rattle.std.proofs.Common.{◌≡◌, ◌++◌, ◌+◌, [], min}
 use Rattle.std.specs.Vec.Iter.{into_iter_items}
 use Rattle.npos_base.specs.declared.limits.TheConstants.{MOST_PAST_ERAS}
-use Rattle.npos_runtime.specs.KeptChain.{eras_back}
+use Rattle.npos_runtime.specs.Kept.Chain.{eras_back}
 use Rattle.npos_runtime.proofs.remade_eras.eras_of.Given as goal
 
 -- the rows so far are the eras with members

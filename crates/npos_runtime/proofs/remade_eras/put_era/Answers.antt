@@ -3,7 +3,7 @@ use Rattle.std.specs.List.Sorted.{IsStrictlySortedBy}
 use Rattle.std.specs.Map.{keys_of}
 use Rattle.npos_base.specs.Account.{account_cmp}
 use Rattle.era_book.specs.Members.{Members}
-use Rattle.npos_runtime.proofs.RemadeEraLemmas.{members_rise, members_sound}
+use Rattle.npos_runtime.proofs.Kept.Remade.EraLemmas.{members_rise, members_sound}
 use Rattle.npos_runtime.proofs.remade_eras.put_era.Goals as goal
 
 pub put_era-requires : goal.put_era-requires

@@ -1,8 +1,8 @@
 use Rattle.std.proofs.Common.{◌∙◌, ap, arith}
 use Rattle.era_book.specs.Eras.{Eras}
 use Rattle.era_book.specs.Records.{slash_put}
-use Rattle.npos_runtime.proofs.RemadeLemmas.{next_within, rest_behind}
-use Rattle.npos_runtime.proofs.RemadeEraLemmas.{can_join}
+use Rattle.npos_runtime.proofs.Kept.Remade.ItemLemmas.{next_within, rest_behind}
+use Rattle.npos_runtime.proofs.Kept.Remade.EraLemmas.{can_join}
 use Rattle.npos_runtime.proofs.remade_eras.put_slashes.Goals as goal
 
 pub put_slash-requires : goal.put_slash-requires

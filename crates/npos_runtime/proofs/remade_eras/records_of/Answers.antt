@@ -2,8 +2,8 @@ use Rattle.std.proofs.Common.{◌∙◌, ◌++◌, ◌∷◌, [], map, ap, ap₂
 use Rattle.state_rules.specs.Sound.{IsSoundMember}
 use Rattle.era_book.specs.Members.{Members}
 use Rattle.era_book.specs.Records.{entry_from}
-use Rattle.npos_runtime.specs.KeptChain.{member_entry}
-use Rattle.npos_runtime.proofs.RemadeLemmas.{each_next, rest_behind, map_put}
+use Rattle.npos_runtime.specs.Kept.Chain.{member_entry}
+use Rattle.npos_runtime.proofs.Kept.Remade.ItemLemmas.{each_next, rest_behind, map_put}
 use Rattle.npos_runtime.proofs.remade_eras.records_of.Goals as goal
 
 pub record_of-requires : goal.record_of-requires

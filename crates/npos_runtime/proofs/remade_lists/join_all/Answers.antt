@@ -1,4 +1,4 @@
-use Rattle.npos_runtime.proofs.RemadeListLemmas.{not_listed, joins_more}
+use Rattle.npos_runtime.proofs.Kept.Remade.ListLemmas.{not_listed, joins_more}
 use Rattle.npos_runtime.proofs.remade_lists.join_all.Goals as goal
 
 pub insert-requires : goal.insert-requires

@@ -1,5 +1,5 @@
 use Rattle.std.proofs.Common.{◌≡◌, map, take}
-use Rattle.npos_runtime.specs.KeptChain.{bag_entry}
+use Rattle.npos_runtime.specs.Kept.Chain.{bag_entry}
 use Rattle.npos_runtime.proofs.remade_lists.join_all.Given as goal
 
 -- the accounts so far stand in their bags

@@ -3,9 +3,9 @@ use Rattle.chain_params.specs.Rules.{places_of}
 use Rattle.submission_queue.specs.declared.submission.Submission.{Submission}
 use Rattle.submission_queue.specs.Rank.{IsRanked}
 use Rattle.submission_queue.specs.Ranking.{Ranking}
-use Rattle.npos_runtime.specs.KeptChain.{submission_in}
-use Rattle.npos_runtime.proofs.RemadeLemmas.{rest_behind, map_put}
-use Rattle.npos_runtime.proofs.RemadeListLemmas.{next_room, next_ranked}
+use Rattle.npos_runtime.specs.Kept.Chain.{submission_in}
+use Rattle.npos_runtime.proofs.Kept.Remade.ItemLemmas.{rest_behind, map_put}
+use Rattle.npos_runtime.proofs.Kept.Remade.ListLemmas.{next_room, next_ranked}
 use Rattle.npos_runtime.proofs.remade_lists.queue_of.Goals as goal
 
 pub put_behind-requires-clause-room : goal.put_behind-requires-clause-room

@@ -1,7 +1,7 @@
 use Rattle.std.proofs.Common.{◌≡◌, ◌++◌, map}
 use Rattle.std.specs.Vec.Iter.{into_iter_items}
 use Rattle.chain_params.specs.Rules.{places_of}
-use Rattle.npos_runtime.specs.KeptChain.{submission_in}
+use Rattle.npos_runtime.specs.Kept.Chain.{submission_in}
 use Rattle.npos_runtime.proofs.remade_lists.queue_of.Given as goal
 
 -- the submissions so far wait

@@ -1,10 +1,10 @@
 use Rattle.std.proofs.Common.{◌∙◌, ap, sym, subst}
 use Rattle.voter_lists.specs.Roles.{RoleList}
 use Rattle.state_rules.specs.Sound.{IsSoundRole}
-use Rattle.npos_runtime.specs.KeptChain.{with_role}
-use Rattle.npos_runtime.specs.Remade.{CanStand}
-use Rattle.npos_runtime.proofs.RemadeLemmas.{each_next, rest_behind}
-use Rattle.npos_runtime.proofs.RemadeListLemmas.{can_stand, roles_more}
+use Rattle.npos_runtime.specs.Kept.Chain.{with_role}
+use Rattle.npos_runtime.specs.Kept.Remade.{CanStand}
+use Rattle.npos_runtime.proofs.Kept.Remade.ItemLemmas.{each_next, rest_behind}
+use Rattle.npos_runtime.proofs.Kept.Remade.ListLemmas.{can_stand, roles_more}
 use Rattle.npos_runtime.proofs.remade_lists.roles_of.Goals as goal
 
 pub take_role-requires : goal.take_role-requires

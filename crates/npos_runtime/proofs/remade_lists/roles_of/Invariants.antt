@@ -1,6 +1,6 @@
 use Rattle.std.proofs.Common.{◌≡◌, ◌++◌}
 use Rattle.std.specs.Vec.Iter.{into_iter_items}
-use Rattle.npos_runtime.specs.KeptChain.{roles_in}
+use Rattle.npos_runtime.specs.Kept.Chain.{roles_in}
 use Rattle.npos_runtime.proofs.remade_lists.roles_of.Given as goal
 
 -- the accounts so far have their roles

@@ -1,5 +1,5 @@
 use Rattle.std.proofs.Common.{◌-◌, length, sym, ◌∙◌, arith}
-use Rattle.npos_runtime.proofs.RemadeListLemmas.{at_threshold, at_top, last_found, past_all}
+use Rattle.npos_runtime.proofs.Kept.Remade.ListLemmas.{at_threshold, at_top, last_found, past_all}
 use Rattle.npos_runtime.proofs.remade_lists.score_in.Goals as goal
 
 pub returns-in-Some : goal.returns-in-Some

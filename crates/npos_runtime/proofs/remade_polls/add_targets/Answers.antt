@@ -1,5 +1,5 @@
 use Rattle.std.proofs.Common.{get_or, refl}
-use Rattle.npos_runtime.proofs.RemadePollLemmas.{target_ready}
+use Rattle.npos_runtime.proofs.Kept.Remade.PollLemmas.{target_ready}
 use Rattle.npos_runtime.proofs.remade_polls.add_targets.Goals as goal
 
 pub put_target-requires : goal.put_target-requires

@@ -1,7 +1,7 @@
 use Rattle.std.proofs.Common.{◌∙◌, ap}
 use Rattle.election_snapshot.specs.Draft.{Draft, with_voter}
 use Rattle.state_rules.proofs.RoundLemmas.{taken_more}
-use Rattle.npos_runtime.proofs.RemadePollLemmas.{voter_ready}
+use Rattle.npos_runtime.proofs.Kept.Remade.PollLemmas.{voter_ready}
 use Rattle.npos_runtime.proofs.remade_polls.add_voters.Goals as goal
 
 pub add_voter-requires : goal.add_voter-requires

@@ -3,7 +3,7 @@ use Rattle.std.specs.List.Sorted.{IsPermutation, IsStrictlyIncreasing}
 use Rattle.weight_book.specs.Weights.{Weights}
 use Rattle.state_rules.specs.Rounds.{Target}
 use Rattle.state_rules.specs.Terms.{params_of}
-use Rattle.npos_runtime.proofs.RemadePollLemmas.{same_members, built_snapshot}
+use Rattle.npos_runtime.proofs.Kept.Remade.PollLemmas.{same_members, built_snapshot}
 use Rattle.npos_runtime.proofs.remade_polls.committee_of.Goals as goal
 
 pub returns-clause-ok : goal.returns-clause-ok

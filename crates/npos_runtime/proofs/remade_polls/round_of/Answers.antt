@@ -6,7 +6,7 @@ use Rattle.election_snapshot.specs.Draft.{seated}
 use Rattle.chain_params.specs.Rules.{era_of}
 use Rattle.state_rules.specs.Rounds.{draft_of}
 use Rattle.npos_runtime.specs.declared.round.Round.TheVariants as rounds
-use Rattle.npos_runtime.specs.KeptChain.{snapshot_in, round_in}
+use Rattle.npos_runtime.specs.Kept.Chain.{snapshot_in, round_in}
 use Rattle.npos_runtime.proofs.remade_polls.round_of.Goals as goal
 
 pub returns : goal.returns

@@ -5,8 +5,8 @@ use Rattle.chain_params.specs.Rules.{thresholds_in}
 use Rattle.chain_params.specs.Faults.{terms_fault}
 use Rattle.state_rules.specs.declared.state.State.{State}
 use Rattle.state_rules.specs.Terms.{params_of, defer_of}
-use Rattle.npos_runtime.specs.Restoring.{due_fault}
-use Rattle.npos_runtime.proofs.RemadeStateLemmas.{few_thresholds, few_slashes}
+use Rattle.npos_runtime.specs.Kept.Restoring.{due_fault}
+use Rattle.npos_runtime.proofs.Kept.Remade.StateLemmas.{few_thresholds, few_slashes}
 use Rattle.npos_runtime.proofs.restoring.chain_of.Goals as goal
 
 pub check_terms_of-requires : goal.check_terms_of-requires

@@ -1,4 +1,4 @@
-use Rattle.npos_runtime.proofs.RemadeStateLemmas.{sound_terms}
+use Rattle.npos_runtime.proofs.Kept.Remade.StateLemmas.{sound_terms}
 use Rattle.npos_runtime.proofs.restoring.go_on.Goals as goal
 
 pub check_causes-requires : goal.check_causes-requires

@@ -4,7 +4,7 @@ use Rattle.state_rules.specs.Terms.{era_before, defer_of, params_of}
 use Rattle.npos_runtime.specs.declared.restoring.Past.{Past}
 use Rattle.npos_runtime.specs.declared.restoring.Polls.{Polls}
 use Rattle.npos_runtime.specs.declared.restoring.Terms.{Terms}
-use Rattle.npos_runtime.specs.Remade.{AreSoundItems, AreSoundSlashes}
+use Rattle.npos_runtime.specs.Kept.Remade.{AreSoundItems, AreSoundSlashes}
 use Rattle.npos_runtime.proofs.restoring.remake_state.Goals as goal
 
 pub remake-requires-clause-items : goal.remake-requires-clause-items

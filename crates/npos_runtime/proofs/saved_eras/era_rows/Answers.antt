@@ -2,8 +2,8 @@ use Rattle.std.proofs.Common.{rules, ◌≡◌, ◌+◌, ◌-◌, min, List, ◌
 use Rattle.npos_base.specs.declared.limits.TheConstants.{MOST_PAST_ERAS}
 use Rattle.era_book.specs.Eras.{members_in}
 use Rattle.state_rules.specs.declared.state.EraRow.{EraRow}
-use Rattle.npos_runtime.specs.KeptState.{era_row}
-use Rattle.npos_runtime.proofs.SavedLemmas.{eras_next}
+use Rattle.npos_runtime.specs.Kept.State.{era_row}
+use Rattle.npos_runtime.proofs.Kept.SavedLemmas.{eras_next}
 use Rattle.npos_runtime.proofs.saved_eras.era_rows.Goals as goal
 
 pub loop-i-preserved : goal.loop-i-preserved

@@ -1,5 +1,5 @@
 use Rattle.std.proofs.Common.{◌≡◌, ◌+◌, ◌-◌, drop}
-use Rattle.npos_runtime.specs.KeptState.{era_rows}
+use Rattle.npos_runtime.specs.Kept.State.{era_rows}
 use Rattle.npos_runtime.proofs.saved_eras.era_rows.Given as goal
 
 -- the eras so far have their rows: the latest of them is the one before the next

@@ -5,8 +5,8 @@ use Rattle.era_book.specs.Eras.{members_in}
 use Rattle.era_book.specs.Records.{record_of, entry_from}
 use Rattle.state_rules.specs.declared.state.EraRow.{EraRow}
 use Rattle.state_rules.specs.declared.state.MemberRow.{MemberRow}
-use Rattle.npos_runtime.specs.KeptState.{member_row, era_row}
-use Rattle.npos_runtime.proofs.SavedLemmas.{some_told}
+use Rattle.npos_runtime.specs.Kept.State.{member_row, era_row}
+use Rattle.npos_runtime.proofs.Kept.SavedLemmas.{some_told}
 use Rattle.npos_runtime.proofs.saved_eras.put_era.Goals as goal
 
 pub returns : goal.returns

@@ -1,5 +1,5 @@
 use Rattle.std.proofs.Common.{◌≡◌, take, map}
-use Rattle.npos_runtime.specs.KeptState.{queue_row}
+use Rattle.npos_runtime.specs.Kept.State.{queue_row}
 use Rattle.npos_runtime.proofs.saved_lists.queue_rows.Given as goal
 
 -- the submissions so far have their rows

@@ -5,7 +5,7 @@ use Rattle.npos_base.specs.Edge.{place_of}
 use Rattle.election_snapshot.specs.Snapshot.{IsWellFormed}
 use Rattle.weight_book.specs.Weights.{IsFeasible}
 use Rattle.weight_book.specs.GivenEdges.{gives}
-use Rattle.npos_runtime.proofs.SavedLemmas.{edges_sorted}
+use Rattle.npos_runtime.proofs.Kept.SavedLemmas.{edges_sorted}
 use Rattle.npos_runtime.proofs.saved_polls.edge_rows.Goals as goal
 
 pub returns : goal.returns

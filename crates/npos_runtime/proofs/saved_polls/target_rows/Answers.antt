@@ -3,8 +3,8 @@ use Rattle.std.specs.List.{zip}
 use Rattle.std.proofs.lemmas.List.{take_all}
 use Rattle.std.proofs.lemmas.Option.{slice_get-get_or}
 use Rattle.std.proofs.lemmas.Slice.Zip.{length-zip}
-use Rattle.npos_runtime.proofs.BallotLemmas.{take_next}
-use Rattle.npos_runtime.proofs.SavedLemmas.{zip_at}
+use Rattle.npos_runtime.proofs.Rules.BallotLemmas.{take_next}
+use Rattle.npos_runtime.proofs.Kept.SavedLemmas.{zip_at}
 use Rattle.npos_runtime.proofs.saved_polls.target_rows.Goals as goal
 
 pub loop-i-preserved : goal.loop-i-preserved

@@ -1,5 +1,5 @@
 use Rattle.std.proofs.Common.{◌≡◌, take, map}
-use Rattle.npos_runtime.specs.KeptState.{voter_row}
+use Rattle.npos_runtime.specs.Kept.State.{voter_row}
 use Rattle.npos_runtime.proofs.saved_polls.voter_rows.Given as goal
 
 -- the voters so far have their rows

@@ -4,7 +4,7 @@ use Rattle.npos_base.specs.declared.account.AccountId.{AccountId}
 use Rattle.voter_lists.specs.Bags.{walk}
 use Rattle.stake_ledger.proofs.BookRowLemmas.{rest_behind}
 use Rattle.state_rules.specs.declared.state.RoleRow.{RoleRow}
-use Rattle.npos_runtime.proofs.SavedLemmas.{row_in, rows_walked, walked_listed}
+use Rattle.npos_runtime.proofs.Kept.SavedLemmas.{row_in, rows_walked, walked_listed}
 use Rattle.npos_runtime.proofs.saved_roles.role_rows.Goals as goal
 
 pub role_row-requires : goal.role_row-requires

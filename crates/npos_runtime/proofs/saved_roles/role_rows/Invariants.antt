@@ -1,6 +1,6 @@
 use Rattle.std.proofs.Common.{◌≡◌, ◌++◌, map}
 use Rattle.voter_lists.specs.Bags.{walk}
-use Rattle.npos_runtime.proofs.SavedLemmas.{row_in}
+use Rattle.npos_runtime.proofs.Kept.SavedLemmas.{row_in}
 use Rattle.npos_runtime.proofs.saved_roles.role_rows.Given as goal
 
 -- the accounts so far have their rows

@@ -1,5 +1,5 @@
 use Rattle.std.proofs.Common.{Ok, ap, sym, ◌∙◌}
-use Rattle.npos_runtime.proofs.SubmitLemmas.{ejected_held}
+use Rattle.npos_runtime.proofs.Rules.SubmitLemmas.{ejected_held}
 use Rattle.npos_runtime.proofs.signed.take_in.Goals as goal
 
 pub return_deposit-requires : goal.return_deposit-requires

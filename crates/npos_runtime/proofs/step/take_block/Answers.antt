@@ -1,15 +1,15 @@
 use Rattle.std.proofs.Common.{◌≡◌, ◌+◌, ◌-◌, arith, ap, sym, subst, ◌∙◌}
 use Rattle.npos_runtime.specs.declared.chain.Chain.{Chain}
 use Rattle.npos_runtime.specs.Step.{before_calls, era_phase, calls_outcome}
-use Rattle.npos_runtime.specs.Rounds.{round_phase}
-use Rattle.npos_runtime.specs.Deciding.{decision_phase}
+use Rattle.npos_runtime.specs.Rules.Rounds.{round_phase}
+use Rattle.npos_runtime.specs.Rules.Deciding.{decision_phase}
 use Rattle.block_wire.specs.declared.block.Block.{Block}
 use Rattle.npos_runtime.specs.Live.{IsLive, CanDefer, IsBetweenBlocks}
-use Rattle.npos_runtime.proofs.TimeLemmas.{between_step}
+use Rattle.npos_runtime.proofs.Histories.TimeLemmas.{between_step}
 use Rattle.chain_params.proofs.PhaseLemmas.{era_within}
-use Rattle.npos_runtime.proofs.PhaseTable.{live_era, live_round}
-use Rattle.npos_runtime.proofs.WaitingLemmas.{sound_waiting}
-use Rattle.npos_runtime.proofs.LiveLemmas.{can_before, slash_before, slash_calls, live_before, due_before, next_before, due_calls, next_calls}
+use Rattle.npos_runtime.proofs.Rules.PhaseTable.{live_era, live_round}
+use Rattle.npos_runtime.proofs.Histories.WaitingLemmas.{sound_waiting}
+use Rattle.npos_runtime.proofs.Rules.LiveLemmas.{can_before, slash_before, slash_calls, live_before, due_before, next_before, due_calls, next_calls}
 use Rattle.npos_runtime.proofs.step.take_block.Goals as goal
 
 -- the chain when its calls begin

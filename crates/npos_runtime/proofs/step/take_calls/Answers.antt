@@ -2,11 +2,11 @@ use Rattle.std.proofs.Common.{◌≡◌, ◌+◌, List, ◌∷◌, length, ap, s
 use Rattle.std.specs.Vec.Iter.{into_iter_items}
 use Rattle.block_wire.specs.declared.call.Call.{Call}
 use Rattle.npos_runtime.specs.declared.chain.Chain.{Chain}
-use Rattle.npos_runtime.specs.Outcome.{told_after}
+use Rattle.npos_runtime.specs.Rules.Outcome.{told_after}
 use Rattle.npos_runtime.specs.Step.{call_outcome, calls_outcome}
 use Rattle.npos_runtime.specs.Live.{IsLive, CanDefer}
-use Rattle.npos_runtime.proofs.LiveLemmas.{live_call, next_call, can_call, slash_call}
-use Rattle.npos_runtime.proofs.OutcomeLemmas.{told_more}
+use Rattle.npos_runtime.proofs.Rules.LiveLemmas.{live_call, next_call, can_call, slash_call}
+use Rattle.npos_runtime.proofs.Rules.OutcomeLemmas.{told_more}
 use Rattle.npos_runtime.proofs.step.take_calls.Goals as goal
 
 pub turns-preserved : goal.turns-preserved

@@ -1,6 +1,6 @@
 use Rattle.std.proofs.Common.{◌≡◌, ◌+◌, ◌≤◌, length}
 use Rattle.std.specs.Vec.Iter.{into_iter_items}
-use Rattle.npos_runtime.specs.Outcome.{told_after}
+use Rattle.npos_runtime.specs.Rules.Outcome.{told_after}
 use Rattle.npos_runtime.specs.Step.{calls_outcome}
 use Rattle.npos_runtime.specs.Live.{IsLive, CanDefer}
 use Rattle.npos_runtime.proofs.step.take_calls.Given as goal

@@ -1,0 +1,25 @@
+-- Lemmas on whole histories of blocks.
+pub mod OwnMemberLemmas
+pub mod AppliedLemmas
+pub mod CourseLemmas
+pub mod FairLemmas
+pub mod OfferLemmas
+pub mod FateLemmas
+pub mod LawLemmas
+pub mod CrowdingLemmas
+pub mod WaitingDueLemmas
+pub mod WaitingLemmas
+pub mod TimeLemmas
+pub mod DeferredLawLemmas
+pub mod DepositsLemmas
+pub mod SeatingsLemmas
+pub mod HistoryLemmas
+pub mod SeatedLemmas
+pub mod AwaitedLemmas
+pub mod StoryLemmas
+pub mod OnceLemmas
+pub mod EraLawLemmas
+pub mod SumLemmas
+pub mod SumLawLemmas
+pub mod AnswerLemmas
+pub mod PromiseLemmas

@@ -1,0 +1,20 @@
+-- Lemmas on what a chain keeps, and on going on from it.
+pub mod ExposureLemmas
+pub mod AlikeLemmas
+pub mod SameEntryLemmas
+pub mod StateLemmas
+pub mod LeftOutLemmas
+pub mod ChainLemmas
+pub mod FormLemmas
+pub mod StakeSums
+pub mod KnownRowLemmas
+pub mod Sound
+pub mod NewcomerLemmas
+pub mod RowLemmas
+pub mod Causes
+pub mod PassLemmas
+pub mod Restored
+pub mod SavedLemmas
+pub mod Fits
+pub mod SavableLemmas
+pub mod Remade
