@@ -1,10 +1,11 @@
 //! `npos`: replays a chain's staking from standard input to standard output.
 #![tactic(auto)]
 
-ghost use Rattle.std.specs.Prelude.{◌≡◌, map, IfOk, IfErr, string_bytes};
+ghost use Rattle.std.specs.Prelude.{◌≡◌, ◌⊎◌, ◌≤◌, map, IfOk, IfErr, string_bytes};
+ghost use Rattle.std.specs.Vec.Iter.{into_iter_items};
 ghost use Rattle.std.specs.Process.{exit_status};
-ghost use Rattle.npos_cli.specs.declared.status.Status.{Status};
-ghost use Rattle.npos_cli.specs.Status.{status_number};
+ghost use Rattle.run_edges.specs.declared.status.Status.{Status};
+ghost use Rattle.run_edges.specs.Status.{status_number};
 ghost use Rattle.npos_cli.specs.Ran.{traffic, calls};
 ghost use Rattle.npos_cli.specs.Says.{Says};
 
@@ -12,6 +13,7 @@ use npos_base::{NoMemory, Sink, Source, StdinSource, StdoutSink};
 use npos_cli::{Status, run};
 use std::alloc::Global;
 use std::env;
+use std::env::Args;
 use std::io::ErrorKind;
 use std::process::ExitCode;
 
@@ -22,7 +24,7 @@ const NO_WORDS: u8 = 7;
 /// much that it does not use.
 const KEPT_BLOCK: usize = 2_000_000;
 
-/// The same where work is checked or mined: the edges of 16,384 voters with 16 votes each take
+/// The same where work is checked or mined: the edges of 16,384 voters, 262,144 at most, take
 /// 4 MB, and they come where the bytes of the bundle were.
 const KEPT_FOR_EDGES: usize = 4_300_000;
 
@@ -46,22 +48,29 @@ fn expect_large_blocks(alloc: Global, size: usize) {
     let _ = Vec::<u8>::with_capacity(alloc, size);
 }
 
-/// The words of the command line, or the exit status where they cannot be had.
-fn words(rt: &HostRuntime) -> Result<Vec<String>, u8> {
-    let args = match env::args(rt) {
-        Ok(args) => args,
-        Err(error) if error.kind() == ErrorKind::OutOfMemory => return Err(
-            Status::NoMemory.number(),
-        ),
-        Err(_) => return Err(NO_WORDS),
-    };
-    let mut words = Vec::new(rt.alloc());
+/// The words, each in its place; or the exit status where there is no memory for their list.
+fn collected(alloc: Global, args: Args) -> Result<Vec<String>, u8>
+    ensures all { IfOk result (λ words. words.items ≡ into_iter_items args) }
+    ensures memory { IfErr result (λ number. number ≡ 6) }
+{
+    let mut words = Vec::new(alloc);
     for word in args {
         if let Err(refused) = words.push(word) {
             return Err(Status::from(NoMemory::from(refused)).number());
         }
     }
     Ok(words)
+}
+
+/// The words of the command line, or the exit status where they cannot be had.
+fn words(rt: &HostRuntime) -> Result<Vec<String>, u8>
+    ensures number { IfErr result (λ number. (number ≡ 6) ⊎ (number ≡ 7)) }
+{
+    match env::args(rt) {
+        Ok(args) => collected(rt.alloc(), args),
+        Err(error) if error.kind() == ErrorKind::OutOfMemory => Err(Status::NoMemory.number()),
+        Err(_) => Err(NO_WORDS),
+    }
 }
 
 /// Runs the program over its words and ends with the number of its status, of which all holds that
@@ -73,6 +82,8 @@ fn finish<S: Source, K: Sink>(
     source: &mut S,
     sink: &mut K,
 ) -> ExitCode
+    requires { IfErr words (λ number. number ≤ 7) }
+    ensures within { exit_status result ≤ 7 }
     ensures says { IfOk words (λ words. (status : Status)
         × (exit_status result ≡ status_number status)
         × Says (map string_bytes words.items) (traffic S.left K.told S.faults K.faults
@@ -88,6 +99,8 @@ fn finish<S: Source, K: Sink>(
     }
 }
 
+// No statement speaks of the words that the system holds, so what is trusted here is that `finish`
+// gets them, and the two standard streams.
 fn main(rt: HostRuntime) -> ExitCode {
     let words = words(&rt);
     expect_large_blocks(rt.alloc(), kept_block(&words));

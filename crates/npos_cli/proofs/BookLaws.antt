@@ -8,12 +8,12 @@ use Rattle.npos_runtime.specs.Genesis.{genesis_fault, genesis_chain}
 use Rattle.chain_params.specs.Faults.{fault_numbers}
 use Rattle.npos_runtime.specs.Live.{IsLive}
 use Rattle.npos_runtime.specs.History.{CanTake, IsHistory}
-use Rattle.npos_runtime.proofs.LiveLemmas.{live_step, due_step}
-use Rattle.npos_runtime.proofs.BeginLemmas.{live_begun, start_law}
+use Rattle.npos_runtime.proofs.Rules.LiveLemmas.{live_step, due_step}
+use Rattle.npos_runtime.proofs.Rules.BeginLemmas.{live_begun, start_law}
 use Rattle.npos_cli.specs.Texts.{genesis_line}
-use Rattle.npos_cli.specs.Replay.{Spot, IsTurn, behind, Passes, Starts, Reaches}
+use Rattle.run_edges.specs.Replay.{Spot, IsTurn, behind, Passes, Starts, Reaches}
 use Rattle.npos_cli.specs.Chain.{npos_machine, started}
-use Rattle.npos_runtime.specs.Deposits.{DepositsHold, DepositsLaw}
+use Rattle.npos_runtime.specs.Histories.Deposits.{DepositsHold, DepositsLaw}
 use Rattle.npos_cli.specs.Books.{BooksBalance, DepositsAreKept}
 
 pub live_turn : (p : Spot Chain) (block : Block) (rest : List ℕ) → IsTurn npos_machine p block rest → IsLive p.state
@@ -63,15 +63,7 @@ pub books_balance : (bytes : List ℕ) → BooksBalance bytes
 books_balance bytes start place text starts reaches =
     (live_passes reaches.blocks start place text reaches.passes (live_start bytes start starts)).books.balanced
 
-pub books_told : (left : Option (List ℕ)) → IfSome left BooksBalance
-books_told None = tt
-books_told (Some bytes) = books_balance bytes
-
 pub deposits_kept : DepositsLaw → (bytes : List ℕ) → DepositsAreKept bytes
 deposits_kept law bytes start place text starts reaches =
     subst (λ (chain : Chain). DepositsHold chain reaches.blocks) (begun bytes start starts).1
     (law starts.genesis reaches.blocks (history_of bytes start starts place text reaches))
-
-pub told_deposits : (left : Option (List ℕ)) → ((bytes : List ℕ) → DepositsAreKept bytes) → IfSome left DepositsAreKept
-told_deposits None law = tt
-told_deposits (Some bytes) law = law bytes

@@ -11,7 +11,7 @@ use Rattle.block_wire.specs.GenesisLaws as of_genesis
 use Rattle.block_wire.specs.Calls.{block_form}
 use Rattle.block_wire.specs.CallLaws.{block_laws}
 use Rattle.npos_runtime.specs.Genesis.{endowments_of, thresholds_of}
-use Rattle.npos_cli.specs.Replay.{turn}
+use Rattle.run_edges.specs.Replay.{turn}
 use Rattle.npos_cli.specs.Chain.{npos_machine}
 
 pub genesis_laws : IsWire npos_machine.genesis

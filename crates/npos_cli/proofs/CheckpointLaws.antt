@@ -10,22 +10,23 @@ use Rattle.state_checkpoint.specs.Layout.{state_form}
 use Rattle.block_receipts.specs.declared.line.Line.{Line}
 use Rattle.npos_runtime.specs.declared.chain.Chain.{Chain}
 use Rattle.npos_runtime.specs.declared.state_fault.StateFault.{StateFault}
-use Rattle.npos_runtime.specs.KeptState.{kept}
-use Rattle.npos_runtime.specs.KeptChain.{chain_of}
-use Rattle.npos_runtime.specs.KeptLaws.{SameKeptLaw}
-use Rattle.npos_runtime.specs.Outcome.{Election}
-use Rattle.npos_runtime.specs.Restoring.{state_fault}
-use Rattle.npos_runtime.specs.Savable.{IsSavable, SavableStartLaw, SavableStepLaw, SavedStateLaw, RestoredStateLaw}
-use Rattle.npos_runtime.specs.SoundLaws.{AreNext}
+use Rattle.npos_runtime.specs.Kept.State.{kept}
+use Rattle.npos_runtime.specs.Kept.Chain.{chain_of}
+use Rattle.npos_runtime.specs.Kept.Laws.{SameKeptLaw}
+use Rattle.npos_runtime.specs.Rules.Outcome.{Election}
+use Rattle.npos_runtime.specs.Kept.Restoring.{state_fault}
+use Rattle.npos_runtime.specs.Kept.Savable.{IsSavable, SavableStartLaw, SavableStepLaw, SavedStateLaw, RestoredStateLaw}
+use Rattle.npos_runtime.specs.Kept.Soundness.{AreNext}
 use Rattle.npos_runtime.specs.Step.{step}
-use Rattle.npos_runtime.proofs.KeptStateLemmas.{kept_alike}
-use Rattle.npos_runtime.proofs.LiveLemmas.{due_step}
-use Rattle.npos_cli.specs.Replay.{Machine, Spot, turn, behind, IsTurn, Passes, Reaches, Starts, IsEnd, Stops, Refused, OtherNumber, Followed, Ended, all_seated, Outcome, IsReplay, BadGenesis, FaultyGenesis, Replayed}
+use Rattle.npos_runtime.proofs.Kept.StateLemmas.{kept_alike}
+use Rattle.npos_runtime.proofs.Rules.LiveLemmas.{due_step}
+use Rattle.run_edges.specs.Replay.{Machine, Spot, turn, behind, IsTurn, Passes, Reaches, Starts, IsEnd, Stops, Refused, OtherNumber}
+use Rattle.run_edges.specs.Replay.{Followed, Ended, all_seated, Outcome, IsReplay, BadGenesis, FaultyGenesis, Replayed}
 use Rattle.npos_cli.specs.Chain.{npos_machine, line_text, end_line}
-use Rattle.npos_cli.specs.Streams.{IsStream}
+use Rattle.run_edges.specs.Streams.{IsStream}
 use Rattle.npos_cli.specs.Checkpoints.{checkpoint_of, checkpoint_machine, state_line, resumed, resume_machine, ComesTo, WritesCheckpoints, GoesOnFromCheckpoints, StartsWithCheckpoints}
 use Rattle.npos_cli.specs.Resumable.{StaysWhole, GoesOnWhole, block_bytes, EachGoesOn}
-use Rattle.npos_cli.proofs.ReplayLaws.{one_turn, one_start, stop_ends}
+use Rattle.run_edges.proofs.ReplayLaws.{one_turn, one_start, stop_ends}
 use Rattle.npos_cli.proofs.ChainLaws.{genesis_laws, turn_laws}
 use Rattle.npos_cli.proofs.BookLaws.{begun}
 
@@ -41,7 +42,7 @@ module _ {G B S E : Type 0} (m : Machine G B S E) where
       ∙ sym (append_assoc (m.seats p.state b) (all_seated m (m.after p.state b) first) (all_seated m q.state more))
 
   -- a replay that ends without a fault ends behind the None
-  ends_well : (q : Spot S) (line : List ℕ) (faulty : Bool) → faulty ≡ false → Stops m q line faulty
+  pub ends_well : (q : Spot S) (line : List ℕ) (faulty : Bool) → faulty ≡ false → Stops m q line faulty
       → (q.rest ≡ (turn m).spelling None) × (line ≡ m.ending q.state)
   ends_well q line faulty sound (Refused at why bad line_is faulty_is) = absurd (true≢false (sym faulty_is ∙ sound))
   ends_well q line faulty sound (OtherNumber b rest in_range whole not_due line_is faulty_is) = absurd (true≢false (sym faulty_is ∙ sound))
@@ -87,7 +88,7 @@ module _ {G B S E : Type 0} (m : Machine G B S E) (start_laws : IsWire m.genesis
 abbrev followed_by : Spot Chain → List ℕ → Spot Chain
 followed_by p rest = record { at = p.at; state = p.state; rest = rest }
 
-bytes_taken : (blocks : List Block) (p q : Spot Chain) (text : List ℕ) → Passes npos_machine blocks p q text
+pub bytes_taken : (blocks : List Block) (p q : Spot Chain) (text : List ℕ) → Passes npos_machine blocks p q text
     → p.rest ≡ block_bytes blocks ++ q.rest
 bytes_taken [] p q text passes = ap (λ (s : Spot Chain). s.rest) (sym passes.0)
 bytes_taken (block ∷ blocks) p q text passes =

@@ -1,5 +1,6 @@
 -- How a replay comes on that reads piece by piece and writes block by block, and how it ends.
-use Rattle.std.proofs.Common.{◌≡◌, inl, inr, ◌≤◌, ◌+◌, ◌-◌, ℕ, Bool, true, false, List, [], ◌++◌, length, take, drop, Option, Some, None, Result, Ok, Err, refl, sym, ◌∙◌, ap, subst, append_assoc, arith, length-append, true≢false}
+use Rattle.std.proofs.Common.{◌≡◌, inl, inr, ◌≤◌, ◌+◌, ◌-◌, ℕ, Bool, true, false, List, [], ◌++◌, length, take, drop, Option, Some}
+use Rattle.std.proofs.Common.{None, Result, Ok, Err, refl, sym, ◌∙◌, ap, subst, append_assoc, arith, length-append, true≢false}
 use Rattle.std.proofs.lemmas.List.{append-nil, take-append-drop, take-append-le}
 use Rattle.npos_base.specs.Outside.{Told, Appends}
 use Rattle.npos_base.proofs.Appended.{appends_none, appends_both}
@@ -8,26 +9,28 @@ use Rattle.scale_wire.specs.declared.fault.WireFault.{WireFault}
 use Rattle.scale_wire.specs.Reading.{Place, IsRead}
 use Rattle.block_wire.specs.declared.genesis.Genesis.{Genesis}
 use Rattle.npos_runtime.specs.declared.chain.Chain.{Chain}
-use Rattle.npos_cli.specs.declared.turn.Stop.TheVariants.{More, Last}
-use Rattle.npos_cli.specs.declared.status.Status.{Status}
-use Rattle.npos_cli.specs.declared.halt.Halt.{Halt}
-use Rattle.npos_cli.specs.declared.halt.Halt.TheVariants as halts
-use Rattle.npos_cli.specs.Replay.{Spot, Starts, Reaches, all_seated, Replayed, IsWhole, NoStart, IsFront}
+use Rattle.run_edges.specs.declared.turn.Stop.TheVariants.{More, Last}
+use Rattle.run_edges.specs.declared.status.Status.{Status}
+use Rattle.run_edges.specs.declared.halt.Halt.{Halt}
+use Rattle.run_edges.specs.declared.halt.Halt.TheVariants as halts
+use Rattle.run_edges.specs.Replay.{Spot, Starts, Reaches, all_seated, Replayed, IsWhole, NoStart, IsFront}
 use Rattle.npos_cli.specs.declared.output.Output.{Output}
 use Rattle.npos_cli.specs.Outputs.{machine_of}
 use Rattle.npos_cli.specs.Chain.{npos_machine}
 use Rattle.block_wire.specs.Genesis.{genesis_form}
-use Rattle.npos_cli.specs.Ahead.{HasSeen, FeedsMore, CutsGenesis, AwaitsGenesis, AwaitsMore, Begins}
-use Rattle.npos_cli.specs.Turning.{spot, grown, WritesOn, InGenesis, Behind, KeepsUp}
-use Rattle.npos_cli.specs.Owed.{LeftAfter, TakesAtMost, DeliversFront, FindsReplay, BeginsReplay, IsOwedReplay, Puts, FlushesBy}
-use Rattle.npos_cli.specs.Report.{ReplayOwes, replay_status}
-use Rattle.npos_cli.specs.Streaming.{Course, Finished, CutBy, Halts, Delivered, HasWritten, ReadsWhile}
+use Rattle.run_edges.specs.Ahead.{HasSeen, FeedsMore}
+use Rattle.npos_cli.specs.Ahead.{CutsGenesis, AwaitsGenesis, AwaitsMore, Begins}
+use Rattle.run_edges.specs.Turning.{spot, grown, WritesOn, InGenesis, Behind, KeepsUp}
+use Rattle.run_edges.specs.Owed.{LeftAfter, TakesAtMost, DeliversFront, FindsReplay, BeginsReplay, IsOwedReplay, Puts, FlushesBy, ReplayOwes}
+use Rattle.run_edges.specs.Status.{replay_status}
+use Rattle.run_edges.specs.Streaming.{Course, Finished, CutBy, Halts, Delivered, ReadsWhile}
+use Rattle.npos_cli.specs.Streaming.{HasWritten}
 use Rattle.npos_cli.proofs.ChainLaws.{genesis_laws, turn_laws}
-use Rattle.npos_cli.proofs.ReplayLaws.{reaches_itself, unreadable}
-use Rattle.npos_cli.proofs.WholeLaws.{reaches_grow, start_grows, whole_grows, reached_front, undecided_whole}
-use Rattle.npos_cli.proofs.EdgeLaws.{left_join, left_none, seen_once, seen_more, delivered, fronted}
-use Rattle.npos_cli.proofs.TurnLaws.{reaches_join}
-use Rattle.npos_cli.proofs.StartLaws.{found, finds_for}
+use Rattle.run_edges.proofs.ReplayLaws.{reaches_itself, unreadable}
+use Rattle.run_edges.proofs.WholeLaws.{reaches_grow, start_grows, whole_grows, reached_front, undecided_whole}
+use Rattle.run_edges.proofs.EdgeLaws.{left_join, left_none, seen_once, seen_more, delivered, fronted}
+use Rattle.run_edges.proofs.TurnLaws.{reaches_join}
+use Rattle.run_edges.proofs.StartLaws.{found, finds_for}
 use Rattle.npos_cli.proofs.RunLaws.{replay_front}
 
 front_more : (text written more : List ℕ) → IsFront text written → IsFront text (written ++ more)
@@ -213,7 +216,8 @@ module _ (output : Output) where
 
   -- ## The blocks
 
-  module _ (left mid : Option (List ℕ)) (old told : Option Told) (ended : Bool) (p q : Spot Chain) (new : Option Told) (line : List ℕ) (course : Course (machine_of output) left mid old told ended p) where
+  module _ (left mid : Option (List ℕ)) (old told : Option Told) (ended : Bool) (p q : Spot Chain) (new : Option Told)
+      (line : List ℕ) (course : Course (machine_of output) left mid old told ended p) where
     -- blocks were taken, and the next piece was read
     pub course_on : (now : Option (List ℕ)) (here read : Place) (chain : Chain) (going : Bool) → q ≡ spot here chain → WritesOn (machine_of output) ended p q told new line (Ok More)
         → FeedsMore mid now here read (Ok going) → Course (machine_of output) left now old new going (spot read chain)
@@ -243,7 +247,8 @@ module _ (output : Output) where
         }
 
     -- the next piece was asked for, whatever came of it
-    pub wary_on : (now : Option (List ℕ)) (gave : ℕ) → WritesOn (machine_of output) ended p q told new line (Ok More) → TakesAtMost gave mid now → gave ≤ 65536 → ReadsWhile (machine_of output) left now gave
+    pub wary_on : (now : Option (List ℕ)) (gave : ℕ) → WritesOn (machine_of output) ended p q told new line (Ok More)
+        → TakesAtMost gave mid now → gave ≤ 65536 → ReadsWhile (machine_of output) left now gave
     wary_on now gave writes few one_piece = record {
       earlier = course.taken;
       last = few.0;
@@ -328,7 +333,9 @@ module _ (output : Output) where
             before = front_itself text;
           };
           front = begins_reached left now old new (course.taken ++ more) text text (grown more course.start) (grown more q) joined
-              (start_grows (machine_of output) genesis_laws turn_laws more course.taken course.start course.starts) (reaches_grow (machine_of output) genesis_laws turn_laws more course.start q text all) (front_itself text) appends;
+              (start_grows (machine_of output) genesis_laws turn_laws more course.taken course.start course.starts)
+              (reaches_grow (machine_of output) genesis_laws turn_laws more course.start q text all)
+              (front_itself text) appends;
           cut = cut;
         }
 
@@ -364,7 +371,9 @@ module _ (output : Output) where
           left_is = done.left_is;
           told = all;
           keeps_up = keeps_up_more done.taken done.written put done.keeps_up;
-          front = replay_front (machine_of output) genesis_laws turn_laws left old new (done.written ++ line) (replay_status faulty) (finds_for (machine_of output) left now (done.written ++ line) faulty (replay_status faulty) done.finds refl)
+          front = replay_front (machine_of output) genesis_laws turn_laws left old new (done.written
+              ++ line) (replay_status faulty) (finds_for (machine_of output) left now (done.written ++ line) faulty
+              (replay_status faulty) done.finds refl)
               (fronted old new (done.written ++ put) (done.written ++ line) all
               (front.0, ap (λ (back : List ℕ). done.written ++ back) front.1 ∙ sym (append_assoc done.written put front.0)));
           cut = tt;
@@ -383,7 +392,9 @@ module _ (output : Output) where
     finished_unflushed mid new halts.ReadFault puts flushes = absurd flushes
     finished_unflushed mid new halts.NoMemory puts flushes = absurd flushes
 
-    pub finished_whole : (mid new : Option Told) (status : Status) → Puts told mid line (Ok tt) → FlushesBy mid new (Ok tt) → status ≡ replay_status faulty → Delivered (machine_of output) left now old new status
+    pub finished_whole : (mid new : Option Told) (status : Status) → Puts told mid line (Ok tt)
+        → FlushesBy mid new (Ok tt) → status ≡ replay_status faulty
+        → Delivered (machine_of output) left now old new status
     finished_whole mid new status puts flushes is = record {
       taken = done.taken;
       written = done.written;

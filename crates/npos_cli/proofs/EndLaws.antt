@@ -4,17 +4,18 @@ use Rattle.npos_base.specs.declared.outside.Tried.{Tried}
 use Rattle.npos_base.specs.Outside.{Rose}
 use Rattle.npos_cli.specs.declared.job.Job.{Job}
 use Rattle.npos_cli.specs.declared.job.Job.TheVariants as jobs
-use Rattle.bundle_reports.specs.declared.asked.Task.{Task}
-use Rattle.bundle_reports.specs.declared.asked.Task.TheVariants as tasks
-use Rattle.bundle_reports.specs.declared.asked.Miner.TheVariants as miners
-use Rattle.bundle_reports.specs.Tasks.{IsSound}
-use Rattle.npos_cli.specs.declared.status.Status.{Status}
-use Rattle.npos_cli.specs.declared.status.Status.TheVariants as statuses
-use Rattle.npos_cli.specs.declared.halt.Halt.{Halt}
-use Rattle.npos_cli.specs.declared.halt.Halt.TheVariants as halts
-use Rattle.npos_cli.specs.Status.{halted_by, end_of}
+use Rattle.election_work.specs.declared.asked.Task.{Task}
+use Rattle.election_work.specs.declared.asked.Task.TheVariants as tasks
+use Rattle.npos_base.specs.declared.miner.Miner.TheVariants as miners
+use Rattle.election_work.specs.Sound.{IsSound}
+use Rattle.run_edges.specs.declared.status.Status.{Status}
+use Rattle.run_edges.specs.declared.status.Status.TheVariants as statuses
+use Rattle.run_edges.specs.declared.halt.Halt.{Halt}
+use Rattle.run_edges.specs.declared.halt.Halt.TheVariants as halts
+use Rattle.run_edges.specs.Status.{halted_by, end_of}
 use Rattle.npos_cli.specs.Report.{ReadsInput, IsAnswer, IsJudged}
-use Rattle.npos_cli.specs.Owed.{AnswersFor, IsDrained, KeepsFlushed, Settles}
+use Rattle.npos_cli.specs.Owed.{AnswersFor}
+use Rattle.run_edges.specs.Owed.{IsDrained, KeepsFlushed, Settles}
 use Rattle.npos_cli.specs.Streaming.{HaltedReading, HaltedWriting, HaltedStarving}
 use Rattle.npos_cli.specs.Ran.{Traffic, Ran}
 use Rattle.npos_cli.proofs.StatusLaws.{found_answers}

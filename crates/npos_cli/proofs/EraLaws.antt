@@ -3,9 +3,9 @@ use Rattle.std.proofs.Common.{ℕ, ◌<◌, List, [], Option, Some, None, IfSome
 use Rattle.std.proofs.lemmas.List.Elements.{All-nil}
 use Rattle.npos_runtime.specs.Genesis.{genesis_chain}
 use Rattle.npos_runtime.specs.declared.chain.Chain.{Chain}
-use Rattle.npos_runtime.specs.DeferredLaws.{QueuedLaw, AppliedLaw, TakenInAllLaw}
-use Rattle.npos_runtime.specs.EraLaws.{chain_at, PaidWithinRewardLaw, PaidAsToldLaw, SlashLaw, TakenLaw, OnceLaw, DueWithinStakeLaw}
-use Rattle.npos_runtime.proofs.BeginLemmas.{start_law}
+use Rattle.npos_runtime.specs.Histories.Deferred.{QueuedLaw, AppliedLaw, TakenInAllLaw}
+use Rattle.npos_runtime.specs.Histories.Eras.{chain_at, PaidWithinRewardLaw, PaidAsToldLaw, SlashLaw, TakenLaw, OnceLaw, DueWithinStakeLaw}
+use Rattle.npos_runtime.proofs.Rules.BeginLemmas.{start_law}
 use Rattle.npos_cli.specs.Eras.{ErasAreKept}
 use Rattle.npos_cli.proofs.BookLaws.{history_of}
 
@@ -33,7 +33,3 @@ eras_kept reward payout slash taken once due queued applied in_all bytes start p
         taken = λ era who. omega (arith, in_all first reaches.blocks era who [] can (All-nil (λ number. number < first.eras.next_slash)));
       },
     )
-
-pub told_eras : (left : Option (List ℕ)) → ((bytes : List ℕ) → ErasAreKept bytes) → IfSome left ErasAreKept
-told_eras None law = tt
-told_eras (Some bytes) law = law bytes

@@ -7,7 +7,7 @@ use Rattle.stake_pools.specs.Genesis.{pool_fault, pool_chain}
 use Rattle.stake_pools.specs.Step.{after_items}
 use Rattle.stake_pools.specs.Sound.{IsSoundPool}
 use Rattle.stake_pools.specs.Laws.{PoolStartLaw, KeptLaw, WorthLaw, JoinLaw, RedeemLaw, UndilutedLaw, PaidLaw}
-use Rattle.npos_cli.specs.Replay.{Spot, Passes, behind}
+use Rattle.run_edges.specs.Replay.{Spot, Passes, behind}
 use Rattle.npos_cli.specs.Pools.{PoolRun, pool_started, pool_machine, PoolsAreFair}
 
 -- the pool behind the items is what they make of the pool before them
@@ -37,7 +37,3 @@ fair starts_sound keeps worths joins redeems undiluted paid bytes start place te
       undiluted = undiluted place.state.pool sound;
       paid = paid place.state.pool;
     }
-
-pub told_pools : (left : Option (List ℕ)) → ((bytes : List ℕ) → PoolsAreFair bytes) → IfSome left PoolsAreFair
-told_pools None law = tt
-told_pools (Some bytes) law = law bytes

@@ -1,22 +1,24 @@
 -- What is owed for an input that was read whole, by what was read of it and told.
-use Rattle.std.proofs.Common.{◌≡◌, ◌≢◌, ℕ, ◌+◌, ◌<◌, Bool, true, false, List, [], ◌++◌, length, Option, Some, None, Result, Ok, Err, IfOk, refl, sym, ◌∙◌, ap, subst, append_assoc, arith, length-append}
+use Rattle.std.proofs.Common.{◌≡◌, ◌≢◌, ℕ, ◌+◌, ◌<◌, Bool, true, false, List, [], ◌++◌, length, Option, Some, None}
+use Rattle.std.proofs.Common.{Result, Ok, Err, IfOk, refl, sym, ◌∙◌, ap, subst, append_assoc, arith, length-append}
 use Rattle.std.proofs.lemmas.List.{append-nil}
 use Rattle.scale_wire.specs.declared.fault.Why.TheVariants.{Trailing}
 use Rattle.scale_wire.specs.declared.fault.WireFault.{WireFault}
 use Rattle.scale_wire.specs.Form.{IsWire}
 use Rattle.scale_wire.specs.Reading.{Place, IsRead, IsFault}
 use Rattle.bundle_reports.specs.Texts.{fault_line}
-use Rattle.npos_cli.specs.Texts.{number_line}
+use Rattle.run_edges.specs.Texts.{number_line}
 use Rattle.npos_cli.specs.declared.going.Turn.{Turn}
 use Rattle.npos_cli.specs.declared.going.Turn.TheVariants.{Taken, Last}
-use Rattle.npos_cli.specs.declared.status.Status.{Status}
-use Rattle.npos_cli.specs.declared.status.Status.TheVariants as statuses
-use Rattle.npos_cli.specs.Replay.{Machine, Spot, turn, Starts, Reaches, all_seated, Refused, OtherNumber, Followed, Ended, Outcome, BadGenesis, FaultyGenesis, Replayed}
-use Rattle.npos_cli.specs.Report.{ReplayOwes, replay_status}
-use Rattle.npos_cli.specs.Ahead.{first_place}
-use Rattle.npos_cli.specs.Going.{EndsHere, TakesItem, HasTold, GoesOn}
-use Rattle.npos_cli.specs.Turning.{spot}
-use Rattle.npos_cli.proofs.ReplayLaws.{reaches_more, reaches_itself}
+use Rattle.run_edges.specs.declared.status.Status.{Status}
+use Rattle.run_edges.specs.declared.status.Status.TheVariants as statuses
+use Rattle.run_edges.specs.Replay.{Machine, Spot, turn, Starts, Reaches, all_seated, Refused, OtherNumber, Followed, Ended, Outcome, BadGenesis, FaultyGenesis, Replayed}
+use Rattle.run_edges.specs.Owed.{ReplayOwes}
+use Rattle.run_edges.specs.Status.{replay_status}
+use Rattle.run_edges.specs.Ahead.{first_place}
+use Rattle.npos_cli.specs.Going.{EndsHere, TakesItem, GoesOn}
+use Rattle.run_edges.specs.Turning.{HasTold, spot}
+use Rattle.run_edges.proofs.ReplayLaws.{reaches_more, reaches_itself}
 
 module _ {G B S E : Type 0} (m : Machine G B S E) (genesis_laws : IsWire m.genesis) (turn_laws : IsWire (turn m)) where
   -- ## One item

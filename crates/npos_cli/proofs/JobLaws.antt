@@ -4,29 +4,31 @@ use Rattle.std.proofs.lemmas.List.{append-nil}
 use Rattle.npos_base.specs.Outside.{Told}
 use Rattle.npos_cli.specs.declared.job.Job.{Job}
 use Rattle.npos_cli.specs.declared.job.Job.TheVariants as jobs
-use Rattle.bundle_reports.specs.declared.asked.Task.{Task}
-use Rattle.bundle_reports.specs.declared.asked.Task.TheVariants as tasks
-use Rattle.bundle_reports.specs.declared.asked.Miner.TheVariants as miners
-use Rattle.npos_cli.specs.declared.status.Status.{Status}
-use Rattle.npos_cli.specs.declared.status.Status.TheVariants as statuses
-use Rattle.npos_cli.specs.declared.halt.Halt.{Halt}
-use Rattle.npos_cli.specs.declared.halt.Halt.TheVariants as halts
-use Rattle.bundle_reports.specs.Tasks.{IsSound}
+use Rattle.election_work.specs.declared.asked.Task.{Task}
+use Rattle.election_work.specs.declared.asked.Task.TheVariants as tasks
+use Rattle.npos_base.specs.declared.miner.Miner.TheVariants as miners
+use Rattle.run_edges.specs.declared.status.Status.{Status}
+use Rattle.run_edges.specs.declared.status.Status.TheVariants as statuses
+use Rattle.run_edges.specs.declared.halt.Halt.{Halt}
+use Rattle.run_edges.specs.declared.halt.Halt.TheVariants as halts
+use Rattle.election_work.specs.Sound.{IsSound}
 use Rattle.bundle_reports.specs.Demo.{demo_report}
 use Rattle.npos_cli.specs.Words.{usage_line}
 use Rattle.npos_cli.specs.declared.output.Output.{Output}
 use Rattle.npos_cli.specs.declared.output.Output.TheVariants.{Receipts, Checkpoint}
-use Rattle.npos_cli.specs.Report.{ReplayOwes, JobOwes, ReadsInput, ReadsBundle, IsJudged, replay_status}
-use Rattle.npos_cli.specs.Replay.{Machine}
+use Rattle.run_edges.specs.Owed.{ReplayOwes, IsDrained, TakesAtMost, DeliversFront, KeepsFlushed, Counts, Ends}
+use Rattle.npos_cli.specs.Report.{JobOwes, ReadsInput, ReadsBundle, IsJudged}
+use Rattle.run_edges.specs.Status.{replay_status}
+use Rattle.run_edges.specs.Replay.{Machine}
 use Rattle.npos_cli.specs.Chain.{npos_machine}
 use Rattle.npos_cli.specs.Outputs.{machine_of}
-use Rattle.npos_cli.specs.Owed.{FindsFor, AnswersFor, BeginsFor, IsDrained, TakesAtMost, DeliversFront, KeepsFlushed, Counts, Ends}
-use Rattle.npos_cli.specs.Streaming.{Halts, ReplayEnds}
+use Rattle.npos_cli.specs.Owed.{FindsFor, AnswersFor, BeginsFor}
+use Rattle.run_edges.specs.Streaming.{Halts, ReplayEnds}
 use Rattle.npos_cli.specs.Ran.{Traffic, HaltedBy, Ran, DemoEnds}
-use Rattle.npos_cli.proofs.EdgeLaws.{unflushed, takes_none}
+use Rattle.run_edges.proofs.EdgeLaws.{unflushed, takes_none}
 use Rattle.npos_cli.proofs.RunLaws.{found_unread, nothing_asked, front_found, front_delivered}
 use Rattle.npos_cli.proofs.CourseLaws.{has_written, begins_starved}
-use Rattle.npos_cli.proofs.StartLaws.{finds_for}
+use Rattle.run_edges.proofs.StartLaws.{finds_for}
 
 -- nothing was delivered, which is a front of any text
 pub front_none : (now : Option Told) (text : List ℕ) → DeliversFront now now text

@@ -1,8 +1,4 @@
-pub mod ReplayLaws
-pub mod EdgeLaws
-pub mod GrowLaws
 pub mod ChainLaws
-pub mod TurnLaws
 pub mod WritLaws
 pub mod SavableLaws
 pub mod NearLaws
@@ -11,18 +7,13 @@ pub mod BookLaws
 pub mod RunLaws
 pub mod StatusLaws
 pub mod PromiseLaws
-pub mod WholeLaws
-pub mod FaultLaws
 pub mod SeatLaws
 pub mod CrowdingLaws
-pub mod FeedLaws
-pub mod AskLaws
 pub mod CourseLaws
 pub mod JobLaws
 pub mod EndLaws
 pub mod RewriteLaws
 pub mod GoingLaws
-pub mod IntakeLaws
 pub mod PoolLaws
 pub mod ResumeLaws
 pub mod FairLaws
@@ -31,5 +22,5 @@ pub mod StreamLaws
 pub mod WordsLaws
 pub mod CheckpointLaws
 pub mod ResumedLaws
-pub mod ToldLaws
+pub mod ClaimLaws
 pub mod LineLaws

@@ -6,12 +6,14 @@ use Rattle.block_wire.specs.declared.block.Block.{Block}
 use Rattle.block_wire.specs.declared.genesis.Genesis.{Genesis}
 use Rattle.block_wire.specs.Genesis.{genesis_form}
 use Rattle.npos_runtime.specs.declared.chain.Chain.{Chain}
-use Rattle.npos_runtime.proofs.LiveLemmas.{due_step}
-use Rattle.npos_cli.specs.Replay.{Spot, Reaches, Passes, IsTurn, behind, turn}
+use Rattle.npos_runtime.proofs.Rules.LiveLemmas.{due_step}
+use Rattle.run_edges.specs.Replay.{Spot, Reaches, Passes, IsTurn, behind, turn}
 use Rattle.npos_cli.specs.declared.output.Output.{Output}
 use Rattle.npos_cli.specs.Outputs.{machine_of}
-use Rattle.npos_cli.specs.Ahead.{first_place, CutsGenesis}
-use Rattle.npos_cli.specs.Turning.{IsNear, IsCutHere}
+use Rattle.run_edges.specs.Ahead.{first_place}
+use Rattle.npos_cli.specs.Ahead.{CutsGenesis}
+use Rattle.npos_cli.specs.Near.{IsNear}
+use Rattle.run_edges.specs.Turning.{IsCutHere}
 use Rattle.npos_cli.proofs.ChainLaws.{genesis_laws, turn_laws}
 
 pub genesis_room : (place : Place) → place.at ≡ 0 → CutsGenesis place.rest → place.at + length place.rest + 65536 < 2 ^ 64

@@ -14,13 +14,13 @@ use Rattle.stake_pools.specs.Input.{item_form}
 use Rattle.stake_pools.specs.InputLaws.{pool_genesis_laws, item_laws}
 use Rattle.stake_pools.specs.Genesis.{pool_fault, pool_chain, fault_numbers, IsFault as IsPoolFault}
 use Rattle.stake_pools.specs.Life.{Life, AppliesWell}
-use Rattle.npos_cli.specs.declared.turn.Turn.TheVariants.{Taken}
+use Rattle.run_edges.specs.declared.turn.Turn.TheVariants.{Taken}
 use Rattle.npos_cli.specs.Texts.{genesis_line}
-use Rattle.npos_cli.specs.Replay.{turn, behind}
+use Rattle.run_edges.specs.Replay.{turn, behind}
 use Rattle.npos_cli.specs.Pools.{pool_line_text, pool_started, pool_machine}
-use Rattle.npos_cli.specs.Turning.{TakesTurn}
+use Rattle.run_edges.specs.Turning.{TakesTurn}
 use Rattle.npos_cli.specs.Pooling.{pool_spot}
-use Rattle.npos_cli.proofs.ReplayLaws.{same_spot}
+use Rattle.run_edges.proofs.ReplayLaws.{same_spot}
 
 pub pool_laws : IsWire pool_machine.genesis
 pool_laws = pool_genesis_laws

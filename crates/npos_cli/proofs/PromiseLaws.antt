@@ -3,20 +3,19 @@ use Rattle.std.proofs.Common.{◌≡◌, ◌≢◌, ◌⊎◌, inl, inr, ℕ, Bo
 use Rattle.npos_base.specs.Outside.{Told}
 use Rattle.npos_cli.specs.declared.job.Job.{Job}
 use Rattle.npos_cli.specs.declared.job.Job.TheVariants as jobs
-use Rattle.npos_cli.specs.declared.status.Status.{Status}
-use Rattle.npos_cli.specs.declared.status.Status.TheVariants as statuses
+use Rattle.run_edges.specs.declared.status.Status.{Status}
+use Rattle.run_edges.specs.declared.status.Status.TheVariants as statuses
 use Rattle.bundle_reports.specs.declared.ending.Ending.{Ending}
 use Rattle.bundle_reports.specs.declared.ending.Ending.TheVariants as endings
-use Rattle.npos_cli.specs.Status.{status_of}
+use Rattle.run_edges.specs.Status.{status_of, replay_status}
 use Rattle.npos_cli.specs.Words.{HasForm, job_of, usage_line}
-use Rattle.npos_cli.specs.Report.{JobOwes, replay_status, ReadsInput, IsAnswer, IsJudged}
-use Rattle.npos_cli.specs.Replay.{Outcome, IsReplay}
+use Rattle.npos_cli.specs.Report.{JobOwes, ReadsInput, IsAnswer, IsJudged}
+use Rattle.run_edges.specs.Replay.{Outcome, IsReplay}
 use Rattle.npos_runtime.specs.declared.chain.Chain.{Chain}
-use Rattle.npos_runtime.specs.Outcome.{Election as Seated}
+use Rattle.npos_runtime.specs.Rules.Outcome.{Election as Seated}
 use Rattle.npos_cli.specs.Chain.{npos_machine}
-use Rattle.npos_cli.specs.Books.{BooksBalance}
-use Rattle.npos_cli.specs.Headline.{SeatsAreSound, IsPromised}
-use Rattle.npos_cli.specs.Owed.{IsDrained, Delivers, DeliversFront, DeliversReplay, DeliversReplayFront, Comes, ComesWith, Answers, IsOwed, BeginsToAnswer}
+use Rattle.npos_cli.specs.Owed.{Answers, IsOwed, BeginsToAnswer}
+use Rattle.run_edges.specs.Owed.{IsDrained, Delivers, DeliversFront, DeliversReplay, DeliversReplayFront, Comes, ComesWith}
 use Rattle.npos_cli.proofs.RunLaws.{one_owed}
 
 -- what an answer that is known to be this one says
@@ -128,6 +127,17 @@ module _ (words : List (List ℕ)) (asked : job_of words ≡ Some jobs.Replay) w
   is_bad true e = refl
   is_bad false e = cc
 
+  is_no : (faulty : Bool) → statuses.No ≡ replay_status faulty → ⊥
+  is_no true e = cc
+  is_no false e = cc
+
+  pub no_verdict_of : (left : Option (List ℕ)) (old new : Option Told) (answer : Status)
+      → (IsAnswer answer → Answers words left old new answer) → answer ≢ statuses.No
+  no_verdict_of left old new answer answers = λ is.
+      let a = at_answer words left old new answer statuses.No is tt answers in
+      let owes = subst (λ (job : Option Job). JobOwes job a.1.0 a.0 statuses.No) asked a.1.2 in
+      is_no owes.0.faulty owes.3
+
   pub done_of : (left now : Option (List ℕ)) (old new : Option Told) (answer : Status) → answer ≡ statuses.Done
       → (IsAnswer answer → Answers words left old new answer) → (IsJudged answer → ReadsInput (job_of words) → IsDrained left now)
       → IfSome left (λ bytes. DeliversReplay npos_machine false old new bytes × (now ≡ Some []))
@@ -160,7 +170,7 @@ module _ (words : List (List ℕ)) (asked : job_of words ≡ Some jobs.Replay) w
 -- ## The promise
 
 -- a run that was not cut off has an answer
-uncut : (answer : Status) (read write : Type 0) → (answer ≡ statuses.ReadFault → read) → (answer ≡ statuses.WriteFault → write)
+pub uncut : (answer : Status) (read write : Type 0) → (answer ≡ statuses.ReadFault → read) → (answer ≡ statuses.WriteFault → write)
     → (read → ⊥) → (write → ⊥) → answer ≢ statuses.NoMemory → IsAnswer answer
 uncut statuses.Done read write reads writes no_read no_write memory = tt
 uncut statuses.No read write reads writes no_read no_write memory = tt
@@ -169,21 +179,3 @@ uncut statuses.BadInput read write reads writes no_read no_write memory = tt
 uncut statuses.ReadFault read write reads writes no_read no_write memory = absurd (no_read (reads refl))
 uncut statuses.WriteFault read write reads writes no_read no_write memory = absurd (no_write (writes refl))
 uncut statuses.NoMemory read write reads writes no_read no_write memory = absurd (memory refl)
-
-pub promised : (words : List (List ℕ)) (left : Option (List ℕ)) (old new : Option Told) (answer : Status) (read write : Type 0)
-    → (IsAnswer answer → Answers words left old new answer) → (answer ≡ statuses.ReadFault → ReadsInput (job_of words) × read)
-    → (answer ≡ statuses.WriteFault → write) → IfSome left BooksBalance → IfSome left SeatsAreSound
-    → job_of words ≡ Some jobs.Replay → (read → ⊥) → (write → ⊥) → answer ≢ statuses.NoMemory
-    → IfSome left (λ bytes. IsPromised bytes old new)
-promised words None old new answer read write answers reads writes books seats asked no_read no_write memory = tt
-promised words (Some left) old new answer read write answers reads writes books seats asked no_read no_write memory =
-    let a = answers (uncut answer read write (λ is. (reads is).1) writes no_read no_write memory) in
-    let owes = subst (λ (job : Option Job). JobOwes job a.1.0 a.0 answer) asked a.1.2 in
-    let is_replay = subst (λ (b : List ℕ). IsReplay npos_machine b owes.0) a.1.1 owes.1 in
-    record {
-      replay = owes.0;
-      is_replay = is_replay;
-      written = subst (λ (t : List ℕ). Delivers old new t) owes.2 a.2;
-      committees = seats owes.0 is_replay;
-      holdings = books;
-    }

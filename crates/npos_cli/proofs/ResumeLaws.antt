@@ -10,21 +10,21 @@ use Rattle.npos_runtime.specs.declared.chain.Chain.{Chain}
 use Rattle.npos_runtime.specs.declared.runtime.BlockFault.TheVariants.{WrongNumber}
 use Rattle.npos_runtime.specs.declared.state_fault.StateFault.{StateFault}
 use Rattle.npos_runtime.specs.declared.state_fault.StateFault.TheVariants.{NoMemory}
-use Rattle.npos_runtime.specs.KeptChain.{chain_of}
+use Rattle.npos_runtime.specs.Kept.Chain.{chain_of}
 use Rattle.npos_runtime.specs.Life.{Life, AppliesWell, HasFault}
-use Rattle.npos_runtime.specs.Restoring.{state_fault, IsDueFault}
+use Rattle.npos_runtime.specs.Kept.Restoring.{state_fault, IsDueFault}
 use Rattle.npos_cli.specs.declared.going.Turn.TheVariants.{Taken, Last}
-use Rattle.npos_cli.specs.declared.status.Status.{Status}
-use Rattle.npos_cli.specs.declared.status.Status.TheVariants as statuses
-use Rattle.npos_cli.specs.Texts.{number_line}
+use Rattle.run_edges.specs.declared.status.Status.{Status}
+use Rattle.run_edges.specs.declared.status.Status.TheVariants as statuses
+use Rattle.run_edges.specs.Texts.{number_line}
 use Rattle.npos_cli.specs.Chain.{line_text}
 use Rattle.npos_cli.specs.Checkpoints.{state_line, resumed, resume_machine}
-use Rattle.npos_cli.specs.Replay.{turn, behind, Starts}
-use Rattle.npos_cli.specs.Report.{ReplayOwes}
-use Rattle.npos_cli.specs.Ahead.{first_place}
-use Rattle.npos_cli.specs.Turning.{spot}
+use Rattle.run_edges.specs.Replay.{turn, behind, Starts}
+use Rattle.run_edges.specs.Owed.{ReplayOwes}
+use Rattle.run_edges.specs.Ahead.{first_place}
+use Rattle.run_edges.specs.Turning.{spot}
 use Rattle.npos_cli.specs.Going.{TakesItem}
-use Rattle.npos_cli.proofs.ReplayLaws.{same_spot}
+use Rattle.run_edges.proofs.ReplayLaws.{same_spot}
 use Rattle.npos_cli.proofs.GoingLaws.{number_item, faulty_input, input_starts}
 use Rattle.state_checkpoint.specs.LayoutLaws.{state_laws}
 use Rattle.npos_cli.proofs.ChainLaws.{turn_laws}

@@ -3,17 +3,17 @@
 use Rattle.std.proofs.Common.{◌≡◌, ℕ, List, [], ◌∷◌, ◌++◌, All, refl, sym, ap, subst, arith}
 use Rattle.block_wire.specs.declared.block.Block.{Block}
 use Rattle.npos_runtime.specs.declared.chain.Chain.{Chain}
-use Rattle.npos_runtime.specs.Deposits.{DepositsGoOnLaw}
-use Rattle.npos_runtime.specs.DeferredLaws.{QueuedLaw, AppliedLaw, TakenInAllLaw}
-use Rattle.npos_runtime.specs.EraLaws.{chain_at, PaidOnLaw, ToldOnLaw, SlashLaw, OnceOnLaw, DuesOnLaw}
+use Rattle.npos_runtime.specs.Histories.Deposits.{DepositsGoOnLaw}
+use Rattle.npos_runtime.specs.Histories.Deferred.{QueuedLaw, AppliedLaw, TakenInAllLaw}
+use Rattle.npos_runtime.specs.Histories.Eras.{chain_at, PaidOnLaw, ToldOnLaw, SlashLaw, OnceOnLaw, DuesOnLaw}
 use Rattle.npos_runtime.specs.History.{CanTake}
-use Rattle.npos_runtime.specs.Laws.{IsSeatedSoundly, SeatedSoundLaw, NoneCrowdedOutLaw}
-use Rattle.npos_runtime.specs.Outcome.{Election}
-use Rattle.npos_runtime.specs.Restoring.{state_fault}
-use Rattle.npos_runtime.specs.Savable.{IsSavable, RestoredStateLaw}
-use Rattle.npos_runtime.specs.Seatings.{SeatingsLaw}
+use Rattle.npos_runtime.specs.Histories.Laws.{IsSeatedSoundly, SeatedSoundLaw, NoneCrowdedOutLaw}
+use Rattle.npos_runtime.specs.Rules.Outcome.{Election}
+use Rattle.npos_runtime.specs.Kept.Restoring.{state_fault}
+use Rattle.npos_runtime.specs.Kept.Savable.{IsSavable, RestoredStateLaw}
+use Rattle.npos_runtime.specs.Histories.Seatings.{SeatingsLaw}
 use Rattle.npos_runtime.specs.Step.{step, seated_by}
-use Rattle.npos_cli.specs.Replay.{Spot, behind, Passes, Reaches, Starts, all_seated, Outcome, BadGenesis, FaultyGenesis, Replayed}
+use Rattle.run_edges.specs.Replay.{Spot, behind, Passes, Reaches, Starts, all_seated, Outcome, BadGenesis, FaultyGenesis, Replayed}
 use Rattle.npos_cli.specs.Chain.{npos_machine}
 use Rattle.npos_cli.specs.Checkpoints.{resume_machine}
 use Rattle.npos_cli.specs.Resumed.{ResumedBooksBalance, ResumedSeatsAreSound, ResumedRoundsAreSeated, ResumedNoneIsCrowdedOut, ResumedDepositsAreKept, ResumedErasAreKept}

@@ -9,10 +9,11 @@ use Rattle.bundle_reports.specs.declared.ending.Ending.TheVariants as endings
 use Rattle.bundle_reports.specs.Bundles.{Report}
 use Rattle.bundle_reports.specs.Rewriting.{done, rewrite_report}
 use Rattle.bundle_reports.proofs.RewriteLaws.{rewrite_long, packs_shown}
-use Rattle.npos_cli.specs.declared.status.Status.TheVariants as statuses
-use Rattle.npos_cli.specs.Status.{status_of}
+use Rattle.run_edges.specs.declared.status.Status.TheVariants as statuses
+use Rattle.run_edges.specs.Status.{status_of}
 use Rattle.npos_cli.specs.Report.{Tells, IsJudged}
-use Rattle.npos_cli.specs.Owed.{ReadsUpTo, FindsFor, IsDrained}
+use Rattle.run_edges.specs.Owed.{ReadsUpTo, IsDrained}
+use Rattle.npos_cli.specs.Owed.{FindsFor}
 use Rattle.npos_cli.specs.Laws.{PacksBack}
 use Rattle.npos_cli.proofs.RunLaws.{all_left, is_done, tells_itself}
 

@@ -6,33 +6,32 @@ use Rattle.npos_base.specs.Outside.{Told}
 use Rattle.scale_wire.specs.Form.{IsBytes, IsWire}
 use Rattle.npos_cli.specs.declared.job.Job.{Job}
 use Rattle.npos_cli.specs.declared.job.Job.TheVariants as jobs
-use Rattle.npos_cli.specs.declared.status.Status.{Status}
-use Rattle.npos_cli.specs.declared.status.Status.TheVariants as statuses
+use Rattle.run_edges.specs.declared.status.Status.{Status}
+use Rattle.run_edges.specs.declared.status.Status.TheVariants as statuses
 use Rattle.npos_cli.specs.Words.{job_by, job_of, usage_line, KeepsBounds as JobKeepsBounds}
 use Rattle.bundle_reports.specs.declared.ending.Ending.{Ending}
 use Rattle.bundle_reports.specs.declared.ending.Ending.TheVariants as endings
-use Rattle.npos_cli.specs.Status.{status_of}
-use Rattle.npos_cli.specs.Report.{ReplayOwes, JobOwes, Owes, Tells, replay_status, IsJudged}
-use Rattle.npos_cli.specs.Replay.{Machine, turn, Outcome}
+use Rattle.run_edges.specs.Status.{status_of, replay_status}
+use Rattle.run_edges.specs.Owed.{ReplayOwes, ReadsUpTo, IsDrained, Delivers, DeliversFront, IsAll, BeginsReplay}
+use Rattle.npos_cli.specs.Report.{JobOwes, Owes, Tells, IsJudged}
+use Rattle.run_edges.specs.Replay.{Machine, turn, Outcome}
 use Rattle.npos_cli.specs.Chain.{npos_machine}
 use Rattle.npos_cli.specs.Checkpoints.{checkpoint_machine, resume_machine}
 use Rattle.npos_cli.specs.Pools.{pool_machine}
-use Rattle.bundle_reports.specs.declared.asked.Task.{Task}
+use Rattle.election_work.specs.declared.asked.Task.{Task}
 use Rattle.bundle_reports.specs.Bundles.{Report}
 use Rattle.bundle_reports.specs.Demo.{demo_report}
 use Rattle.bundle_reports.specs.Rewriting.{rewrite_report}
-use Rattle.bundle_reports.specs.Tasks.{IsBundleReport, IsSound}
-use Rattle.npos_cli.specs.Owed.{ReadsUpTo, IsDrained, Delivers, DeliversFront, FindsFor, BeginsFor, IsAll, BeginsReplay}
+use Rattle.bundle_reports.specs.Tasks.{IsBundleReport}
+use Rattle.election_work.specs.Sound.{IsSound}
+use Rattle.npos_cli.specs.Owed.{FindsFor, BeginsFor}
 use Rattle.std.specs.Prelude.{option_map}
 use Rattle.npos_words.specs.declared.command.Command.{Command}
 use Rattle.npos_words.specs.declared.command.Command.TheVariants as commands
-use Rattle.npos_words.specs.declared.command.Miner.{Miner as named_miner}
-use Rattle.npos_words.specs.declared.command.Miner.TheVariants as named
 use Rattle.npos_words.specs.Words.{command_of, KeepsBounds}
 use Rattle.npos_words.proofs.WordLemmas.{keeps_bounds}
-use Rattle.npos_cli.specs.Words.{miner_by}
-use Rattle.bundle_reports.specs.Rounds.{MinerHasRounds}
-use Rattle.npos_cli.proofs.ReplayLaws.{one_replay, any_replay}
+use Rattle.npos_base.proofs.MinerLaws.{has_rounds}
+use Rattle.run_edges.proofs.ReplayLaws.{one_replay, any_replay}
 use Rattle.bundle_reports.proofs.ReportLaws.{one_report, any_report}
 use Rattle.bundle_reports.proofs.LongLaws.{long_report, long_reported}
 use Rattle.state_checkpoint.specs.LayoutLaws.{state_laws}
@@ -111,16 +110,11 @@ front_delivered job left old new text status finds delivers =
 -- PHRAGMMS has at least one round in words that have a form
 pub job_has_rounds : (words : List (List ℕ)) → JobKeepsBounds (job_of words)
 job_has_rounds words = by (command_of words) (keeps_bounds words) where
-  by_miner : (miner : named_miner) (rounds : ℕ) → 1 ≤ rounds → MinerHasRounds (miner_by miner rounds)
-  by_miner named.Fill rounds some = tt
-  by_miner named.Seq rounds some = tt
-  by_miner named.Mms rounds some = some
-
   by : (command : Option Command) → KeepsBounds command → JobKeepsBounds (option_map job_by command)
   by None bounds = tt
   by (Some commands.Replay) bounds = tt
   by (Some commands.Check) bounds = tt
-  by (Some (commands.Mine miner rounds)) bounds = by_miner miner rounds bounds.0
+  by (Some (commands.Mine miner)) bounds = has_rounds miner bounds
   by (Some commands.Pack) bounds = tt
   by (Some commands.Show) bounds = tt
   by (Some (commands.Demo seed voters seats)) bounds = bounds
@@ -204,3 +198,6 @@ bundle_sound task (Some left) now bytes report reads is sound done =
 
 pub bundle_passes : (ending : Ending) → ending ≢ endings.No → status_of ending ≢ statuses.No
 bundle_passes ending passes = λ no. passes (is_no ending no)
+
+-- by these `top` goes on
+pub ruleset bundle_facts = (bundle_found, bundle_drained, bundle_sound, bundle_passes)

@@ -2,14 +2,14 @@
 use Rattle.std.proofs.Common.{◌≡◌, ℕ, Bool, List, [], ◌∷◌, ◌++◌, sym, ◌∙◌, ap, subst}
 use Rattle.block_wire.specs.declared.block.Block.{Block}
 use Rattle.npos_runtime.specs.declared.chain.Chain.{Chain}
-use Rattle.npos_runtime.specs.Savable.{IsSavable, SavableStepLaw}
+use Rattle.npos_runtime.specs.Kept.Savable.{IsSavable, SavableStepLaw}
 use Rattle.npos_runtime.specs.Step.{step}
 use Rattle.npos_cli.specs.declared.output.Output.{Output}
 use Rattle.npos_cli.specs.declared.output.Output.TheVariants.{Checkpoint}
-use Rattle.npos_cli.specs.declared.turn.Turn.TheVariants.{Taken}
+use Rattle.run_edges.specs.declared.turn.Turn.TheVariants.{Taken}
 use Rattle.npos_cli.specs.Outputs.{block_text, machine_of}
-use Rattle.npos_cli.specs.Replay.{Spot, behind, Passes, Reaches}
-use Rattle.npos_cli.specs.Turning.{TakesTurn}
+use Rattle.run_edges.specs.Replay.{Spot, behind, Passes, Reaches}
+use Rattle.run_edges.specs.Turning.{TakesTurn}
 
 module _ (output : Output) where
   savable_passes : SavableStepLaw → (blocks : List Block) (p q : Spot Chain) (text : List ℕ) → Passes (machine_of output) blocks p q text → IsSavable p.state → IsSavable q.state

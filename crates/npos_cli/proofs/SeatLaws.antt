@@ -3,14 +3,14 @@ use Rattle.std.proofs.Common.{ℕ, List, [], ◌∷◌, All, Option, Some, None,
 use Rattle.std.proofs.lemmas.List.Elements.{All-append}
 use Rattle.block_wire.specs.declared.block.Block.{Block}
 use Rattle.npos_runtime.specs.declared.chain.Chain.{Chain}
-use Rattle.npos_runtime.specs.Outcome.{Election}
+use Rattle.npos_runtime.specs.Rules.Outcome.{Election}
 use Rattle.npos_runtime.specs.Step.{step}
 use Rattle.npos_runtime.specs.Live.{IsLive}
-use Rattle.npos_runtime.specs.Laws.{IsSeatedSoundly, SoundStepLaw}
-use Rattle.npos_runtime.specs.Seatings.{SeatingsLaw}
-use Rattle.npos_cli.specs.Replay.{Spot, Passes, behind, all_seated, Outcome, BadGenesis, FaultyGenesis, Replayed}
+use Rattle.npos_runtime.specs.Histories.Laws.{IsSeatedSoundly, SoundStepLaw}
+use Rattle.npos_runtime.specs.Histories.Seatings.{SeatingsLaw}
+use Rattle.run_edges.specs.Replay.{Spot, Passes, behind, all_seated, Outcome, BadGenesis, FaultyGenesis, Replayed}
 use Rattle.npos_cli.specs.Chain.{npos_machine}
-use Rattle.npos_cli.specs.Headline.{SeatsAreSound, RoundsAreSeated}
+use Rattle.npos_cli.specs.Seats.{SeatsAreSound, RoundsAreSeated}
 use Rattle.npos_cli.proofs.BookLaws.{live_turn, live_start, can_take}
 
 none_sound : All IsSeatedSoundly []
@@ -32,13 +32,5 @@ module _ (law : SoundStepLaw) where
       subst (λ (out : Outcome Chain Election). All IsSeatedSoundly out.seated) (sym o)
       (passes_sound reaches.blocks p q text reaches.passes (live_start bytes p start))
 
-pub told_sound : (left : Option (List ℕ)) → ((bytes : List ℕ) → SeatsAreSound bytes) → IfSome left SeatsAreSound
-told_sound None law = tt
-told_sound (Some bytes) law = law bytes
-
 pub rounds_seated : SeatingsLaw → (bytes : List ℕ) → RoundsAreSeated bytes
 rounds_seated law bytes start place text starts reaches = law start.state reaches.blocks (can_take bytes start starts place text reaches)
-
-pub told_rounds : (left : Option (List ℕ)) → ((bytes : List ℕ) → RoundsAreSeated bytes) → IfSome left RoundsAreSeated
-told_rounds None law = tt
-told_rounds (Some bytes) law = law bytes

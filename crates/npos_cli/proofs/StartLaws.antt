@@ -1,30 +1,29 @@
 -- How a replay begins: the genesis is refused, or has a fault, or starts the chain.
-use Rattle.std.proofs.Common.{◌≡◌, ◌≢◌, ◌⊎◌, inl, inr, ℕ, Bool, true, false, List, [], ◌++◌, Option, Some, None, Ok, refl, sym, ◌∙◌, ap, subst, arith, true≢false}
+use Rattle.std.proofs.Common.{◌≡◌, ◌≢◌, inl, inr, ℕ, Bool, true, false, List, [], ◌++◌, Option, Some, None, Ok, sym, ◌∙◌, ap, arith, true≢false}
 use Rattle.scale_wire.specs.declared.fault.WireFault.{WireFault}
 use Rattle.scale_wire.specs.Form.{IsBytes}
 use Rattle.scale_wire.specs.Reading.{Place, IsRead, IsFault}
 use Rattle.block_wire.specs.declared.genesis.Genesis.{Genesis}
 use Rattle.block_wire.specs.Genesis.{genesis_form}
 use Rattle.npos_runtime.specs.declared.chain.Chain.{Chain}
-use Rattle.npos_runtime.specs.Outcome.{Election}
+use Rattle.npos_runtime.specs.Rules.Outcome.{Election}
 use Rattle.chain_params.specs.declared.fault.GenesisFault.{GenesisFault}
 use Rattle.chain_params.specs.declared.fault.GenesisFault.TheVariants.{NoMemory}
 use Rattle.npos_runtime.specs.Genesis.{genesis_fault, genesis_chain, IsFault as IsGenesisFault}
 use Rattle.chain_params.specs.Faults.{fault_numbers}
 use Rattle.bundle_reports.specs.Texts.{fault_line}
 use Rattle.npos_cli.specs.Texts.{genesis_line}
-use Rattle.npos_cli.specs.Replay.{Machine, Outcome, Starts, BadGenesis, FaultyGenesis}
+use Rattle.run_edges.specs.Replay.{Outcome, Starts, BadGenesis, FaultyGenesis}
 use Rattle.npos_cli.specs.declared.output.Output.{Output}
 use Rattle.npos_cli.specs.Outputs.{machine_of}
 use Rattle.npos_cli.specs.Chain.{started}
-use Rattle.npos_cli.specs.Owed.{LeftAfter, IsAll, IsDrained, Replays, FindsReplay}
-use Rattle.npos_cli.specs.Ahead.{first_place, MayFollow, HasSeen, IsSure}
-use Rattle.npos_cli.specs.Turning.{spot}
-use Rattle.npos_cli.specs.declared.status.Status.{Status}
-use Rattle.npos_cli.specs.Report.{ReplayOwes, replay_status}
+use Rattle.run_edges.specs.Owed.{LeftAfter, FindsReplay}
+use Rattle.run_edges.specs.Ahead.{first_place, HasSeen, IsSure}
+use Rattle.run_edges.specs.Turning.{spot}
 use Rattle.npos_cli.proofs.ChainLaws.{genesis_laws}
 use Rattle.block_wire.proofs.StreamLemmas.{read_grows}
-use Rattle.npos_cli.proofs.GrowLaws.{bad_grows}
+use Rattle.run_edges.proofs.GrowLaws.{bad_grows}
+use Rattle.run_edges.proofs.StartLaws.{found}
 
 abbrev pub outcome : List ℕ → Bool → List Election → Option Chain → Outcome Chain Election
 outcome text faulty seated last = record { text = text; faulty = faulty; seated = seated; last = last }
@@ -36,30 +35,6 @@ outcome_with text other faulty seated last same = ap (λ (t : List ℕ). outcome
 is_due : (due : Option GenesisFault) (fault : GenesisFault) → IsGenesisFault due fault → fault ≢ NoMemory → due ≡ Some fault
 is_due due fault (inl memory) not_memory = absurd (not_memory memory)
 is_due due fault (inr e) not_memory = e
-
--- what is the replay of all that was seen, whatever may follow, is that of all that was left
-pub found : {G B S E : Type 0} (m : Machine G B S E) (left now : Option (List ℕ)) (seen told : List ℕ) (ended faulty : Bool) → HasSeen left now seen false ended
-    → ((more : List ℕ) → MayFollow ended more → Replays m (seen ++ more) told faulty) → (faulty ≡ false → ended ≡ true) → FindsReplay m left now told faulty
-found m left now seen told ended faulty has_seen replays ends = on left has_seen.taken has_seen.at_end where
-  drained : (left : Option (List ℕ)) → ((false ≡ true) × (now ≡ left)) ⊎ IsDrained left now → IsDrained left now
-  drained left (inl never) = absurd (true≢false (sym never.0))
-  drained left (inr end) = end
-
-  on : (left : Option (List ℕ)) → LeftAfter left now seen → (ended ≡ true → ((false ≡ true) × (now ≡ left)) ⊎ IsDrained left now) → FindsReplay m left now told faulty
-  on None taken at_end = (seen ++ [], tt, replays [] (λ _. refl), λ _. tt)
-  on (Some all) taken at_end = (
-    all,
-    refl,
-    subst (λ (bytes : List ℕ). Replays m bytes told faulty) (sym taken.2)
-        (replays taken.0 (λ end. let e : Some taken.0 ≡ Some [] = sym taken.1 ∙ drained (Some all) (at_end end) in cc)),
-    λ sound. drained (Some all) (at_end (ends sound)),
-  )
-
--- and it is owed
-pub finds_for : {G B S E : Type 0} (m : Machine G B S E) (left now : Option (List ℕ)) (text : List ℕ) (faulty : Bool) (status : Status) → FindsReplay m left now text faulty
-    → status ≡ replay_status faulty → (bytes : List ℕ) × IsAll left bytes × ReplayOwes m bytes text status
-finds_for m left now text faulty status finds is =
-    (finds.0, finds.1, (record { text = text; faulty = faulty; seated = finds.2.0; last = finds.2.1 }, finds.2.2, refl, is))
 
 module _ (output : Output) where
   pub refused_replay : (left now : Option (List ℕ)) (taken told : List ℕ) (ended : Bool) (fault : WireFault) → HasSeen left now taken false ended → IsBytes taken

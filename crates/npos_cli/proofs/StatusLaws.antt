@@ -2,12 +2,12 @@
 use Rattle.std.proofs.Common.{ℕ, Bool, true, false, List, Option, Some, None, sym, subst}
 use Rattle.npos_cli.specs.declared.job.Job.{Job}
 use Rattle.npos_cli.specs.declared.job.Job.TheVariants as jobs
-use Rattle.npos_cli.specs.declared.status.Status.{Status}
+use Rattle.run_edges.specs.declared.status.Status.{Status}
 use Rattle.bundle_reports.specs.declared.ending.Ending.{Ending}
 use Rattle.bundle_reports.specs.declared.ending.Ending.TheVariants as endings
 use Rattle.bundle_reports.specs.Bundles.{Report}
-use Rattle.npos_cli.specs.Status.{status_of}
-use Rattle.npos_cli.specs.Report.{Tells, replay_status, IsAnswer}
+use Rattle.run_edges.specs.Status.{status_of, replay_status}
+use Rattle.npos_cli.specs.Report.{Tells, IsAnswer}
 use Rattle.npos_cli.specs.Owed.{FindsFor}
 
 -- each report has an answer

@@ -4,18 +4,20 @@ use Rattle.npos_base.specs.Outside.{Told, Rose}
 use Rattle.scale_wire.specs.Form.{IsWire}
 use Rattle.npos_cli.specs.declared.job.Job.{Job}
 use Rattle.npos_cli.specs.declared.job.Job.TheVariants as jobs
-use Rattle.npos_cli.specs.declared.status.Status.{Status}
-use Rattle.npos_cli.specs.declared.status.Status.TheVariants as statuses
+use Rattle.run_edges.specs.declared.status.Status.{Status}
+use Rattle.run_edges.specs.declared.status.Status.TheVariants as statuses
 use Rattle.block_wire.specs.declared.block.Block.{Block}
 use Rattle.npos_runtime.specs.declared.chain.Chain.{Chain}
-use Rattle.npos_cli.specs.Replay.{Machine, Spot, turn, behind, Passes, all_seated, Outcome, IsReplay, Replayed, Ended}
+use Rattle.run_edges.specs.Replay.{Machine, Spot, turn, behind, Passes, all_seated, Outcome, IsReplay, Replayed, Ended}
 use Rattle.npos_cli.specs.Chain.{npos_machine}
 use Rattle.npos_cli.specs.Checkpoints.{checkpoint_machine, resume_machine}
 use Rattle.npos_cli.specs.Pools.{pool_machine}
-use Rattle.npos_cli.specs.Report.{JobOwes, ReplayOwes, ReadsInput, IsAnswer, replay_status}
-use Rattle.npos_cli.specs.Owed.{IsAll, AnswersFor}
-use Rattle.npos_cli.specs.Streams.{IsStream, LeavesStream}
-use Rattle.npos_cli.proofs.ReplayLaws.{one_replay}
+use Rattle.npos_cli.specs.Report.{JobOwes, ReadsInput, IsAnswer}
+use Rattle.run_edges.specs.Owed.{ReplayOwes, IsAll}
+use Rattle.run_edges.specs.Status.{replay_status}
+use Rattle.npos_cli.specs.Owed.{AnswersFor}
+use Rattle.run_edges.specs.Streams.{IsStream, LeavesStream}
+use Rattle.run_edges.proofs.ReplayLaws.{one_replay}
 use Rattle.state_checkpoint.specs.LayoutLaws.{state_laws}
 use Rattle.npos_cli.proofs.ChainLaws.{genesis_laws, turn_laws}
 use Rattle.npos_cli.proofs.PoolLaws.{pool_laws, pool_turn_laws}

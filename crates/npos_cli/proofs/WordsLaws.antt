@@ -5,9 +5,9 @@ use Rattle.npos_words.specs.declared.command.Command.{Command}
 use Rattle.npos_words.specs.Words.{command_of, has_verb}
 use Rattle.npos_words.proofs.WordLemmas.{no_verb}
 use Rattle.npos_cli.specs.declared.job.Job.{Job}
-use Rattle.npos_cli.specs.declared.status.Status.{Status}
-use Rattle.npos_cli.specs.declared.halt.Halt.{Halt}
-use Rattle.npos_cli.specs.declared.halt.Halt.TheVariants as halts
+use Rattle.run_edges.specs.declared.status.Status.{Status}
+use Rattle.run_edges.specs.declared.halt.Halt.{Halt}
+use Rattle.run_edges.specs.declared.halt.Halt.TheVariants as halts
 use Rattle.npos_cli.specs.Words.{job_by, job_of, KeepsBounds}
 use Rattle.npos_cli.proofs.RunLaws.{job_has_rounds}
 

@@ -9,24 +9,25 @@ use Rattle.block_wire.specs.declared.block.Block.{Block}
 use Rattle.npos_runtime.specs.declared.chain.Chain.{Chain}
 use Rattle.npos_runtime.specs.declared.runtime.BlockFault.TheVariants.{WrongNumber}
 use Rattle.npos_runtime.specs.Life.{Life, HasFault}
-use Rattle.npos_cli.specs.declared.turn.Turn.TheVariants.{Taken, Stopped}
-use Rattle.npos_cli.specs.declared.turn.Stop.{Stop}
-use Rattle.npos_cli.specs.declared.turn.Stop.TheVariants.{More, Last}
-use Rattle.npos_cli.specs.declared.halt.Halt.{Halt}
-use Rattle.npos_cli.specs.declared.halt.Halt.TheVariants as halts
-use Rattle.npos_cli.specs.Texts.{number_line}
-use Rattle.npos_cli.specs.Replay.{Spot, Reaches, behind, turn, Stops, OtherNumber}
+use Rattle.run_edges.specs.declared.turn.Turn.TheVariants.{Taken, Stopped}
+use Rattle.run_edges.specs.declared.turn.Stop.{Stop}
+use Rattle.run_edges.specs.declared.turn.Stop.TheVariants.{More, Last}
+use Rattle.run_edges.specs.declared.halt.Halt.{Halt}
+use Rattle.run_edges.specs.declared.halt.Halt.TheVariants as halts
+use Rattle.run_edges.specs.Texts.{number_line}
+use Rattle.run_edges.specs.Replay.{Spot, Reaches, behind, turn, Stops, OtherNumber}
 use Rattle.npos_cli.specs.declared.output.Output.{Output}
 use Rattle.npos_cli.specs.Outputs.{machine_of}
-use Rattle.npos_cli.specs.Owed.{Puts}
-use Rattle.npos_cli.specs.Turning.{spot, grown, IsCutHere, TakesTurn, WritesOn}
-use Rattle.npos_cli.proofs.ReplayLaws.{reaches_itself, reaches_more}
+use Rattle.run_edges.specs.Owed.{Puts}
+use Rattle.run_edges.specs.Turning.{spot, grown, IsCutHere, TakesTurn, WritesOn}
+use Rattle.run_edges.proofs.ReplayLaws.{reaches_itself, reaches_more}
 use Rattle.npos_cli.proofs.ChainLaws.{genesis_laws, turn_laws}
 use Rattle.block_wire.proofs.StreamLemmas.{read_grows}
-use Rattle.npos_cli.proofs.TurnLaws.{reaches_join}
+use Rattle.run_edges.proofs.TurnLaws.{reaches_join}
 
 module _ (output : Output) where
-  pub number_turn : (old here : Place) (q : Spot Chain) (life life' : Life) (ended : Bool) (before told : List ℕ) (block : Block) (at due found : ℕ) → IsRead (turn (machine_of output)) old (Some block) here
+  pub number_turn : (old here : Place) (q : Spot Chain) (life life' : Life) (ended : Bool) (before told : List ℕ)
+      (block : Block) (at due found : ℕ) → IsRead (turn (machine_of output)) old (Some block) here
       → HasFault life life' block (WrongNumber due found) → at ≡ old.at + 1 → told ≡ before ++ number_line at due found
       → TakesTurn (machine_of output) ended (spot old life.state) q before told (Stopped (Last true))
   number_turn old here q life life' ended before told block at due found is fault at_is told_is = (
@@ -94,7 +95,8 @@ module _ (output : Output) where
   held_cut p q s ended old mid new text line halts.NoMemory held puts = absurd puts
 
   -- memory ran out
-  pub held_starved : (p q s : Spot Chain) (ended : Bool) (old new : Option Told) (text line : List ℕ) → IsHeld p q old new text → WritesOn (machine_of output) ended p s old new line (Err halts.NoMemory)
+  pub held_starved : (p q s : Spot Chain) (ended : Bool) (old new : Option Told) (text line : List ℕ)
+      → IsHeld p q old new text → WritesOn (machine_of output) ended p s old new line (Err halts.NoMemory)
   held_starved p q s ended old new text line held = (held.0, held.1.0, held.1.1, held.1.2)
 
   -- the turns stop, and what was held before the last of them was written

@@ -3,8 +3,8 @@
 use Rattle.std.specs.Prelude.{ℕ, List}
 use Rattle.stake_ledger.specs.Ledger.{IsBalanced}
 use Rattle.npos_runtime.specs.declared.chain.Chain.{Chain}
-use Rattle.npos_runtime.specs.Deposits.{DepositsHold}
-use Rattle.npos_cli.specs.Replay.{Spot, Starts, Reaches}
+use Rattle.npos_runtime.specs.Histories.Deposits.{DepositsHold}
+use Rattle.run_edges.specs.Replay.{Spot, Starts, Reaches}
 use Rattle.npos_cli.specs.Chain.{npos_machine}
 
 -- at every place that a replay of these bytes comes to, the books balance

@@ -7,7 +7,7 @@ use Rattle.block_wire.specs.Calls.{block_form}
 use Rattle.stake_ledger.specs.declared.totals.Totals.{Totals}
 use Rattle.stake_ledger.specs.Ledger.{totals_of}
 use Rattle.npos_runtime.specs.declared.chain.Chain.{Chain}
-use Rattle.npos_runtime.specs.Outcome.{Election}
+use Rattle.npos_runtime.specs.Rules.Outcome.{Election}
 use Rattle.chain_params.specs.declared.fault.GenesisFault.{GenesisFault}
 use Rattle.block_receipts.specs.declared.line.Line.{Line}
 use Rattle.block_receipts.specs.declared.line.Line.TheVariants as lines
@@ -17,7 +17,7 @@ use Rattle.npos_runtime.specs.Step.{step}
 use Rattle.npos_cli.specs.Texts.{genesis_line}
 use Rattle.told_lines.specs.Texts.{newline, amount_line, ok_line}
 use Rattle.bundle_reports.specs.Verdicts.{member_line, verdict_line}
-use Rattle.npos_cli.specs.Replay.{Machine}
+use Rattle.run_edges.specs.Replay.{Machine}
 
 abbrev pub line_text : Line → List ℕ
 line_text (lines.Block number) = codes "block " ++ (decimal number ++ newline)

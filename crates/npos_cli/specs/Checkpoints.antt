@@ -10,13 +10,13 @@ use Rattle.state_checkpoint.specs.Layout.{state_form}
 use Rattle.npos_runtime.specs.declared.chain.Chain.{Chain}
 use Rattle.npos_runtime.specs.declared.state_fault.StateFault.{StateFault}
 use Rattle.npos_runtime.specs.declared.state_fault.StateFault.TheVariants.{Cause, NotElected, NoMemory}
-use Rattle.npos_runtime.specs.KeptState.{kept}
-use Rattle.npos_runtime.specs.KeptChain.{chain_of}
-use Rattle.npos_runtime.specs.Outcome.{Election}
-use Rattle.npos_runtime.specs.Restoring.{state_fault}
+use Rattle.npos_runtime.specs.Kept.State.{kept}
+use Rattle.npos_runtime.specs.Kept.Chain.{chain_of}
+use Rattle.npos_runtime.specs.Rules.Outcome.{Election}
+use Rattle.npos_runtime.specs.Kept.Restoring.{state_fault}
 use Rattle.told_lines.specs.Texts.{newline, numbers_line}
 use Rattle.npos_cli.specs.Chain.{npos_machine}
-use Rattle.npos_cli.specs.Replay.{Machine, Spot, turn, Starts, Reaches, Outcome, IsReplay, all_seated}
+use Rattle.run_edges.specs.Replay.{Machine, Spot, turn, Starts, Reaches, Outcome, IsReplay, all_seated}
 
 -- ## A replay that writes its last state
 

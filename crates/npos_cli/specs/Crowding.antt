@@ -2,8 +2,8 @@
 use Rattle.std.specs.Prelude.{ℕ, List}
 use Rattle.block_wire.specs.declared.block.Block.{Block}
 use Rattle.npos_runtime.specs.declared.chain.Chain.{Chain}
-use Rattle.npos_runtime.specs.Offers.{IsNoneCrowdedOut}
-use Rattle.npos_cli.specs.Replay.{Spot, IsTurn, Starts, Reaches}
+use Rattle.npos_runtime.specs.Histories.Offers.{IsNoneCrowdedOut}
+use Rattle.run_edges.specs.Replay.{Spot, IsTurn, Starts, Reaches}
 use Rattle.npos_cli.specs.Chain.{npos_machine}
 
 -- Wherever a replay of these bytes takes a block that decides a round, each valid submission that

@@ -1,9 +1,9 @@
 -- What the eras of a replay pay, and what they take.
 use Rattle.std.specs.Prelude.{ℕ, List}
 use Rattle.npos_runtime.specs.declared.chain.Chain.{Chain}
-use Rattle.npos_runtime.specs.EraLaws.{ErasHold}
-use Rattle.npos_runtime.specs.DeferredLaws.{SlashesWait}
-use Rattle.npos_cli.specs.Replay.{Spot, Starts, Reaches}
+use Rattle.npos_runtime.specs.Histories.Eras.{ErasHold}
+use Rattle.npos_runtime.specs.Histories.Deferred.{SlashesWait}
+use Rattle.run_edges.specs.Replay.{Spot, Starts, Reaches}
 use Rattle.npos_cli.specs.Chain.{npos_machine}
 
 -- Wherever a replay of these bytes has come, its blocks pay and take within the bounds of the eras, and

@@ -5,7 +5,7 @@ use Rattle.scale_wire.specs.Reading.{Place}
 use Rattle.bundle_reports.specs.Texts.{fault_line}
 use Rattle.npos_cli.specs.declared.going.Turn.{Turn}
 use Rattle.npos_cli.specs.declared.going.Turn.TheVariants.{Taken, Last}
-use Rattle.npos_cli.specs.Replay.{Machine, Spot, IsTurn, behind, Reaches, Stops}
+use Rattle.run_edges.specs.Replay.{Machine, Spot, IsTurn, behind, Reaches, Stops}
 
 -- Behind the None: the line of the byte that follows, or the ending where none does.
 abbrev pub EndsHere : Place → List ℕ → List ℕ → List ℕ → Turn → Type 0
@@ -19,10 +19,6 @@ abbrev pub TakesItem : {G B S E : Type 0} → Machine G B S E → Spot S → Spo
 TakesItem {G} {B} {S} {E} m p q old new Taken = (item : B) × IsTurn m p item q.rest
     × (q ≡ behind m p item q.rest) × (new ≡ old ++ m.lines p.state item)
 TakesItem m p q old new (Last faulty) = (line : List ℕ) × Stops m p line faulty × (new ≡ old ++ line)
-
--- items lead from one place to the other, and were told
-abbrev pub HasTold : {G B S E : Type 0} → Machine G B S E → Spot S → Spot S → List ℕ → List ℕ → Type 0
-HasTold m p q old new = (written : List ℕ) × Reaches m p q written × (new ≡ old ++ written)
 
 -- items lead from here to where the input ends
 abbrev pub GoesOn : {G B S E : Type 0} → Machine G B S E → Spot S → List ℕ → List ℕ → Bool → Type 0

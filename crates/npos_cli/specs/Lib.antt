@@ -1,6 +1,4 @@
-pub mod Status
 pub mod Texts
-pub mod Replay
 pub mod Words
 pub mod Report
 pub mod Owed
@@ -12,15 +10,14 @@ pub mod Chain
 pub mod Checkpoints
 pub mod Outputs
 pub mod Books
-pub mod Headline
-pub mod Turning
-pub mod Intake
+pub mod Seats
+pub mod Near
 pub mod Streaming
 pub mod Ran
 pub mod Laws
 pub mod Crowding
 pub mod Eras
-pub mod Streams
 pub mod Resumable
 pub mod Resumed
+pub mod Claim
 pub mod Says

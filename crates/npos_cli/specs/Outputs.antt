@@ -5,11 +5,11 @@ use Rattle.block_wire.specs.declared.genesis.Genesis.{Genesis}
 use Rattle.block_receipts.specs.declared.line.Line.{Line}
 use Rattle.stake_ledger.specs.Ledger.{totals_of}
 use Rattle.npos_runtime.specs.declared.chain.Chain.{Chain}
-use Rattle.npos_runtime.specs.Outcome.{Election}
+use Rattle.npos_runtime.specs.Rules.Outcome.{Election}
 use Rattle.npos_runtime.specs.Step.{step}
 use Rattle.npos_cli.specs.declared.output.Output.{Output}
 use Rattle.npos_cli.specs.declared.output.Output.TheVariants.{Receipts, Checkpoint}
-use Rattle.npos_cli.specs.Replay.{Machine}
+use Rattle.run_edges.specs.Replay.{Machine}
 use Rattle.npos_cli.specs.Chain.{npos_machine, line_text, end_line}
 use Rattle.npos_cli.specs.Checkpoints.{checkpoint_of}
 

@@ -2,9 +2,9 @@
 use Rattle.std.specs.Prelude.{ℕ}
 use Rattle.scale_wire.specs.Reading.{Place}
 use Rattle.stake_pools.specs.declared.chain.PoolChain.{PoolChain}
-use Rattle.npos_cli.specs.Replay.{Spot}
+use Rattle.run_edges.specs.Replay.{Spot}
 use Rattle.npos_cli.specs.Pools.{PoolRun}
-use Rattle.npos_cli.specs.Turning.{spot}
+use Rattle.run_edges.specs.Turning.{spot}
 
 -- where a cursor and a pool stand together, behind so many items
 abbrev pub pool_spot : Place → ℕ → PoolChain → Spot PoolRun

@@ -21,7 +21,7 @@ use Rattle.npos_base.specs.declared.account.AccountId.{AccountId}
 use Rattle.told_lines.specs.Texts.{newline, amount_line}
 use Rattle.npos_cli.specs.Texts.{genesis_line}
 use Rattle.npos_cli.specs.Chain.{end_line}
-use Rattle.npos_cli.specs.Replay.{Machine, Spot, Starts, Reaches}
+use Rattle.run_edges.specs.Replay.{Machine, Spot, Starts, Reaches}
 
 -- a pool, and how many items were gone through
 pub record PoolRun : Type 0 where

@@ -5,16 +5,17 @@ use Rattle.npos_base.specs.declared.outside.Tried.{Tried}
 use Rattle.npos_base.specs.Outside.{Told}
 use Rattle.npos_cli.specs.declared.job.Job.{Job}
 use Rattle.npos_cli.specs.declared.job.Job.TheVariants as jobs
-use Rattle.bundle_reports.specs.declared.asked.Task.{Task}
-use Rattle.bundle_reports.specs.declared.asked.Task.TheVariants as tasks
-use Rattle.bundle_reports.specs.declared.asked.Miner.TheVariants as miners
-use Rattle.npos_cli.specs.declared.status.Status.{Status}
-use Rattle.npos_cli.specs.declared.status.Status.TheVariants as statuses
-use Rattle.npos_cli.specs.declared.halt.Halt.{Halt}
-use Rattle.npos_cli.specs.declared.halt.Halt.TheVariants as halts
+use Rattle.election_work.specs.declared.asked.Task.{Task}
+use Rattle.election_work.specs.declared.asked.Task.TheVariants as tasks
+use Rattle.npos_base.specs.declared.miner.Miner.TheVariants as miners
+use Rattle.run_edges.specs.declared.status.Status.{Status}
+use Rattle.run_edges.specs.declared.status.Status.TheVariants as statuses
+use Rattle.run_edges.specs.declared.halt.Halt.{Halt}
+use Rattle.run_edges.specs.declared.halt.Halt.TheVariants as halts
 use Rattle.npos_cli.specs.Report.{ReadsInput, ReadsBundle, IsJudged}
-use Rattle.bundle_reports.specs.Tasks.{IsSound}
-use Rattle.npos_cli.specs.Owed.{AnswersFor, BeginsFor, IsDrained, TakesAtMost, Delivers, DeliversFront, KeepsFlushed, Counts}
+use Rattle.election_work.specs.Sound.{IsSound}
+use Rattle.npos_cli.specs.Owed.{AnswersFor, BeginsFor}
+use Rattle.run_edges.specs.Owed.{IsDrained, TakesAtMost, Delivers, DeliversFront, KeepsFlushed, Counts}
 use Rattle.npos_cli.specs.Streaming.{HaltedReading, HaltedWriting, HaltedStarving}
 
 -- What is told of source and sink before and after a part of a run: the bytes that are left, those

@@ -1,12 +1,11 @@
 -- What a run owes: the text and the status that its words and the bytes of its input determine.
-use Rattle.std.specs.Prelude.{◌≡◌, ⊤, ℕ, Bool, true, false, List, Option, Some, None}
+use Rattle.std.specs.Prelude.{◌≡◌, ⊤, ℕ, List, Option, Some, None}
 use Rattle.npos_cli.specs.declared.job.Job.{Job}
 use Rattle.npos_cli.specs.declared.job.Job.TheVariants as jobs
-use Rattle.npos_cli.specs.declared.status.Status.{Status}
-use Rattle.npos_cli.specs.declared.status.Status.TheVariants as statuses
-use Rattle.npos_cli.specs.Status.{status_of}
+use Rattle.run_edges.specs.declared.status.Status.{Status}
+use Rattle.run_edges.specs.declared.status.Status.TheVariants as statuses
+use Rattle.run_edges.specs.Status.{status_of}
 use Rattle.npos_cli.specs.Words.{job_of, usage_line}
-use Rattle.npos_cli.specs.Replay.{Machine, Outcome, IsReplay}
 use Rattle.npos_cli.specs.Chain.{npos_machine}
 use Rattle.npos_cli.specs.Checkpoints.{checkpoint_machine, resume_machine}
 use Rattle.npos_cli.specs.Pools.{pool_machine}
@@ -14,16 +13,7 @@ use Rattle.bundle_reports.specs.Bundles.{Report}
 use Rattle.bundle_reports.specs.Tasks.{IsBundleReport}
 use Rattle.bundle_reports.specs.Demo.{demo_report}
 use Rattle.bundle_reports.specs.Rewriting.{rewrite_report}
-
--- a replay is done, unless it ends with a fault line
-abbrev pub replay_status : Bool → Status
-replay_status true = statuses.BadInput
-replay_status false = statuses.Done
-
--- the text of a replay, and the status that its end calls for
-abbrev pub ReplayOwes : {G B S E : Type 0} → Machine G B S E → List ℕ → List ℕ → Status → Type 0
-ReplayOwes {G} {B} {S} {E} m bytes text status =
-    (out : Outcome S E) × IsReplay m bytes out × (text ≡ out.text) × (status ≡ replay_status out.faulty)
+use Rattle.run_edges.specs.Owed.{ReplayOwes}
 
 -- this text and this status tell of the report
 pub record Tells (report : Report) (text : List ℕ) (status : Status) : Type 0 where

@@ -8,15 +8,15 @@ use Rattle.block_wire.specs.declared.call.Call.{Call}
 use Rattle.stake_ledger.specs.Ledger.{IsBalanced}
 use Rattle.chain_params.specs.Rules.{era_reward_of}
 use Rattle.npos_runtime.specs.declared.chain.Chain.{Chain}
-use Rattle.npos_runtime.specs.Outcome.{Election}
+use Rattle.npos_runtime.specs.Rules.Outcome.{Election}
 use Rattle.npos_runtime.specs.Step.{after_blocks}
-use Rattle.npos_runtime.specs.Deposits.{DepositsGoOn}
-use Rattle.npos_runtime.specs.Laws.{IsSeatedSoundly}
-use Rattle.npos_runtime.specs.Seatings.{SeatsHold}
-use Rattle.npos_runtime.specs.Offers.{IsNoneCrowdedOut}
-use Rattle.npos_runtime.specs.EraLaws.{chain_at, over_blocks, paid_by, PaysAsTold, taken_by, due_by, TakesWhatIsDue, elected_for, stake_behind, elections_from}
-use Rattle.npos_runtime.specs.DeferredLaws.{QueuesWhatIsDue, CancelsOneSlash, AppliesWhatIsDue, applied_for, waiting_due}
-use Rattle.npos_cli.specs.Replay.{Spot, Starts, Reaches, Outcome, IsReplay}
+use Rattle.npos_runtime.specs.Histories.Deposits.{DepositsGoOn}
+use Rattle.npos_runtime.specs.Histories.Laws.{IsSeatedSoundly}
+use Rattle.npos_runtime.specs.Histories.Seatings.{SeatsHold}
+use Rattle.npos_runtime.specs.Histories.Offers.{IsNoneCrowdedOut}
+use Rattle.npos_runtime.specs.Histories.Eras.{chain_at, over_blocks, paid_by, PaysAsTold, taken_by, due_by, TakesWhatIsDue, elected_for, stake_behind, elections_from}
+use Rattle.npos_runtime.specs.Histories.Deferred.{QueuesWhatIsDue, CancelsOneSlash, AppliesWhatIsDue, applied_for, waiting_due}
+use Rattle.run_edges.specs.Replay.{Spot, Starts, Reaches, Outcome, IsReplay}
 use Rattle.npos_cli.specs.Checkpoints.{resume_machine}
 
 -- wherever a replay that goes on has come, this holds of the chain that it goes on from, and its blocks
@@ -31,7 +31,7 @@ ResumedBooksBalance bytes = (start place : Spot Chain) (text : List ℕ) → Sta
     → Reaches resume_machine start place text → IsBalanced place.state.book
 
 -- Every committee that is seated has a member for each seat, follows nominations, spends no voter
--- beyond its stake, and is proportional.
+-- beyond its stake, denies nobody, and so is proportional.
 abbrev pub ResumedSeatsAreSound : List ℕ → Type 0
 ResumedSeatsAreSound bytes =
     (out : Outcome Chain Election) → IsReplay resume_machine bytes out → All IsSeatedSoundly out.seated

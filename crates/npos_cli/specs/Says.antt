@@ -1,27 +1,25 @@
--- All that `run` says of a run: its clauses, gathered for who calls it.
+-- All that `run` says of a run.
 use Rattle.std.specs.Prelude.{◌≡◌, ◌≢◌, ◌⊎◌, ◌<◌, true, false, ℕ, List, Some, IfSome}
 use Rattle.npos_base.specs.Outside.{Rose}
 use Rattle.npos_cli.specs.declared.job.Job.TheVariants as jobs
-use Rattle.bundle_reports.specs.declared.asked.Task.{Task}
-use Rattle.bundle_reports.specs.declared.asked.Task.TheVariants as tasks
-use Rattle.bundle_reports.specs.declared.asked.Miner.TheVariants as miners
-use Rattle.bundle_reports.specs.Tasks.{IsSound}
+use Rattle.election_work.specs.declared.asked.Task.{Task}
+use Rattle.election_work.specs.declared.asked.Task.TheVariants as tasks
+use Rattle.npos_base.specs.declared.miner.Miner.TheVariants as miners
+use Rattle.election_work.specs.Sound.{IsSound}
 use Rattle.npos_words.specs.Words.{has_verb}
-use Rattle.npos_cli.specs.declared.status.Status.{Status}
-use Rattle.npos_cli.specs.declared.status.Status.TheVariants as statuses
+use Rattle.run_edges.specs.declared.status.Status.{Status}
+use Rattle.run_edges.specs.declared.status.Status.TheVariants as statuses
 use Rattle.npos_cli.specs.Words.{job_of}
 use Rattle.npos_cli.specs.Report.{ReadsInput, ReadsBundle, IsAnswer, IsJudged}
 use Rattle.npos_cli.specs.Chain.{npos_machine}
-use Rattle.npos_cli.specs.Checkpoints.{checkpoint_machine, resume_machine, WritesCheckpoints, GoesOnFromCheckpoints, StartsWithCheckpoints}
-use Rattle.npos_cli.specs.Resumed.{KeepsOn}
-use Rattle.npos_cli.specs.Pools.{pool_machine, PoolsAreFair}
-use Rattle.npos_cli.specs.Books.{BooksBalance, DepositsAreKept}
-use Rattle.npos_cli.specs.Headline.{SeatsAreSound, IsPromised, RoundsAreSeated}
-use Rattle.npos_cli.specs.Crowding.{NoneIsCrowdedOut}
-use Rattle.npos_cli.specs.Eras.{ErasAreKept}
-use Rattle.npos_cli.specs.Streams.{LeavesStream}
-use Rattle.npos_cli.specs.Streaming.{HaltedReading, HaltedWriting, HaltedStarving, ReadsWhile}
-use Rattle.npos_cli.specs.Owed.{Answers, BeginsToAnswer, IsDrained, TakesAtMost, KeepsFlushed, AsksInTime, TriesInTime}
+use Rattle.npos_cli.specs.Checkpoints.{checkpoint_machine, resume_machine}
+use Rattle.npos_cli.specs.Pools.{pool_machine}
+use Rattle.npos_cli.specs.Claim.{IsPromised, IsCheckpointed, IsResumed, IsPooled}
+use Rattle.run_edges.specs.Streams.{LeavesStream}
+use Rattle.npos_cli.specs.Streaming.{HaltedReading, HaltedWriting, HaltedStarving}
+use Rattle.run_edges.specs.Streaming.{ReadsWhile}
+use Rattle.npos_cli.specs.Owed.{Answers, BeginsToAnswer}
+use Rattle.run_edges.specs.Owed.{IsDrained, TakesAtMost, KeepsFlushed, AsksInTime, TriesInTime}
 use Rattle.npos_cli.specs.Ran.{Traffic, Calls}
 
 -- `Unread` and `Unwritten` say that the source and the sink are as they were.
@@ -64,20 +62,14 @@ pub record Says (words : List (List ℕ)) (t : Traffic) (calls : Calls) (Unread 
   pub usage_memory : has_verb words ≡ false → status ≢ statuses.NoMemory
   pub unread : (ReadsInput (job_of words) → ⊥) → Unread
   pub drained : IsJudged status → ReadsInput (job_of words) → IsDrained t.left t.left_now
-  pub books : IfSome t.left BooksBalance
-  pub deposits : IfSome t.left DepositsAreKept
-  pub committees : IfSome t.left SeatsAreSound
-  pub seats : IfSome t.left RoundsAreSeated
-  pub crowding : IfSome t.left NoneIsCrowdedOut
-  pub eras : IfSome t.left ErasAreKept
-  pub pools : IfSome t.left PoolsAreFair
-  pub checkpoints : IfSome t.left WritesCheckpoints
-  pub resumes : IfSome t.left GoesOnFromCheckpoints
-  pub restored : IfSome t.left StartsWithCheckpoints
-  pub resumed : IfSome t.left KeepsOn
-  pub headline : job_of words ≡ Some jobs.Replay → (Rose t.read_faults t.read_faults_now → ⊥)
-      → (Rose t.write_faults t.write_faults_now → ⊥) → status ≢ statuses.NoMemory
-      → IfSome t.left (λ bytes. IsPromised bytes t.told t.told_now)
+  -- whoever reads the one promise of a run over a stream reads these four, and that an answer comes
+  pub promised : job_of words ≡ Some jobs.Replay → IfSome t.left (λ bytes. IsPromised bytes t.told t.told_now status)
+  pub checkpointed : job_of words ≡ Some jobs.Checkpoint
+      → IfSome t.left (λ bytes. IsCheckpointed bytes t.told t.told_now status)
+  pub resumed : job_of words ≡ Some jobs.Resume → IfSome t.left (λ bytes. IsResumed bytes t.told t.told_now status)
+  pub pooled : job_of words ≡ Some jobs.Pools → IfSome t.left (λ bytes. IsPooled bytes t.told t.told_now status)
+  pub uncut : (Rose t.read_faults t.read_faults_now → ⊥) → (Rose t.write_faults t.write_faults_now → ⊥)
+      → status ≢ statuses.NoMemory → IsAnswer status
   pub few : ReadsBundle (job_of words) → TakesAtMost 16777217 t.left t.left_now
   pub accepted : (task : Task) → job_of words ≡ Some (jobs.OnBundle task) → status ≡ statuses.Done
       → IfSome t.left (IsSound task)

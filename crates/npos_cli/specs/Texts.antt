@@ -1,12 +1,6 @@
--- The lines of faults that a replay alone has.
+-- The lines of faults that a replay of a chain alone has.
 use Rattle.std.specs.Prelude.{ℕ, List, [], ◌++◌, codes, decimal, Option, Some, None}
 use Rattle.told_lines.specs.Texts.{newline}
-
--- at this place stands the number of a block that is not the due one
-abbrev pub number_line : ℕ → ℕ → ℕ → List ℕ
-number_line at due found =
-    codes "fault " ++ (decimal at ++ (codes " number due "
-    ++ (decimal due ++ (codes " found " ++ (decimal found ++ newline)))))
 
 -- the genesis has the fault of this number, with this detail; a fault without numbers has no line
 abbrev pub genesis_line : Option (ℕ × ℕ) → List ℕ

@@ -3,28 +3,18 @@ use Rattle.std.specs.Prelude.{⊤, ℕ, ◌≤◌, List, ◌++◌, codes, Option
 use Rattle.npos_base.specs.declared.limits.TheConstants.{MOST_SEATS, MOST_VOTERS}
 use Rattle.npos_words.specs.declared.command.Command.{Command}
 use Rattle.npos_words.specs.declared.command.Command.TheVariants as commands
-use Rattle.npos_words.specs.declared.command.Miner.{Miner as named_miner}
-use Rattle.npos_words.specs.declared.command.Miner.TheVariants as named
 use Rattle.npos_words.specs.Words.{command_of}
 use Rattle.npos_cli.specs.declared.job.Job.{Job}
 use Rattle.npos_cli.specs.declared.job.Job.TheVariants as jobs
-use Rattle.bundle_reports.specs.declared.asked.Task.TheVariants as tasks
-use Rattle.bundle_reports.specs.declared.asked.Miner.{Miner}
-use Rattle.bundle_reports.specs.declared.asked.Miner.TheVariants as miners
+use Rattle.election_work.specs.declared.asked.Task.TheVariants as tasks
 use Rattle.bundle_reports.specs.declared.asked.Rewriting.TheVariants as ways
-use Rattle.bundle_reports.specs.Rounds.{TaskHasRounds}
+use Rattle.election_work.specs.Sound.{TaskHasRounds}
 use Rattle.told_lines.specs.Texts.{newline}
-
--- the miner that a command names; the rounds are those of PHRAGMMS alone
-abbrev pub miner_by : named_miner → ℕ → Miner
-miner_by named.Fill rounds = miners.Fill
-miner_by named.Seq rounds = miners.Seq
-miner_by named.Mms rounds = miners.Mms rounds
 
 abbrev pub job_by : Command → Job
 job_by commands.Replay = jobs.Replay
 job_by commands.Check = jobs.OnBundle tasks.Check
-job_by (commands.Mine miner rounds) = jobs.OnBundle (tasks.Mine (miner_by miner rounds))
+job_by (commands.Mine miner) = jobs.OnBundle (tasks.Mine miner)
 job_by commands.Pack = jobs.Rewrite ways.Pack
 job_by commands.Show = jobs.Rewrite ways.Show
 job_by (commands.Demo seed voters seats) = jobs.Demo seed voters seats

@@ -1,9 +1,9 @@
 //! What is made of an input that was read whole, item by item.
 ghost use Rattle.std.specs.Prelude.{◌≡◌};
-ghost use Rattle.npos_cli.specs.Status.{status_of};
+ghost use Rattle.run_edges.specs.Status.{status_of};
 
-use crate::Status;
 use bundle_reports::{Answer, Ending};
+use run_edges::Status;
 
 /// What reading the next item came to.
 pub enum Turn {

@@ -1,9 +1,10 @@
 //! The jobs that commands ask for.
 ghost use Rattle.std.specs.Prelude.{◌≡◌};
-ghost use Rattle.npos_cli.specs.Words.{job_by, miner_by};
+ghost use Rattle.npos_cli.specs.Words.{job_by};
 
-use bundle_reports::{Miner, Rewriting, Task};
-use npos_words::{self as words, Command};
+use bundle_reports::Rewriting;
+use election_work::Task;
+use npos_words::Command;
 
 /// What the program is to do.
 #[derive(Clone, Copy, Debug, PartialEq, Eq)]
@@ -24,17 +25,6 @@ pub enum Job {
     Pools,
 }
 
-/// The miner that a command names. The rounds are those of PHRAGMMS alone.
-fn miner_of(miner: words::Miner, rounds: u32) -> Miner
-    ensures { result ≡ miner_by miner rounds }
-{
-    match miner {
-        words::Miner::Fill => Miner::Fill,
-        words::Miner::Seq => Miner::Seq,
-        words::Miner::Mms => Miner::Mms(rounds),
-    }
-}
-
 /// The job of a command.
 pub fn job_of(command: Command) -> Job
     ensures { result ≡ job_by command }
@@ -42,7 +32,7 @@ pub fn job_of(command: Command) -> Job
     match command {
         Command::Replay => Job::Replay,
         Command::Check => Job::OnBundle(Task::Check),
-        Command::Mine { miner, rounds } => Job::OnBundle(Task::Mine(miner_of(miner, rounds))),
+        Command::Mine(miner) => Job::OnBundle(Task::Mine(miner)),
         Command::Pack => Job::Rewrite(Rewriting::Pack),
         Command::Show => Job::Rewrite(Rewriting::Show),
         Command::Demo {

@@ -3,31 +3,51 @@
 ghost use Rattle.std.specs.Prelude.{◌≡◌, ℕ, List};
 ghost use Rattle.npos_cli.specs.Chain.{npos_machine};
 ghost use Rattle.npos_cli.specs.Checkpoints.{checkpoint_machine, resume_machine};
-ghost use Rattle.npos_cli.specs.Books.{DepositsAreKept};
-ghost use Rattle.npos_cli.specs.Headline.{SeatsAreSound, RoundsAreSeated};
+ghost use Rattle.npos_cli.specs.Books.{BooksBalance, DepositsAreKept};
+ghost use Rattle.npos_cli.specs.Seats.{SeatsAreSound, RoundsAreSeated};
 ghost use Rattle.npos_cli.specs.Crowding.{NoneIsCrowdedOut};
 ghost use Rattle.npos_cli.specs.Eras.{ErasAreKept};
 ghost use Rattle.npos_cli.specs.Pools.{pool_machine, PoolsAreFair};
 ghost use Rattle.npos_cli.specs.Checkpoints.{WritesCheckpoints, GoesOnFromCheckpoints, StartsWithCheckpoints};
-ghost use Rattle.npos_cli.specs.Resumable.{StaysWhole, GoesOnWhole, EachGoesOn};
+ghost use Rattle.npos_cli.specs.Resumable.{StaysWhole, GoesOnWhole, EachGoesOn, AlwaysStopsAndGoesOn};
 ghost use Rattle.npos_cli.specs.Resumed.{ResumedBooksBalance, ResumedSeatsAreSound, ResumedRoundsAreSeated, ResumedNoneIsCrowdedOut, ResumedDepositsAreKept, ResumedErasAreKept};
-ghost use Rattle.npos_cli.specs.Laws.{OwesOnce, OwesAlways, PacksBack, IsReplayedOnce, IsAlwaysReplayed, IsWholeOnce, IsAlwaysWhole, BeginsWithWhole, WholeGrows, FaultsStand};
+ghost use Rattle.npos_cli.specs.Resumed.{KeepsOn};
+ghost use Rattle.npos_cli.specs.Claim.{IsAlwaysChained};
+ghost use Rattle.npos_cli.specs.Laws.{OwesOnce, OwesAlways, PacksBack};
+ghost use Rattle.run_edges.specs.Laws.{IsReplayedOnce, IsAlwaysReplayed, IsWholeOnce, IsAlwaysWhole, BeginsWithWhole, WholeGrows, FaultsStand};
 
-pub use bundle_reports::laws::a_fill_is_sealed;
+pub use election_work::laws::a_fill_is_sealed;
 use npos_runtime::laws::{
     a_saved_state_has_no_fault, a_state_without_a_fault_is_kept, chains_can_be_saved,
     deposits_are_settled, deposits_go_on, dues_go_on, each_round_is_decided_once,
-    equal_states_go_on_alike, every_round_ends_as_it_began, every_seated_committee_is_sound,
-    nothing_valid_is_crowded_out_for_free, payouts_are_within_the_reward, payouts_go_on,
-    slashes_are_within_the_stake, slashes_that_wait_take_what_is_due,
+    equal_states_go_on_alike, every_history_keeps_its_promise, every_round_ends_as_it_began,
+    every_seated_committee_is_sound, nothing_valid_is_crowded_out_for_free,
+    payouts_are_within_the_reward, payouts_go_on, slashes_are_within_the_stake,
+    slashes_that_wait_take_what_is_due,
 };
 use stake_pools::laws::{
     a_payment_is_within_its_part, every_list_of_items_leaves_a_pool_sound, every_pool_starts_sound,
     nobody_is_diluted, worths_are_within_the_active_stake,
 };
 
+/// The promise of a replay: the input began no chain; or the text is what a genesis and blocks tell
+/// that stand at the front of the input, and behind each of these blocks their chain keeps all that is
+/// promised: committees, seats, crowding, sums, deposits, eras, slashes that wait, and answers to
+/// calls.
+pub fn replays_keep_their_promise()
+    ensures { IsAlwaysChained }
+{
+    every_history_keeps_its_promise();
+}
+
+/// Wherever a replay has come, its books balance.
+pub fn replays_balance()
+    ensures { (bytes : List ℕ) → BooksBalance bytes }
+{}
+
 /// Every committee that a replay seats, from a signed solution or from the fill, has a member for
-/// each seat, follows nominations, spends no voter beyond its stake, and is proportional.
+/// each seat, follows nominations, spends no voter beyond its stake, denies nobody, and so is
+/// proportional.
 #[tactic(auto, using(crate::proofs::SeatLaws::seats_sound))]
 pub fn replays_seat_sound_committees()
     ensures { (bytes : List ℕ) → SeatsAreSound bytes }
@@ -149,6 +169,16 @@ pub fn replays_go_on_from_checkpoints()
     equal_states_go_on_alike();
 }
 
+/// To stop and go on, as one statement: cut a whole stream behind any block, give `checkpoint` its
+/// front and a None, and give `resume` what that wrote and the bytes behind the block. Both are done,
+/// and what `resume` writes is what a replay of the whole writes behind the front.
+pub fn what_stops_goes_on()
+    ensures { AlwaysStopsAndGoesOn }
+{
+    replays_write_checkpoints();
+    replays_go_on_from_checkpoints();
+}
+
 /// A checkpoint that is gone on from is the very one that the chain which goes on would write, so no
 /// two checkpoints start the same chain.
 pub fn replays_start_with_their_checkpoint()
@@ -228,4 +258,16 @@ pub fn resumed_replays_keep_the_bounds_of_slashes()
     dues_go_on();
     slashes_are_within_the_stake();
     slashes_that_wait_take_what_is_due();
+}
+
+/// All that is promised of a replay that goes on from a checkpoint.
+pub fn resumed_replays_keep_their_promise()
+    ensures { (bytes : List ℕ) → KeepsOn bytes }
+{
+    resumed_replays_balance();
+    resumed_replays_seat_sound_committees();
+    resumed_replays_seat_each_round();
+    resumed_replays_crowd_nothing_out();
+    resumed_replays_settle_deposits();
+    resumed_replays_keep_the_bounds_of_slashes();
 }

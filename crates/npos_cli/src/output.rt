@@ -1,6 +1,6 @@
 //! What a replay tells: receipts, or the state that it comes to.
 ghost use Rattle.std.specs.Prelude.{◌≡◌, ◌++◌, false, OnOk};
-ghost use Rattle.npos_runtime.specs.KeptState.{kept};
+ghost use Rattle.npos_runtime.specs.Kept.State.{kept};
 ghost use Rattle.state_checkpoint.specs.Layout.{state_form};
 ghost use Rattle.npos_cli.specs.Outputs.{block_text, end_text};
 

@@ -1,35 +1,42 @@
 //! What follows from the contract of `run`, said status by status.
-ghost use Rattle.std.specs.Prelude.{◌≡◌, ◌≢◌, ◌⊎◌, ℕ, List, Some, [], map, true, false, IfSome, string_bytes};
+ghost use Rattle.std.specs.Prelude.{◌≡◌, ◌≢◌, ◌⊎◌, ℕ, List, Some, [], ◌∷◌, codes, map, true, false, IfSome, string_bytes};
 ghost use Rattle.npos_base.specs.Outside.{Rose};
 ghost use Rattle.npos_cli.specs.declared.job.Job.TheVariants as jobs;
-ghost use Rattle.npos_cli.specs.declared.status.Status.{Status as status};
+ghost use Rattle.run_edges.specs.declared.status.Status.{Status as status};
 ghost use Rattle.npos_cli.specs.Words.{HasForm, job_of, usage_line};
 ghost use Rattle.npos_cli.specs.Chain.{npos_machine};
-ghost use Rattle.npos_cli.specs.Headline.{IsPromised};
-ghost use Rattle.npos_cli.specs.Owed.{IsOwed, Delivers, DeliversFront, DeliversReplay, DeliversReplayFront, Comes, ComesWith};
+ghost use Rattle.npos_cli.specs.Claim.{IsPromised};
+ghost use Rattle.npos_cli.specs.Report.{IsAnswer};
+ghost use Rattle.npos_cli.specs.Owed.{IsOwed};
+ghost use Rattle.run_edges.specs.Owed.{Delivers, DeliversFront, DeliversReplay, DeliversReplayFront, Comes, ComesWith};
 
 use crate::{Status, run};
 use npos_base::{Sink, Source};
 use std::alloc::Global;
 use std::string::String;
 
-/// Runs the program, and promises of a replay, as `run` does, whose source and sink tell their bytes: where neither
-/// failed and memory was not refused, exactly the replay of what was read was written; every
-/// committee in it has a member for each seat, follows nominations, spends no voter beyond its
-/// stake, and has at least r members among the nominees of each group that holds the stake of r
-/// seats and agrees on r targets; and all holdings equal genesis plus minted less burned.
+/// What is promised of `npos replay`, whatever name the program goes by. Where it answers, exactly the
+/// replay of what was read was written and flushed; whatever it ends with, a front of that was; and
+/// the chain of which the text tells keeps all that is promised, behind each of its blocks: each
+/// committee has a member for each seat, follows nominations, spends no voter beyond its stake and
+/// denies nobody, and so has at least r members among the nominees of each group that holds the
+/// stake of r seats and agrees on r targets; each round seats its committee from its own snapshot;
+/// nothing valid is crowded out for free; the books count what was endowed and told; deposits are
+/// settled once; eras pay no more than their rewards and take no more than what stood behind them;
+/// slashes wait until they are due; and each call is accepted, or refused for a reason with a number
+/// and undone. It answers unless the source or the sink failed or memory was refused.
 pub fn run_as_promised<S: Source, K: Sink>(
     alloc: Global,
     words: &[String],
     source: &mut S,
     sink: &mut K,
 ) -> Status
-    ensures headline { job_of (map string_bytes words.now) ≡ Some jobs.Replay
-        → (Rose (S.faults source.old) (S.faults source.new) → ⊥)
-        → (Rose (K.faults sink.old) (K.faults sink.new) → ⊥)
-        → result ≢ Status.NoMemory
+    ensures replay { (name : List ℕ) → map string_bytes words.now ≡ name ∷ codes "replay" ∷ []
         → IfSome (S.left source.old)
-        (λ bytes. IsPromised bytes (K.told sink.old) (K.told sink.new)) }
+        (λ bytes. IsPromised bytes (K.told sink.old) (K.told sink.new) result) }
+    ensures uncut { (Rose (S.faults source.old) (S.faults source.new) → ⊥)
+        → (Rose (K.faults sink.old) (K.faults sink.new) → ⊥)
+        → result ≢ Status.NoMemory → IsAnswer result }
 {
     run(alloc, words, source, sink)
 }

@@ -1,30 +1,28 @@
 //! The replay of a stream: a genesis, and then a turn for each block until one is the last. It
 //! reads piece by piece, and writes what is told of each block before it reads again.
 ghost use Rattle.std.specs.Prelude.{◌≡◌, ◌≢◌, ◌+◌, ◌<◌, ◌≤◌, ℕ, List, Some, Ok, [], ◌∷◌, true, false, length, IfOk, IfErr, OnOk, IsTrue, ◌↔◌};
-ghost use Rattle.npos_runtime.specs.Savable.{IsSavable};
+ghost use Rattle.npos_runtime.specs.Kept.Savable.{IsSavable};
 ghost use Rattle.npos_base.specs.Outside.{Appends, StopsTrying};
-ghost use Rattle.npos_cli.specs.declared.halt.Halt.TheVariants as halts;
-ghost use Rattle.npos_cli.specs.declared.turn.Stop.TheVariants as stops;
+ghost use Rattle.run_edges.specs.declared.halt.Halt.TheVariants as halts;
+ghost use Rattle.run_edges.specs.declared.turn.Stop.TheVariants as stops;
 ghost use Rattle.npos_cli.specs.declared.output.Output.TheVariants as outputs;
 ghost use Rattle.npos_cli.specs.Outputs.{end_text, machine_of};
-ghost use Rattle.npos_cli.specs.Ahead.{Begins, AwaitsMore, first_place};
-ghost use Rattle.npos_cli.specs.Owed.{Counts, AsksInTime, AsksOn, Settles};
-ghost use Rattle.npos_cli.specs.Report.{replay_status};
-ghost use Rattle.npos_cli.specs.Streaming.{Runs, RunsOn, ReplayEnds, ReadsWhile, ReadsOnWhile};
-ghost use Rattle.npos_cli.specs.Turning.{spot, IsNear, IsGoing, TakesTurn, WritesOn, StopsHere};
+ghost use Rattle.npos_cli.specs.Ahead.{Begins, AwaitsMore};
+ghost use Rattle.run_edges.specs.Ahead.{first_place};
+ghost use Rattle.run_edges.specs.Owed.{Counts, AsksInTime, AsksOn, Settles};
+ghost use Rattle.run_edges.specs.Status.{replay_status};
+ghost use Rattle.run_edges.specs.Streaming.{Runs, RunsOn, ReplayEnds, ReadsWhile, ReadsOnWhile};
+ghost use Rattle.run_edges.specs.Turning.{spot, IsGoing, TakesTurn, WritesOn, StopsHere};
+ghost use Rattle.npos_cli.specs.Near.{IsNear};
 
-use crate::Status;
-use crate::edges::{flush, put, put_some};
-use crate::halt::Halt;
 use crate::output::{Output, tell_block, tell_chain};
-use crate::pieces::{PIECE, blank_piece, read_piece, remove_front};
 use crate::telling::{tell_genesis_fault, tell_other_number};
-use crate::turn::{Stop, Turn};
 use block_wire::{Genesis, Next, StreamReader};
 use bundle_reports::tell_fault;
-use npos_base::{NoMemory, Sink, Source};
+use npos_base::{NoMemory, Sink, Source, remove_front};
 use npos_runtime::laws::chains_can_be_saved;
 use npos_runtime::{BlockFault, Runtime};
+use run_edges::{Halt, PIECE, Status, Stop, Turn, blank_piece, flush, put, put_some, read_piece};
 use scale_wire::fault::{ReadFault, Why, WireFault};
 use std::alloc::Global;
 
@@ -97,7 +95,7 @@ fn take_turn(
 /// Takes turns and writes what is told of the blocks, until bytes are missing or the replay ends
 /// with the line that is then the text. A call of a sink may cost as much as a block does, so lines
 /// are written once there is a piece of them, and where no more blocks are at hand.
-#[tactic(auto, using(crate::proofs::AskLaws::tries_nothing, crate::proofs::AskLaws::tries_last, crate::proofs::AskLaws::tries_so_far))]
+#[tactic(auto, using(run_edges::proofs::AskLaws::tries_nothing, run_edges::proofs::AskLaws::tries_last, run_edges::proofs::AskLaws::tries_so_far))]
 fn take_turns<K: Sink>(
     alloc: Global,
     output: Output,
@@ -140,7 +138,7 @@ fn take_turns<K: Sink>(
 
 /// Takes what is read until the replay ends, with a fault line or not. All but that line is then
 /// written.
-#[tactic(auto, using(crate::proofs::AskLaws::asks_nothing, crate::proofs::AskLaws::tries_nothing, crate::proofs::AskLaws::tries_last, crate::proofs::AskLaws::tries_so_far))]
+#[tactic(auto, using(run_edges::proofs::AskLaws::tryings))]
 fn take_all<S: Source, K: Sink>(
     alloc: Global,
     output: Output,
@@ -179,7 +177,7 @@ fn take_all<S: Source, K: Sink>(
 }
 
 /// Reads the genesis, piece by piece.
-#[tactic(auto, using(crate::proofs::AskLaws::asks_nothing, crate::proofs::CourseLaws::awaits_first, crate::proofs::CourseLaws::awaits_none))]
+#[tactic(auto, using(run_edges::proofs::AskLaws::asks_nothing, crate::proofs::CourseLaws::awaits_first, crate::proofs::CourseLaws::awaits_none))]
 fn take_genesis<S: Source>(
     source: &mut S,
     reader: &mut StreamReader,
@@ -208,7 +206,7 @@ fn take_genesis<S: Source>(
 
 /// Replays what is left in the source, and writes all but the last line, which is then the text.
 /// Answers whether that is a fault line.
-#[tactic(auto, using(crate::proofs::AskLaws::asks_last, crate::proofs::AskLaws::asks_so_far, crate::proofs::AskLaws::stops_nothing, crate::proofs::CourseLaws::awaits_wary))]
+#[tactic(auto, using(run_edges::proofs::AskLaws::stoppings, crate::proofs::CourseLaws::awaits_wary))]
 fn tell_replay<S: Source, K: Sink>(
     alloc: Global,
     output: Output,
@@ -269,7 +267,7 @@ fn replay_status(faulty: bool) -> Status
 }
 
 /// Replays what is left in the source, writes what it tells to the sink and flushes that once.
-#[tactic(auto, using(crate::proofs::AskLaws::settles_nothing, crate::proofs::AskLaws::settles_behind, crate::proofs::AskLaws::settles_cut))]
+#[tactic(auto, using(run_edges::proofs::AskLaws::settles_nothing, run_edges::proofs::AskLaws::settles_behind, run_edges::proofs::AskLaws::settles_cut))]
 pub fn replay<S: Source, K: Sink>(
     alloc: Global,
     output: Output,

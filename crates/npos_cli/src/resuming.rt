@@ -2,27 +2,24 @@
 //! block.
 ghost use Rattle.std.specs.Prelude.{◌≡◌, ◌≢◌, Some, false, IfOk, IfErr};
 ghost use Rattle.npos_cli.specs.declared.job.Job.TheVariants as jobs;
-ghost use Rattle.npos_cli.specs.declared.halt.Halt.TheVariants as halts;
+ghost use Rattle.run_edges.specs.declared.halt.Halt.TheVariants as halts;
 ghost use Rattle.npos_cli.specs.declared.going.Turn.TheVariants as turns;
 ghost use Rattle.npos_cli.specs.Checkpoints.{resume_machine};
 ghost use Rattle.npos_cli.specs.Going.{EndsHere, GoesOn, TakesItem};
-ghost use Rattle.npos_cli.specs.Owed.{FindsFor, IsDrained, Counts, AsksInTime, Settles};
+ghost use Rattle.npos_cli.specs.Owed.{FindsFor};
+ghost use Rattle.run_edges.specs.Owed.{IsDrained, Counts, AsksInTime, Settles};
 ghost use Rattle.npos_cli.specs.Ran.{Ran, traffic};
 ghost use Rattle.npos_cli.specs.Report.{JobOwes};
-ghost use Rattle.npos_cli.specs.Status.{status_of};
-ghost use Rattle.npos_cli.specs.Turning.{spot};
+ghost use Rattle.run_edges.specs.Status.{status_of};
+ghost use Rattle.run_edges.specs.Turning.{spot};
 
-use crate::Status;
-use crate::edges::deliver;
 use crate::going::{Turn, faulty};
-use crate::halt::Halt;
-use crate::input::read_all;
-use crate::status::status_of;
 use crate::telling::{tell_end, tell_lines, tell_other_number, tell_state_fault};
 use block_wire::Block;
 use bundle_reports::{Answer, Ending, tell_fault};
 use npos_base::{NoMemory, Sink, Source};
 use npos_runtime::{BlockFault, Runtime};
+use run_edges::{Halt, Status, deliver, read_all, status_of};
 use scale_wire::fault::{ReadFault, Why};
 use scale_wire::{Cursor, Wire};
 use state_checkpoint::read_state;

@@ -1,19 +1,17 @@
 //! Bundles that are read from a source and written to a sink in their other form.
 ghost use Rattle.std.specs.Prelude.{◌≡◌, ◌≢◌, ◌+◌, Some, IfOk, IfErr};
 ghost use Rattle.npos_cli.specs.declared.job.Job.TheVariants as jobs;
-ghost use Rattle.npos_cli.specs.declared.halt.Halt.TheVariants as halts;
-ghost use Rattle.npos_cli.specs.Owed.{FindsFor, IsDrained, TakesAtMost, Counts, AsksInTime, Settles};
+ghost use Rattle.run_edges.specs.declared.halt.Halt.TheVariants as halts;
+ghost use Rattle.npos_cli.specs.Owed.{FindsFor};
+ghost use Rattle.run_edges.specs.Owed.{IsDrained, TakesAtMost, Counts, AsksInTime, Settles};
 ghost use Rattle.npos_cli.specs.Ran.{Ran, traffic};
-ghost use Rattle.npos_cli.specs.Status.{status_of};
+ghost use Rattle.run_edges.specs.Status.{status_of};
 ghost use Rattle.npos_cli.specs.Report.{IsJudged};
 
-use crate::Status;
-use crate::edges::deliver;
-use crate::halt::Halt;
-use crate::input::read_up_to;
-use crate::status::status_of;
-use bundle_reports::{Answer, MOST_BUNDLE, Rewriting, rewrite_bytes};
+use bundle_reports::{Answer, Rewriting, rewrite_bytes};
+use election_work::MOST_BUNDLE;
 use npos_base::{Sink, Source};
+use run_edges::{Halt, Status, deliver, read_up_to, status_of};
 use std::alloc::Global;
 
 /// Reads the bundle that is left in the source, no more than one byte beyond the limit, and answers

@@ -3,7 +3,8 @@ ghost use Rattle.std.specs.Prelude.{◌≡◌, ◌≢◌, ◌+◌, ◌^◌, ◌<
 ghost use Rattle.std.specs.List.{range_with_len};
 ghost use Rattle.told_lines.specs.Texts.{newline};
 ghost use Rattle.bundle_reports.specs.Texts.{fault_line, word_of};
-ghost use Rattle.npos_cli.specs.Texts.{number_line, genesis_line};
+ghost use Rattle.run_edges.specs.Texts.{number_line};
+ghost use Rattle.npos_cli.specs.Texts.{genesis_line};
 ghost use Rattle.block_receipts.specs.declared.line.Line.TheVariants as lines;
 ghost use Rattle.chain_params.specs.Faults.{fault_numbers};
 ghost use Rattle.chain_params.specs.declared.fault.GenesisFault.TheVariants as faults;

@@ -1,5 +1,5 @@
 use Rattle.npos_cli.specs.Chain.{npos_machine}
-use Rattle.npos_cli.proofs.FaultLaws.{faults_stand}
+use Rattle.run_edges.proofs.FaultLaws.{faults_stand}
 use Rattle.npos_cli.proofs.ChainLaws.{genesis_laws, turn_laws}
 use Rattle.npos_cli.proofs.laws.faults_stand.Goals as goal
 

@@ -1,7 +1,7 @@
 use Rattle.npos_cli.specs.Chain.{npos_machine}
 use Rattle.npos_cli.specs.Checkpoints.{checkpoint_machine, resume_machine}
 use Rattle.npos_cli.specs.Pools.{pool_machine}
-use Rattle.npos_cli.proofs.ReplayLaws.{one_replay}
+use Rattle.run_edges.proofs.ReplayLaws.{one_replay}
 use Rattle.state_checkpoint.specs.LayoutLaws.{state_laws}
 use Rattle.npos_cli.proofs.ChainLaws.{genesis_laws, turn_laws}
 use Rattle.npos_cli.proofs.PoolLaws.{pool_laws, pool_turn_laws}

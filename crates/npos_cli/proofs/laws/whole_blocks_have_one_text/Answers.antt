@@ -1,5 +1,5 @@
 use Rattle.npos_cli.specs.Chain.{npos_machine}
-use Rattle.npos_cli.proofs.WholeLaws.{one_whole, any_whole, replay_begins}
+use Rattle.run_edges.proofs.WholeLaws.{one_whole, any_whole, replay_begins}
 use Rattle.npos_cli.proofs.ChainLaws.{genesis_laws, turn_laws}
 use Rattle.npos_cli.proofs.laws.whole_blocks_have_one_text.Goals as goal
 

@@ -1,5 +1,5 @@
 use Rattle.npos_cli.specs.Chain.{npos_machine}
-use Rattle.npos_cli.proofs.WholeLaws.{whole_grows}
+use Rattle.run_edges.proofs.WholeLaws.{whole_grows}
 use Rattle.npos_cli.proofs.ChainLaws.{genesis_laws, turn_laws}
 use Rattle.npos_cli.proofs.laws.whole_text_grows.Goals as goal
 

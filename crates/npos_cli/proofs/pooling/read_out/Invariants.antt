@@ -1,8 +1,8 @@
 use Rattle.std.proofs.Common.{◌≡◌}
 use Rattle.npos_base.specs.declared.outside.Asked.{Asked}
-use Rattle.npos_cli.specs.Intake.{StaysSettled, IsTimely}
+use Rattle.run_edges.specs.Intake.{StaysSettled, IsTimely}
 use Rattle.npos_cli.specs.Pools.{pool_machine}
-use Rattle.npos_cli.proofs.IntakeLaws.{ahead}
+use Rattle.run_edges.proofs.IntakeLaws.{ahead}
 use Rattle.npos_cli.proofs.pooling.read_out.Given as goal
 
 -- what was settled stays so, and no read failed

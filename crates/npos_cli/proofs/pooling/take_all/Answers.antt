@@ -1,11 +1,11 @@
 use Rattle.std.proofs.Common.{rules, ◌≡◌, ◌+◌, ◌≤◌, ◌∙◌, Bool, length, ap, sym, subst, arith, length-append}
 use Rattle.std.proofs.lemmas.Result.{err_from_is_err_and}
 use Rattle.scale_wire.specs.Reading.{Place}
-use Rattle.npos_cli.specs.declared.turn.Stop.TheVariants.{More, Last}
-use Rattle.npos_cli.specs.Intake.{TellsOn, Comes, IsTimely, IsSettled}
+use Rattle.run_edges.specs.declared.turn.Stop.TheVariants.{More, Last}
+use Rattle.run_edges.specs.Intake.{TellsOn, Comes, IsTimely, IsSettled}
 use Rattle.npos_cli.specs.Pools.{pool_machine}
 use Rattle.npos_cli.specs.Pooling.{pool_spot}
-use Rattle.npos_cli.proofs.IntakeLaws.{nearer, told_between, comes_told, comes_on, settled_last}
+use Rattle.run_edges.proofs.IntakeLaws.{nearer, told_between, comes_told, comes_on, settled_last}
 use Rattle.npos_cli.proofs.PoolLaws.{pool_laws, pool_turn_laws}
 use Rattle.npos_cli.proofs.pooling.take_all.Goals as goal
 
@@ -38,10 +38,13 @@ pieces-preserved g c =
       counted = omega (arith, counted, at);
       faults = reads.faults ∙ c.pieces.invariant.faults;
       timely = λ first so_far. reads.timely first (subst (λ (ended : Bool). IsTimely first (g.S.Source.asked c.pieces.source) ended) (sym same) (c.pieces.invariant.timely first so_far));
-      comes = λ left comes. comes_on pool_machine pool_laws pool_turn_laws left (g.S.Source.left c.pieces.source) (g.S.Source.left c.read_on.new.source) c.take_held.new.intake c.read_on.new.self q.state
+      comes = λ left comes. comes_on pool_machine pool_laws pool_turn_laws left (g.S.Source.left c.pieces.source)
+          (g.S.Source.left c.read_on.new.source) c.take_held.new.intake c.read_on.new.self q.state
           c.take_held.new.text.items (same ∙ tells.0)
           (subst (λ (ended : Bool). Comes pool_machine left (g.S.Source.left c.pieces.source) ended q c.take_held.new.text.items) (sym same)
-          (comes_told pool_machine pool_laws pool_turn_laws left (g.S.Source.left c.pieces.source) c.pieces.intake.ended p q c.pieces.text.items c.take_held.new.text.items (c.pieces.invariant.comes left comes) tells.1))
+          (comes_told pool_machine pool_laws pool_turn_laws left (g.S.Source.left c.pieces.source)
+          c.pieces.intake.ended p q c.pieces.text.items c.take_held.new.text.items
+          (c.pieces.invariant.comes left comes) tells.1))
           reads.more;
     }
 

@@ -1,9 +1,9 @@
 use Rattle.std.proofs.Common.{◌≡◌, ◌≤◌, ℕ, List, Option, false}
 use Rattle.npos_base.specs.declared.outside.Asked.{Asked}
-use Rattle.npos_cli.specs.Intake.{Comes, IsTimely}
+use Rattle.run_edges.specs.Intake.{Comes, IsTimely}
 use Rattle.npos_cli.specs.Pooling.{pool_spot}
 use Rattle.npos_cli.specs.Pools.{pool_machine}
-use Rattle.npos_cli.proofs.IntakeLaws.{ahead}
+use Rattle.run_edges.proofs.IntakeLaws.{ahead}
 use Rattle.npos_cli.proofs.pooling.take_all.Given as goal
 
 -- whatever led to the start goes on to here, and no read failed

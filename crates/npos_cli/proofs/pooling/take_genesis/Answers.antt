@@ -3,9 +3,9 @@ use Rattle.std.proofs.lemmas.Result.{err_from_is_err_and}
 use Rattle.scale_wire.specs.declared.fault.ReadFault.TheVariants.{Wire}
 use Rattle.scale_wire.specs.Reading.{Place}
 use Rattle.stake_pools.specs.Input.{pool_genesis_form}
-use Rattle.npos_cli.specs.Ahead.{HasSeen}
-use Rattle.npos_cli.specs.Intake.{Held, IsTimely, TakesOrWaits}
-use Rattle.npos_cli.proofs.IntakeLaws.{seen_on}
+use Rattle.run_edges.specs.Ahead.{HasSeen}
+use Rattle.run_edges.specs.Intake.{Held, IsTimely, TakesOrWaits}
+use Rattle.run_edges.proofs.IntakeLaws.{seen_on}
 use Rattle.npos_cli.proofs.pooling.take_genesis.Goals as goal
 
 pub returns-in-Ok-Some-clause-timely : goal.returns-in-Ok-Some-clause-timely
@@ -25,8 +25,11 @@ pieces-preserved g c =
       timely = λ first so_far. reads.timely first (subst (λ (h : Held). IsTimely first (g.S.Source.asked c.pieces.source) h.ended) (sym waits.1) (c.pieces.invariant.timely first so_far));
       at = ap (λ (p : Place). p.at) reads.more.2 ∙ (ap (λ (h : Held). h.place.at) waits.1 ∙ c.pieces.invariant.at);
       seen = subst (λ (bytes : List ℕ). HasSeen (g.S.Source.left c.args.source.now) (g.S.Source.left c.read_on.new.source) bytes false c.read_on.new.self.ended) (sym rest)
-          (seen_on (g.S.Source.left c.args.source.now) (g.S.Source.left c.pieces.source) (g.S.Source.left c.read_on.new.source) c.pieces.intake.place.rest c.try_genesis.new.intake c.read_on.new.self unended
-          (subst (λ (h : Held). HasSeen (g.S.Source.left c.args.source.now) (g.S.Source.left c.pieces.source) c.pieces.intake.place.rest false h.ended) (sym waits.1) c.pieces.invariant.seen) reads.more);
+          (seen_on (g.S.Source.left c.args.source.now) (g.S.Source.left c.pieces.source)
+          (g.S.Source.left c.read_on.new.source) c.pieces.intake.place.rest c.try_genesis.new.intake
+          c.read_on.new.self unended
+          (subst (λ (h : Held). HasSeen (g.S.Source.left c.args.source.now) (g.S.Source.left c.pieces.source)
+          c.pieces.intake.place.rest false h.ended) (sym waits.1) c.pieces.invariant.seen) reads.more);
     }
 
 pub returns-in_err-read_on-in-Ok-None-clause-timely : goal.returns-in_err-read_on-in-Ok-None-clause-timely

@@ -1,8 +1,8 @@
 use Rattle.std.proofs.Common.{◌≡◌, false}
 use Rattle.npos_base.specs.declared.outside.Asked.{Asked}
-use Rattle.npos_cli.specs.Ahead.{HasSeen}
-use Rattle.npos_cli.specs.Intake.{IsTimely}
-use Rattle.npos_cli.proofs.IntakeLaws.{ahead}
+use Rattle.run_edges.specs.Ahead.{HasSeen}
+use Rattle.run_edges.specs.Intake.{IsTimely}
+use Rattle.run_edges.proofs.IntakeLaws.{ahead}
 use Rattle.npos_cli.proofs.pooling.take_genesis.Given as goal
 
 -- all that was seen is held, and no read failed

@@ -2,10 +2,10 @@ use Rattle.std.proofs.Common.{rules, ◌≡◌, ◌+◌, ◌≤◌, ◌++◌, fa
 use Rattle.scale_wire.specs.Form.{IsBytes}
 use Rattle.scale_wire.specs.Reading.{IsRead, IsFault}
 use Rattle.bundle_reports.specs.Texts.{fault_line}
-use Rattle.npos_cli.specs.Replay.{turn}
+use Rattle.run_edges.specs.Replay.{turn}
 use Rattle.npos_cli.specs.Pools.{pool_machine}
 use Rattle.npos_cli.specs.Pooling.{pool_spot}
-use Rattle.npos_cli.proofs.TurnLaws.{none_turn, fault_turn}
+use Rattle.run_edges.proofs.TurnLaws.{none_turn, fault_turn}
 use Rattle.npos_cli.proofs.PoolLaws.{pool_laws, pool_turn_laws, item_room}
 use Rattle.npos_cli.proofs.pooling.take_item.Goals as goal
 
@@ -13,7 +13,9 @@ pub returns-in-Ok-None-clause-turn : goal.returns-in-Ok-None-clause-turn
 returns-in-Ok-None-clause-turn c =
     let is : IsRead (turn pool_machine) c.args.cursor.now None c.read.new.cursor = search rules in
     let no : c.is_open_none.result ≡ false = search rules in
-    none_turn pool_machine pool_laws pool_turn_laws c.args.cursor.now c.read.new.cursor (pool_spot c.read.new.cursor c.args.asked.now c.args.pool.now.state) (record { asked = c.args.asked.now; pool = c.args.pool.now.state })
+    none_turn pool_machine pool_laws pool_turn_laws c.args.cursor.now c.read.new.cursor
+    (pool_spot c.read.new.cursor c.args.asked.now c.args.pool.now.state)
+    (record { asked = c.args.asked.now; pool = c.args.pool.now.state })
     c.args.ended c.args.text.now.items c.tell_stop.new.text.items _ is (search (rules, c.is_open_none.ensures.no no)) c.in_ok-tell_stop-in-Ok-None.ensures
 
 pub returns-in-Err-Wire-clause-turn : goal.returns-in-Err-Wire-clause-turn
@@ -22,7 +24,9 @@ returns-in-Err-Wire-clause-turn c =
     let no : c.is_cut.result ≡ false = search rules in
     let bytes : IsBytes c.args.cursor.now.rest = search (rules, c.is_open_none.ensures.bytes) in
     let told : c.tell_fault.new.text.items ≡ c.args.text.now.items ++ fault_line c.in-Err-Wire.fault.at c.in-Err-Wire.fault.why = search rules in
-    fault_turn pool_machine pool_laws pool_turn_laws c.args.cursor.now c.read.new.cursor (pool_spot c.read.new.cursor c.args.asked.now c.args.pool.now.state) (record { asked = c.args.asked.now; pool = c.args.pool.now.state })
+    fault_turn pool_machine pool_laws pool_turn_laws c.args.cursor.now c.read.new.cursor
+    (pool_spot c.read.new.cursor c.args.asked.now c.args.pool.now.state)
+    (record { asked = c.args.asked.now; pool = c.args.pool.now.state })
     c.args.ended c.args.text.now.items c.tell_fault.new.text.items c.in-Err-Wire.fault is bytes (c.is_cut.ensures.no no) told
 
 -- an item has at least its tag, and the place behind it is a number

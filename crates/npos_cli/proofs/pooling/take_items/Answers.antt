@@ -1,9 +1,9 @@
 use Rattle.std.proofs.Common.{rules}
-use Rattle.npos_cli.specs.declared.turn.Turn.TheVariants.{Taken}
+use Rattle.run_edges.specs.declared.turn.Turn.TheVariants.{Taken}
 use Rattle.npos_cli.specs.Pools.{pool_machine}
 use Rattle.npos_cli.specs.Pooling.{pool_spot}
-use Rattle.npos_cli.specs.Turning.{TakesTurn}
-use Rattle.npos_cli.proofs.IntakeLaws.{told_more}
+use Rattle.run_edges.specs.Turning.{TakesTurn}
+use Rattle.run_edges.proofs.IntakeLaws.{told_more}
 use Rattle.npos_cli.proofs.PoolLaws.{pool_laws, pool_turn_laws}
 use Rattle.npos_cli.proofs.pooling.take_items.Goals as goal
 

@@ -1,5 +1,5 @@
 use Rattle.std.proofs.Common.{◌≡◌, ◌≤◌, false, length}
-use Rattle.npos_cli.specs.Going.{HasTold}
+use Rattle.run_edges.specs.Turning.{HasTold}
 use Rattle.npos_cli.specs.Pooling.{pool_spot}
 use Rattle.npos_cli.specs.Pools.{pool_machine}
 use Rattle.npos_cli.proofs.pooling.take_items.Given as goal

@@ -2,6 +2,7 @@ use Rattle.std.proofs.Common.{map, string_bytes, true, false}
 use Rattle.npos_base.specs.Outside.{Rose}
 use Rattle.npos_cli.specs.Words.{job_of}
 use Rattle.npos_cli.proofs.PromiseLaws.{usage_due, usage_comes, comes_owed, reads_nothing, usage_front_of, done_of, bad_of, comes_of, front_of}
+use Rattle.npos_cli.proofs.PromiseLaws.{no_verdict_of}
 use Rattle.npos_cli.proofs.promises.run_by_status.Goals as goal
 
 pub returns-clause-usage_front : goal.returns-clause-usage_front
@@ -49,3 +50,7 @@ pub returns-clause-usage_comes : goal.returns-clause-usage_comes
 returns-clause-usage_comes g c = usage_comes (map string_bytes c.args.words.now) (g.S.Source.left c.args.source.now) (g.K.Sink.told c.args.sink.now) (g.K.Sink.told c.run.new.sink)
     c.run.result (Rose (g.S.Source.faults c.args.source.now) (g.S.Source.faults c.run.new.source)) (Rose (g.K.Sink.faults c.args.sink.now) (g.K.Sink.faults c.run.new.sink))
     c.run.ensures.answers c.run.ensures.read_fault c.run.ensures.write_fault
+
+pub returns-clause-no_verdict : goal.returns-clause-no_verdict
+returns-clause-no_verdict g c = λ asked. no_verdict_of (map string_bytes c.args.words.now) asked (g.S.Source.left c.args.source.now)
+    (g.K.Sink.told c.args.sink.now) (g.K.Sink.told c.run.new.sink) c.run.result c.run.ensures.answers

@@ -1,13 +1,14 @@
 use Rattle.std.proofs.Common.{◌≡◌, ◌+◌, ◌-◌, ◌^◌, ◌<◌, ◌≤◌, ℕ, List, Option, false, length}
 use Rattle.npos_base.specs.Outside.{Told}
-use Rattle.npos_runtime.specs.Savable.{IsSavable}
+use Rattle.npos_runtime.specs.Kept.Savable.{IsSavable}
 use Rattle.npos_cli.specs.declared.output.Output.TheVariants.{Checkpoint}
 use Rattle.npos_cli.specs.Outputs.{machine_of}
-use Rattle.npos_cli.specs.Turning.{spot, IsNear}
-use Rattle.npos_cli.specs.Streaming.{Course, ReadsOnWhile}
-use Rattle.npos_cli.specs.Owed.{AsksInTime, AsksOn}
-use Rattle.npos_cli.proofs.AskLaws.{TriesOn}
-use Rattle.npos_cli.proofs.TurnLaws.{one_if_open}
+use Rattle.run_edges.specs.Turning.{spot}
+use Rattle.npos_cli.specs.Near.{IsNear}
+use Rattle.run_edges.specs.Streaming.{Course, ReadsOnWhile}
+use Rattle.run_edges.specs.Owed.{AsksInTime, AsksOn}
+use Rattle.run_edges.proofs.AskLaws.{TriesOn}
+use Rattle.run_edges.proofs.TurnLaws.{one_if_open}
 use Rattle.npos_cli.proofs.replaying.take_all.Given as goal
 
 -- whatever led to the start goes on to here, no read or write failed, and the place is near

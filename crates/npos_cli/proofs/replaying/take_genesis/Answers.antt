@@ -4,11 +4,12 @@ use Rattle.block_wire.specs.Genesis.{genesis_form}
 use Rattle.block_wire.specs.Stream.{Waits}
 use Rattle.std.proofs.lemmas.List.{append-nil}
 use Rattle.scale_wire.specs.Reading.{Place, IsRead}
-use Rattle.npos_cli.specs.Ahead.{CutsGenesis, HasSeen}
-use Rattle.npos_cli.proofs.TurnLaws.{nearer_end}
+use Rattle.npos_cli.specs.Ahead.{CutsGenesis}
+use Rattle.run_edges.specs.Ahead.{HasSeen}
+use Rattle.run_edges.proofs.TurnLaws.{nearer_end}
 use Rattle.npos_cli.proofs.NearLaws.{genesis_room}
-use Rattle.npos_cli.proofs.EdgeLaws.{seen_once, seen_more}
-use Rattle.npos_cli.proofs.AskLaws.{asks_last, asks_more}
+use Rattle.run_edges.proofs.EdgeLaws.{seen_once, seen_more}
+use Rattle.run_edges.proofs.AskLaws.{asks_last, asks_more}
 use Rattle.npos_cli.proofs.CourseLaws.{begins_unread, awaits_more, open_read}
 use Rattle.npos_cli.proofs.replaying.take_genesis.Goals as goal
 
@@ -31,20 +32,25 @@ pieces-smaller g c =
     let room = genesis_room c.pieces.reader c.pieces.invariant.at waits.1 in
     let feeds = c.in_ok-ended-in-Ok-None.ensures.feeds in
     let at : c.read_piece.new.reader.at ≡ c.take_genesis.new.self.at = ap (λ (p : Place). p.at) feeds.3.0 in
-    let rest : length c.read_piece.new.reader.rest ≡ length c.take_genesis.new.self.rest + length feeds.0 = ap (λ (p : Place). length p.rest) feeds.3.0 ∙ length-append c.take_genesis.new.self.rest feeds.0 in
+    let rest : length c.read_piece.new.reader.rest ≡ length c.take_genesis.new.self.rest + length feeds.0 =
+    ap (λ (p : Place). length p.rest) feeds.3.0 ∙ length-append c.take_genesis.new.self.rest feeds.0 in
     nearer_end (c.pieces.reader.at + length c.pieces.reader.rest) (c.take_genesis.new.self.at + length c.take_genesis.new.self.rest) (c.read_piece.new.reader.at + length c.read_piece.new.reader.rest)
     c.pieces.ended c.in_ok-ended-in-Ok-None.ended waits.0 same (omega (arith, same, room)) (omega (arith, at, rest)) (λ e. omega (arith, at, c.in_ok-ended-in-Ok-None.ensures.further e))
 
 pub returns-in_err-ended-in-Ok-None-clause-wary : goal.returns-in_err-ended-in-Ok-None-clause-wary
 returns-in_err-ended-in-Ok-None-clause-wary g c =
     let waits : Waits genesis_form c.pieces.ended c.pieces.reader c.take_genesis.new.self = search rules in
-    awaits_more (g.S.Source.left c.args.source.now) (g.S.Source.left c.pieces.source) (g.S.Source.left c.read_piece.new.source) c.pieces.reader.rest c.pieces.ended (g.S.Source.asked c.read_piece.new.source).last
+    awaits_more (g.S.Source.left c.args.source.now) (g.S.Source.left c.pieces.source)
+    (g.S.Source.left c.read_piece.new.source) c.pieces.reader.rest c.pieces.ended
+    (g.S.Source.asked c.read_piece.new.source).last
     c.pieces.invariant.seen waits.1 c.in_err-ended-in-Ok-None.ensures.few c.in_err-ended-in-Ok-None.ensures.one_piece
 
 pub returns-in_err-ended-in-Ok-None-clause-asks : goal.returns-in_err-ended-in-Ok-None-clause-asks
 returns-in_err-ended-in-Ok-None-clause-asks g c =
     let waits : Waits genesis_form c.pieces.ended c.pieces.reader c.take_genesis.new.self = search rules in
-    asks_last (g.S.Source.asked c.args.source.now) (g.S.Source.asked c.pieces.source) (g.S.Source.asked c.read_piece.new.source) (c.pieces.invariant.asks_on waits.0) c.in_err-ended-in-Ok-None.ensures.asks.in_time
+    asks_last (g.S.Source.asked c.args.source.now) (g.S.Source.asked c.pieces.source)
+    (g.S.Source.asked c.read_piece.new.source) (c.pieces.invariant.asks_on waits.0)
+    c.in_err-ended-in-Ok-None.ensures.asks.in_time
 
 pub returns-in-Ok-Some-clause-asks_on : goal.returns-in-Ok-Some-clause-asks_on
 returns-in-Ok-Some-clause-asks_on g c =
@@ -63,14 +69,19 @@ pieces-preserved g c =
       faults = reads.faults ∙ c.pieces.invariant.faults;
       at = ap (λ (p : Place). p.at) reads.feeds.3.0 ∙ (ap (λ (p : Place). p.at) waits.2 ∙ c.pieces.invariant.at);
       seen = subst (λ (bytes : List ℕ). HasSeen (g.S.Source.left c.args.source.now) (g.S.Source.left c.read_piece.new.source) bytes false c.in_ok-ended-in-Ok-None.ended) (sym rest)
-          (seen_more (g.S.Source.left c.args.source.now) (g.S.Source.left c.pieces.source) (g.S.Source.left c.read_piece.new.source) c.pieces.reader.rest reads.feeds.0 false c.pieces.ended c.in_ok-ended-in-Ok-None.ended
+          (seen_more (g.S.Source.left c.args.source.now) (g.S.Source.left c.pieces.source)
+          (g.S.Source.left c.read_piece.new.source) c.pieces.reader.rest reads.feeds.0 false c.pieces.ended
+          c.in_ok-ended-in-Ok-None.ended
           c.pieces.invariant.seen
           (subst (λ (b : Bool). HasSeen (g.S.Source.left c.pieces.source) (g.S.Source.left c.read_piece.new.source) reads.feeds.0 b c.in_ok-ended-in-Ok-None.ended) (sym waits.0)
           (seen_once (g.S.Source.left c.pieces.source) (g.S.Source.left c.read_piece.new.source) reads.feeds.0 c.in_ok-ended-in-Ok-None.ended reads.feeds.1 reads.feeds.3.1)));
       awaits = (c.pieces.reader.rest, reads.feeds.0, rest, reads.feeds.2, waits.1);
       cut = λ end. subst CutsGenesis (sym (append-nil c.pieces.reader.rest) ∙ (ap (λ (back : List ℕ). c.pieces.reader.rest ++ back) (sym (reads.feeds.3.1 end).0) ∙ sym rest)) waits.1;
-      wary = awaits_more (g.S.Source.left c.args.source.now) (g.S.Source.left c.pieces.source) (g.S.Source.left c.read_piece.new.source) c.pieces.reader.rest c.pieces.ended (g.S.Source.asked c.read_piece.new.source).last
+      wary = awaits_more (g.S.Source.left c.args.source.now) (g.S.Source.left c.pieces.source)
+          (g.S.Source.left c.read_piece.new.source) c.pieces.reader.rest c.pieces.ended
+          (g.S.Source.asked c.read_piece.new.source).last
           c.pieces.invariant.seen waits.1 reads.few reads.one_piece;
       asks = asks_last (g.S.Source.asked c.args.source.now) (g.S.Source.asked c.pieces.source) (g.S.Source.asked c.read_piece.new.source) (c.pieces.invariant.asks_on waits.0) reads.asks.in_time;
-      asks_on = λ going. asks_more (g.S.Source.asked c.args.source.now) (g.S.Source.asked c.pieces.source) (g.S.Source.asked c.read_piece.new.source) (c.pieces.invariant.asks_on waits.0) (reads.asks.goes_on going);
+      asks_on = λ going. asks_more (g.S.Source.asked c.args.source.now) (g.S.Source.asked c.pieces.source)
+          (g.S.Source.asked c.read_piece.new.source) (c.pieces.invariant.asks_on waits.0) (reads.asks.goes_on going);
     }

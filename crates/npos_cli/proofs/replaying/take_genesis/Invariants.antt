@@ -1,7 +1,8 @@
 use Rattle.std.proofs.Common.{◌≡◌, ◌+◌, ◌-◌, ◌^◌, ◌<◌, ◌≤◌, true, false, length}
-use Rattle.npos_cli.specs.Ahead.{HasSeen, AwaitsGenesis, AwaitsMore, CutsGenesis}
-use Rattle.npos_cli.specs.Owed.{AsksInTime, AsksOn}
-use Rattle.npos_cli.proofs.TurnLaws.{one_if_open}
+use Rattle.run_edges.specs.Ahead.{HasSeen}
+use Rattle.npos_cli.specs.Ahead.{AwaitsGenesis, AwaitsMore, CutsGenesis}
+use Rattle.run_edges.specs.Owed.{AsksInTime, AsksOn}
+use Rattle.run_edges.proofs.TurnLaws.{one_if_open}
 use Rattle.npos_cli.proofs.replaying.take_genesis.Given as goal
 
 -- all that was seen is held, and no read failed

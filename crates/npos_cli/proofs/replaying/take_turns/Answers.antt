@@ -2,12 +2,12 @@ use Rattle.std.proofs.Common.{rules, ◌≡◌, ◌∙◌, refl, sym, ap, ap₂,
 use Rattle.std.proofs.Math.Seq.{take-append_seam}
 use Rattle.std.proofs.lemmas.Result.{err_from_is_err_and}
 use Rattle.npos_base.specs.Outside.{Appends}
-use Rattle.npos_cli.specs.declared.turn.Turn.TheVariants.{Taken, Stopped}
+use Rattle.run_edges.specs.declared.turn.Turn.TheVariants.{Taken, Stopped}
 use Rattle.npos_cli.specs.Outputs.{machine_of}
-use Rattle.npos_cli.specs.Owed.{Puts}
-use Rattle.npos_cli.specs.Turning.{spot, TakesTurn, WritesOn}
+use Rattle.run_edges.specs.Owed.{Puts}
+use Rattle.run_edges.specs.Turning.{spot, TakesTurn, WritesOn}
 use Rattle.npos_cli.proofs.SavableLaws.{savable_turn, silent_turn}
-use Rattle.npos_cli.proofs.AskLaws.{tries_more}
+use Rattle.run_edges.proofs.AskLaws.{tries_more}
 use Rattle.npos_cli.proofs.WritLaws.{held_none, held_more, held_put, held_cut, held_stop}
 use Rattle.npos_cli.proofs.replaying.take_turns.Goals as goal
 
@@ -35,7 +35,8 @@ turns-preserved g c =
       quiet = λ silent.
           let (still, empty) = c.turns.invariant.quiet silent in
           (still, silent_turn c.args.output c.args.ended here next c.turns.text.items c.take_turn.new.text.items empty taken silent);
-      held = held_more c.args.output start here next c.args.ended (g.K.Sink.told c.args.sink.now) (g.K.Sink.told c.turns.sink) c.turns.text.items c.take_turn.new.text.items c.turns.invariant.held taken;
+      held = held_more c.args.output start here next c.args.ended (g.K.Sink.told c.args.sink.now)
+          (g.K.Sink.told c.turns.sink) c.turns.text.items c.take_turn.new.text.items c.turns.invariant.held taken;
     }
 
 pub turns-preserved-then-len-ge-PIECE : goal.turns-preserved-then-len-ge-PIECE
@@ -67,8 +68,10 @@ returns-in_err-put-in-Taken-clause-writes g c =
     let text = c.take_turn.new.text.items in
     let p = err_from_is_err_and c.from_residual-in_err-put-in-Taken.result c.from_residual-in_err-put-in-Taken.ensures.1 in
     let taken : TakesTurn (machine_of c.args.output) c.args.ended here next c.turns.text.items text Taken = search rules in
-    let puts = subst (λ (t : List ℕ). Puts (g.K.Sink.told c.turns.sink) (g.K.Sink.told c.put.new.sink) t (Err c.in_err-put-in-Taken.field-0.0)) c.as_slice.ensures.value c.in_err-put-in-Taken.ensures.puts in
-    rw (p.1, p.2) (held_cut c.args.output start next next c.args.ended (g.K.Sink.told c.args.sink.now) (g.K.Sink.told c.turns.sink) (g.K.Sink.told c.put.new.sink) text text c.in_err-put-in-Taken.field-0.0
+    let puts = subst (λ (t : List ℕ). Puts (g.K.Sink.told c.turns.sink) (g.K.Sink.told c.put.new.sink) t
+    (Err c.in_err-put-in-Taken.field-0.0)) c.as_slice.ensures.value c.in_err-put-in-Taken.ensures.puts in
+    rw (p.1, p.2) (held_cut c.args.output start next next c.args.ended (g.K.Sink.told c.args.sink.now)
+    (g.K.Sink.told c.turns.sink) (g.K.Sink.told c.put.new.sink) text text c.in_err-put-in-Taken.field-0.0
     (held_more c.args.output start here next c.args.ended (g.K.Sink.told c.args.sink.now) (g.K.Sink.told c.turns.sink) c.turns.text.items text c.turns.invariant.held taken)
     puts)
 
@@ -83,7 +86,8 @@ returns-in_err-put_some-in-Stopped-clause-writes g c =
     let stops : TakesTurn (machine_of c.args.output) c.args.ended here next before text (Stopped c.in-Stopped.stop) = search rules in
     let count : c.len-told.result ≡ length before = search rules in
     let front : take c.len-told.result c.as_slice-in-Stopped.result.now ≡ before = ap₂ take count (c.as_slice-in-Stopped.ensures.value ∙ stops.1) ∙ take-append_seam before stops.0 in
-    let puts = subst (λ (t : List ℕ). Puts (g.K.Sink.told c.turns.sink) (g.K.Sink.told c.put_some.new.sink) t (Err c.in_err-put_some-in-Stopped.field-0.0)) front c.in_err-put_some-in-Stopped.ensures.puts in
+    let puts = subst (λ (t : List ℕ). Puts (g.K.Sink.told c.turns.sink) (g.K.Sink.told c.put_some.new.sink) t
+    (Err c.in_err-put_some-in-Stopped.field-0.0)) front c.in_err-put_some-in-Stopped.ensures.puts in
     rw (p.1, p.2) (held_cut c.args.output start here next c.args.ended (g.K.Sink.told c.args.sink.now) (g.K.Sink.told c.turns.sink) (g.K.Sink.told c.put_some.new.sink) before text
     c.in_err-put_some-in-Stopped.field-0.0 c.turns.invariant.held puts)
 
@@ -96,7 +100,9 @@ returns-in-Stopped-clause-writes g c =
     let text = c.take_turn.new.text.items in
     let stops : TakesTurn (machine_of c.args.output) c.args.ended here next before text (Stopped c.in-Stopped.stop) = search rules in
     let count : c.len-told.result ≡ length before = search rules in
-    let puts = subst (λ (t : List ℕ). Appends (g.K.Sink.told c.turns.sink) (g.K.Sink.told c.put_some.new.sink) t) (ap₂ take count c.as_slice-in-Stopped.ensures.value) c.in_ok-put_some-in-Stopped.ensures.puts in
+    let puts = subst (λ (t : List ℕ). Appends (g.K.Sink.told c.turns.sink) (g.K.Sink.told c.put_some.new.sink) t)
+    (ap₂ take count c.as_slice-in-Stopped.ensures.value) c.in_ok-put_some-in-Stopped.ensures.puts in
     subst (λ (t : List ℕ). WritesOn (machine_of c.args.output) c.args.ended start next (g.K.Sink.told c.args.sink.now) (g.K.Sink.told c.put_some.new.sink) t (Ok c.in-Stopped.stop))
     (sym (c.remove_front.ensures ∙ ap (λ n. drop n text) count))
-    (held_stop c.args.output start here next c.args.ended (g.K.Sink.told c.args.sink.now) (g.K.Sink.told c.turns.sink) (g.K.Sink.told c.put_some.new.sink) before text c.in-Stopped.stop c.turns.invariant.held stops puts)
+    (held_stop c.args.output start here next c.args.ended (g.K.Sink.told c.args.sink.now) (g.K.Sink.told c.turns.sink)
+    (g.K.Sink.told c.put_some.new.sink) before text c.in-Stopped.stop c.turns.invariant.held stops puts)

@@ -1,8 +1,8 @@
 use Rattle.std.proofs.Common.{◌≡◌, false, [], length}
-use Rattle.npos_runtime.specs.Savable.{IsSavable}
+use Rattle.npos_runtime.specs.Kept.Savable.{IsSavable}
 use Rattle.npos_cli.specs.declared.output.Output.TheVariants.{Checkpoint}
-use Rattle.npos_cli.specs.Turning.{spot}
-use Rattle.npos_cli.proofs.AskLaws.{TriesOn}
+use Rattle.run_edges.specs.Turning.{spot}
+use Rattle.run_edges.proofs.AskLaws.{TriesOn}
 use Rattle.npos_cli.proofs.WritLaws.{IsHeld}
 use Rattle.npos_cli.proofs.replaying.take_turns.Given as goal
 

@@ -1,8 +1,8 @@
 use Rattle.std.proofs.Common.{◌≡◌, Some, refl}
 use Rattle.std.proofs.lemmas.Result.{err_from_is_err_and}
 use Rattle.npos_cli.specs.declared.job.Job.TheVariants as jobs
-use Rattle.npos_cli.specs.Status.{status_of}
-use Rattle.npos_cli.specs.Owed.{Ends}
+use Rattle.run_edges.specs.Status.{status_of}
+use Rattle.run_edges.specs.Owed.{Ends}
 use Rattle.npos_cli.specs.Ran.{traffic}
 use Rattle.npos_cli.proofs.JobLaws.{unwritten_ran, ended_ran, ends_unwritten}
 use Rattle.npos_cli.proofs.resuming.resume.Goals as goal

@@ -4,12 +4,12 @@ use Rattle.state_checkpoint.specs.Layout.{state_form}
 use Rattle.state_checkpoint.specs.LayoutLaws.{state_laws}
 use Rattle.npos_runtime.specs.Life.{Life}
 use Rattle.bundle_reports.specs.Texts.{fault_line}
-use Rattle.npos_cli.specs.Ahead.{first_place}
-use Rattle.npos_cli.specs.Status.{status_of}
-use Rattle.npos_cli.specs.Report.{ReplayOwes}
+use Rattle.run_edges.specs.Ahead.{first_place}
+use Rattle.run_edges.specs.Status.{status_of}
+use Rattle.run_edges.specs.Owed.{ReplayOwes}
 use Rattle.npos_cli.specs.Checkpoints.{state_line, resume_machine}
 use Rattle.npos_cli.specs.Going.{GoesOn}
-use Rattle.npos_cli.specs.Turning.{spot}
+use Rattle.run_edges.specs.Turning.{spot}
 use Rattle.npos_cli.proofs.ChainLaws.{turn_laws}
 use Rattle.npos_cli.proofs.GoingLaws.{refused_input, replayed_input}
 use Rattle.npos_cli.proofs.ResumeLaws.{faulty_state, state_starts}
@@ -27,7 +27,8 @@ pub returns-in-Err : goal.returns-in-Err
 returns-in-Err c =
     let is : IsRead state_form (first_place c.args.bytes.now) c.in-Ok.state c.read_state.new.cursor = search rules in
     let told : c.faulty-in-Err.result.text.items ≡ state_line c.in-Err.fault = search rules in
-    faulty_state c.args.bytes.now c.faulty-in-Err.result.text.items c.read_state.new.cursor c.in-Ok.state c.in-Err.fault _ is c.in-Err.ensures.refused c.in_ok-tell_state_fault-in-Err.ensures.memory told
+    faulty_state c.args.bytes.now c.faulty-in-Err.result.text.items c.read_state.new.cursor c.in-Ok.state
+    c.in-Err.fault _ is c.in-Err.ensures.refused c.in_ok-tell_state_fault-in-Err.ensures.memory told
     c.faulty-in-Err.ensures.status
 
 -- the blocks end with a fault line

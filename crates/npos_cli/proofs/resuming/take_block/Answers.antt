@@ -3,10 +3,10 @@ use Rattle.scale_wire.specs.Reading.{IsRead, IsFault}
 use Rattle.npos_runtime.specs.declared.runtime.BlockFault.TheVariants.{WrongNumber}
 use Rattle.npos_runtime.specs.Life.{HasFault}
 use Rattle.bundle_reports.specs.Texts.{fault_line}
-use Rattle.npos_cli.specs.Texts.{number_line}
-use Rattle.npos_cli.specs.Replay.{turn}
+use Rattle.run_edges.specs.Texts.{number_line}
+use Rattle.run_edges.specs.Replay.{turn}
 use Rattle.npos_cli.specs.Checkpoints.{resume_machine}
-use Rattle.npos_cli.specs.Turning.{spot}
+use Rattle.run_edges.specs.Turning.{spot}
 use Rattle.state_checkpoint.specs.LayoutLaws.{state_laws}
 use Rattle.npos_cli.proofs.ChainLaws.{turn_laws}
 use Rattle.npos_cli.proofs.GoingLaws.{stop_items, fault_item}

@@ -2,7 +2,7 @@ use Rattle.std.proofs.Common.{rules}
 use Rattle.npos_cli.specs.declared.going.Turn.TheVariants.{Taken, Last}
 use Rattle.npos_cli.specs.Checkpoints.{resume_machine}
 use Rattle.npos_cli.specs.Going.{TakesItem}
-use Rattle.npos_cli.specs.Turning.{spot}
+use Rattle.run_edges.specs.Turning.{spot}
 use Rattle.state_checkpoint.specs.LayoutLaws.{state_laws}
 use Rattle.npos_cli.proofs.ChainLaws.{turn_laws}
 use Rattle.npos_cli.proofs.GoingLaws.{item_longer, told_more, told_last}

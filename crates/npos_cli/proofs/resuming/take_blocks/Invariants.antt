@@ -1,7 +1,6 @@
 use Rattle.std.proofs.Common.{◌≡◌, false, length}
 use Rattle.npos_cli.specs.Checkpoints.{resume_machine}
-use Rattle.npos_cli.specs.Going.{HasTold}
-use Rattle.npos_cli.specs.Turning.{spot}
+use Rattle.run_edges.specs.Turning.{HasTold, spot}
 use Rattle.npos_cli.proofs.resuming.take_blocks.Given as goal
 
 -- the blocks so far lead from the start to here, and were told

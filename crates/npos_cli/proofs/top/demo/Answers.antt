@@ -1,8 +1,8 @@
 use Rattle.std.proofs.Common.{◌≡◌}
 use Rattle.std.proofs.lemmas.Result.{err_from_is_err_and}
 use Rattle.bundle_reports.specs.Demo.{demo_report}
-use Rattle.npos_cli.specs.declared.status.Status.TheVariants as statuses
-use Rattle.npos_cli.specs.Owed.{Ends}
+use Rattle.run_edges.specs.declared.status.Status.TheVariants as statuses
+use Rattle.run_edges.specs.Owed.{Ends}
 use Rattle.npos_cli.proofs.JobLaws.{demo_starved, demo_ends, ends_unwritten}
 use Rattle.npos_cli.proofs.top.demo.Goals as goal
 

@@ -1,9 +1,9 @@
 use Rattle.std.proofs.Common.{rules, ◌≡◌, Some, refl}
 use Rattle.npos_cli.specs.declared.job.Job.TheVariants as jobs
-use Rattle.npos_cli.specs.declared.status.Status.TheVariants as statuses
+use Rattle.run_edges.specs.declared.status.Status.TheVariants as statuses
 use Rattle.npos_cli.specs.declared.output.Output.TheVariants.{Receipts, Checkpoint}
 use Rattle.npos_cli.specs.Words.{usage_line}
-use Rattle.npos_cli.specs.Owed.{Ends}
+use Rattle.run_edges.specs.Owed.{Ends}
 use Rattle.npos_cli.specs.Ran.{traffic}
 use Rattle.npos_cli.proofs.JobLaws.{usage_ran, usage_never_starves, demo_ran, replay_ran}
 use Rattle.npos_cli.proofs.top.run_job.Goals as goal
@@ -28,7 +28,8 @@ returns-in-Some-Replay-clause-ran g c =
 pub returns-in-Some-Checkpoint-clause-ran : goal.returns-in-Some-Checkpoint-clause-ran
 returns-in-Some-Checkpoint-clause-ran g c =
     let job : c.args.job ≡ Some jobs.Checkpoint = search rules in
-    rw job (replay_ran Checkpoint (traffic g.S.Source.left g.K.Sink.told g.S.Source.faults g.K.Sink.faults c.args.source.now c.replay-in-Some-Checkpoint.new.source c.args.sink.now c.replay-in-Some-Checkpoint.new.sink)
+    rw job (replay_ran Checkpoint (traffic g.S.Source.left g.K.Sink.told g.S.Source.faults g.K.Sink.faults
+    c.args.source.now c.replay-in-Some-Checkpoint.new.source c.args.sink.now c.replay-in-Some-Checkpoint.new.sink)
     c.replay-in-Some-Checkpoint.result c.replay-in-Some-Checkpoint.ensures.ends c.replay-in-Some-Checkpoint.ensures.reads c.replay-in-Some-Checkpoint.ensures.writes)
 
 pub returns-in-Some-Checkpoint-clause-unwritten : goal.returns-in-Some-Checkpoint-clause-unwritten
@@ -37,5 +38,7 @@ returns-in-Some-Checkpoint-clause-unwritten g c = λ other. c.replay-in-Some-Che
 pub returns-in-Some-Demo-clause-ran : goal.returns-in-Some-Demo-clause-ran
 returns-in-Some-Demo-clause-ran g c =
     let job : c.args.job ≡ Some (jobs.Demo c.in-Some-Demo.seed c.in-Some-Demo.voters c.in-Some-Demo.seats) = search rules in
-    rw job (demo_ran c.in-Some-Demo.seed c.in-Some-Demo.voters c.in-Some-Demo.seats (traffic g.S.Source.left g.K.Sink.told g.S.Source.faults g.K.Sink.faults c.args.source.now c.args.source.now c.args.sink.now c.demo.new.sink)
+    rw job (demo_ran c.in-Some-Demo.seed c.in-Some-Demo.voters c.in-Some-Demo.seats
+    (traffic g.S.Source.left g.K.Sink.told g.S.Source.faults g.K.Sink.faults c.args.source.now c.args.source.now
+    c.args.sink.now c.demo.new.sink)
     c.demo.result c.demo.ensures.ends refl c.demo.ensures.faults)

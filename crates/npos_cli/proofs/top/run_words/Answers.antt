@@ -17,7 +17,8 @@ returns-in_err-command-clause-ran g c =
 pub returns-clause-ran : goal.returns-clause-ran
 returns-clause-ran g c =
     let job : c.map.result ≡ job_of (map string_bytes c.args.words.now) = search rules in
-    subst (λ (j : Option Job). Ran j (traffic g.S.Source.left g.K.Sink.told g.S.Source.faults g.K.Sink.faults c.args.source.now c.run_job.new.source c.args.sink.now c.run_job.new.sink) c.run_job.result)
+    subst (λ (j : Option Job). Ran j (traffic g.S.Source.left g.K.Sink.told g.S.Source.faults g.K.Sink.faults
+    c.args.source.now c.run_job.new.source c.args.sink.now c.run_job.new.sink) c.run_job.result)
     job c.run_job.ensures.ran
 
 -- nothing was read

@@ -1,0 +1,10 @@
+pub mod ReplayLaws
+pub mod EdgeLaws
+pub mod GrowLaws
+pub mod TurnLaws
+pub mod StartLaws
+pub mod WholeLaws
+pub mod FaultLaws
+pub mod FeedLaws
+pub mod AskLaws
+pub mod IntakeLaws

@@ -1,0 +1,10 @@
+pub mod Status
+pub mod Texts
+pub mod Replay
+pub mod Ahead
+pub mod Owed
+pub mod Turning
+pub mod Intake
+pub mod Streaming
+pub mod Laws
+pub mod Streams
