@@ -1,5 +1,6 @@
 -- Accounts are found after one more was noted.
-use Rattle.std.proofs.Common.{◌≡◌, ◌≢◌, ◌∙◌, inl, inr, ℕ, zero, suc, ◌+◌, ◌<◌, ◌≤◌, List, [], ◌∷◌, ◌++◌, length, slice_get, slice_set, Some, ap, refl, sym, subst, arith, get_or-set_same, get_or-set_other}
+use Rattle.std.proofs.Common.{◌≡◌, ◌≢◌, ◌∙◌, inl, inr, ℕ, zero, suc, ◌+◌, ◌<◌, ◌≤◌, List, [], ◌∷◌, ◌++◌, length}
+use Rattle.std.proofs.Common.{slice_get, slice_set, Some, ap, refl, sym, subst, arith, get_or-set_same, get_or-set_other}
 use Rattle.std.proofs.lemmas.Bool.{cases_eq, cases_lt}
 use Rattle.std.proofs.lemmas.Option.{same_Some, slice_get_within}
 use Rattle.std.specs.BTreeMap.{insert_entry}
@@ -21,7 +22,8 @@ marked [] slot e = omega (arith, e)
 marked (mark ∷ slots) zero e = omega arith
 marked (mark ∷ slots) (suc slot) e = omega (arith, marked slots slot e)
 
-module _ (slots : List ℕ) (count : ℕ) (crowd : List (AccountId × ℕ)) (accounts : List AccountId) (who : AccountId) (place : ℕ) (here : slice_get accounts place ≡ Some who) (finds : Finds slots count crowd accounts place) where
+module _ (slots : List ℕ) (count : ℕ) (crowd : List (AccountId × ℕ)) (accounts : List AccountId) (who : AccountId)
+    (place : ℕ) (here : slice_get accounts place ≡ Some who) (finds : Finds slots count crowd accounts place) where
   -- the account marks a free slot
   module _ (slot mark : ℕ) (free : IsFree slots (slot_in count who) slot) (is : IsMark (tag_in count who) place mark) where
     apart : (other : ℕ) → mark_at slots other ≢ 0 → mark_at (slice_set slots slot mark) other ≡ mark_at slots other
@@ -89,7 +91,12 @@ module _ (slots : List ℕ) (count : ℕ) (crowd : List (AccountId × ℕ)) (acc
       found = λ q p lt at. elim (cases_eq p place) [
         | inl same ↦
             let one : q ≡ who = same_Some q who (sym at ∙ ap (slice_get accounts) same ∙ here) in
-            subst (λ a. IsFound filled count (insert_entry account_cmp crowd who place) a p) (sym one) (inr (record { taken = fills.taken; told = lookup_put account_total who place crowd ∙ ap (λ n. Some n) (sym same) }))
+            subst (λ a. IsFound filled count (insert_entry account_cmp crowd who place) a p) (sym one)
+            (inr (record {
+              taken = fills.taken;
+              told = lookup_put account_total who place crowd
+                  ∙ ap (λ n. Some n) (sym same);
+            }))
         | inr differs ↦ before_crowd q p (λ e. differs (alone q p place at (here ∙ ap (λ a. Some a) (sym e)))) (finds.found q p (omega (arith, lt, differs)) at)
       ];
       standing = λ q p there. put_cases crowd who q place p there (slice_get accounts p ≡ Some q)
@@ -132,7 +139,9 @@ filled_free old new first end filled free = record {
   kept = λ slot taken. get_or-set_other new end slot 1 1 (λ e. taken (sym (filled.kept slot taken) ∙ ap (mark_at new) e ∙ free)) ∙ filled.kept slot taken;
 }
 
-module _ (slots : List ℕ) (count : ℕ) (crowd : List (AccountId × ℕ)) (accounts : List AccountId) (who : AccountId) (place : ℕ) (finds : Finds slots count crowd accounts (length accounts)) (at : slice_get accounts place ≡ Some who) where
+module _ (slots : List ℕ) (count : ℕ) (crowd : List (AccountId × ℕ)) (accounts : List AccountId) (who : AccountId)
+    (place : ℕ) (finds : Finds slots count crowd accounts (length accounts)) (at : slice_get accounts place
+    ≡ Some who) where
   -- who has a free slot behind those that were looked at stands nowhere
   pub free_absent : (slot : ℕ) → IsPassed slots accounts who (tag_in count who) (slot_in count who) slot → slot_in count who ≤ slot → slot < slot_in count who + 4 → mark_at slots slot ≡ 0 → ⊥
   free_absent slot passed after before free = elim (finds.found who place (slice_get_within accounts place who at) at) [

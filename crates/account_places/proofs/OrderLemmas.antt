@@ -1,5 +1,6 @@
 -- The place of an account among all by rising account is how many of them are below it.
-use Rattle.std.proofs.Common.{◌≡◌, ◌≢◌, ◌∙◌, ℕ, zero, suc, ◌+◌, ◌<◌, Bool, true, false, cond, List, [], ◌∷◌, length, take, get_or, slice_get, Some, None, refl, ap, sym, subst, arith, count_by, option_map, nat_lt}
+use Rattle.std.proofs.Common.{◌≡◌, ◌≢◌, ◌∙◌, ℕ, zero, suc, ◌+◌, ◌<◌, Bool, true, false, cond, List, [], ◌∷◌, length, take}
+use Rattle.std.proofs.Common.{get_or, slice_get, Some, None, refl, ap, sym, subst, arith, count_by, option_map, nat_lt}
 use Rattle.std.proofs.lemmas.Grind.{common_steps}
 use Rattle.std.specs.BTreeMap.{insert_entry}
 use Rattle.std.specs.List.{AllByRecursion}

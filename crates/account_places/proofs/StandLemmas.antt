@@ -35,7 +35,9 @@ not_again {X} first later ordered = lookup-none (is_at (account_cmp first.0)) la
   none_past who (e ∷ es) all = (ap is_eq all.0, none_past who es all.1)
 
 -- accounts by rising account are in order
-joined_ordered : (places : List (AccountId × ℕ)) (next : ℕ) (accounts : List AccountId) → IsStrictlySortedBy account_cmp (keys_of places) → IsStrictlySortedBy account_cmp (keys_of (join_from places next accounts))
+joined_ordered : (places : List (AccountId × ℕ)) (next : ℕ) (accounts : List AccountId)
+    → IsStrictlySortedBy account_cmp (keys_of places) → IsStrictlySortedBy account_cmp
+    (keys_of (join_from places next accounts))
 joined_ordered places next [] ordered = ordered
 joined_ordered places next (account ∷ accounts) ordered = joined_ordered (insert_entry account_cmp places account next) (next + 1) accounts (sorted_put account_total account next places ordered)
 

@@ -1,5 +1,6 @@
 -- What the parts of a block that was begun add up to, and what a refusal of one of them is a refusal of.
-use Rattle.std.proofs.Common.{◌≡◌, ◌≢◌, ℕ, ◌+◌, ◌-◌, ◌<◌, ◌≤◌, List, [], ◌∷◌, ◌++◌, length, drop, Option, Some, None, IfSome, Result, Ok, Err, MatchResult, refl, sym, ◌∙◌, ap, subst, inl, arith, append_assoc, length-append}
+use Rattle.std.proofs.Common.{◌≡◌, ◌≢◌, ℕ, ◌+◌, ◌-◌, ◌<◌, ◌≤◌, List, [], ◌∷◌, ◌++◌, length, drop, Option, Some, None, IfSome}
+use Rattle.std.proofs.Common.{Result, Ok, Err, MatchResult, refl, sym, ◌∙◌, ap, subst, inl, arith, append_assoc, length-append}
 use Rattle.std.specs.List.{AllByRecursion, flat_map}
 use Rattle.std.proofs.lemmas.List.{append-nil, drop_at, length-drop}
 use Rattle.std.proofs.Math.Seq.{drop-append-add}
@@ -258,7 +259,9 @@ pub record IsFurther (begun : Option Begun) (more : Begun) (bytes : List ℕ) : 
   pub rest_is : drop more.size (front_bytes begun ++ bytes) ≡ drop (more.size - begun_size begun) bytes
   pub within : more.size - begun_size begun ≤ length bytes
 
-pub front_size : (begun : Option Begun) (at : ℕ) (bytes : List ℕ) → IfSome begun (λ some. IsBegun some (record { at = at; rest = begun_bytes some ++ bytes })) → length (front_bytes begun) ≡ begun_size begun
+pub front_size : (begun : Option Begun) (at : ℕ) (bytes : List ℕ)
+    → IfSome begun (λ some. IsBegun some (record { at = at; rest = begun_bytes some ++ bytes }))
+    → length (front_bytes begun) ≡ begun_size begun
 front_size None at bytes is = refl
 front_size (Some begun) at bytes is = (is_front begun (record { at = at; rest = begun_bytes begun ++ bytes }) is).size_is
 
@@ -282,7 +285,9 @@ pub whole_taken : (begun : Option Begun) (more : Begun) (at : ℕ) (bytes : List
     → Steps begun at bytes (Whole more (more.size - begun_size begun))
 whole_taken begun more at bytes further whole =
     let taken = more.size - begun_size begun in (
-      subst (λ (rest : List ℕ). IsRead next_form (record { at = at; rest = front_bytes begun ++ bytes }) (Some record { number = more.number; calls = more.calls.items }) (record { at = at + more.size; rest = rest }))
+      subst (λ (rest : List ℕ). IsRead next_form (record { at = at; rest = front_bytes begun ++ bytes })
+          (Some record { number = more.number; calls = more.calls.items })
+          (record { at = at + more.size; rest = rest }))
           further.rest_is whole.0,
       further.within,
       omega (arith, ap length further.rest_is, length-drop more.size (front_bytes begun ++ bytes), whole.1),
@@ -297,3 +302,6 @@ kept begun more at bytes further is front rest = record {
   are_bytes = IsBytes-front (begun_bytes more) (drop (more.size - begun_size begun) bytes) (subst (λ (s : List ℕ). IsBytes s) further.whole (IsBytes-append (front_bytes begun) bytes front rest));
   is = subst (λ (s : List ℕ). IsBegun more (record { at = at; rest = s })) further.whole is;
 }
+
+-- by these `begun` goes on
+pub ruleset heads = (none_head, tag_fault, number_fault, count_fault)

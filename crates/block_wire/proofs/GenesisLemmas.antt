@@ -91,8 +91,10 @@ endowments_read : (begun : BegunGenesis) (old : Place) (is : IsBegunGenesis begu
 endowments_read begun old is all =
     let head = is.head in
     let there = behind begun.size old in
-    let counted : IsRead (length_form MOST_ENDOWMENTS) head.0 (length begun.endowments.items) is.counted = subst (λ (n : ℕ). IsRead (length_form MOST_ENDOWMENTS) head.0 n is.counted) (sym all) head.2 in
-    let read = behind_read (length_form MOST_ENDOWMENTS) (items endowment_form (length begun.endowments.items)) head.0 is.counted there (length begun.endowments.items) begun.endowments.items counted is.whole in
+    let counted : IsRead (length_form MOST_ENDOWMENTS) head.0 (length begun.endowments.items) is.counted =
+    subst (λ (n : ℕ). IsRead (length_form MOST_ENDOWMENTS) head.0 n is.counted) (sym all) head.2 in
+    let read = behind_read (length_form MOST_ENDOWMENTS) (items endowment_form (length begun.endowments.items)) head.0
+    is.counted there (length begun.endowments.items) begun.endowments.items counted is.whole in
     record { in_range = (counted.in_range, is.whole.in_range.0); whole = read.whole; at_is = read.at_is }
 
 -- a plain genesis is whole then
@@ -184,3 +186,6 @@ tail_cut begun old there fault is all some waits place refused =
     as_tagged : (mid : Place) (fault : ReadFault) → Reads deferred_form mid (Err fault) mid → Reads (behind_tag geneses genesis_choice 2) mid (Err fault) mid
     as_tagged mid (Wire fault) refused = refused
     as_tagged mid NoMemory refused = refl
+
+-- by these `begun_genesis` goes on
+pub ruleset genesis_ends = (plain_whole, full_whole, params_cut, deferred_whole, tail_cut)

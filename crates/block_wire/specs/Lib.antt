@@ -7,3 +7,4 @@ pub mod BundleLaws
 pub mod Begun
 pub mod BegunGenesis
 pub mod Stream
+pub mod Limits

@@ -36,7 +36,7 @@ pub enum Step {
 }
 
 /// The number of the block that stands here and the count of its calls, if it is not the None.
-#[tactic(auto, using(crate::proofs::BegunLemmas::none_head, crate::proofs::BegunLemmas::tag_fault, crate::proofs::BegunLemmas::number_fault, crate::proofs::BegunLemmas::count_fault))]
+#[tactic(auto, using(crate::proofs::BegunLemmas::heads))]
 fn read_head(cursor: &mut Cursor<'_>) -> Result<Option<(u32, u32)>, WireFault>
     ensures { ReadsHead cursor.old result cursor.new }
 {

@@ -13,7 +13,7 @@ use crate::limits::{GENESES, MOST_ENDOWMENTS};
 use crate::{Endowment, Genesis, Params};
 use npos_base::List;
 use scale_wire::fault::{ReadFault, WireFault};
-use scale_wire::{Cursor, Wire};
+use scale_wire::{Cursor, Layout, Own, Wire};
 use std::alloc::Global;
 
 /// A genesis that was not whole yet: its tag, the count of its endowments, those that were whole,
@@ -86,12 +86,17 @@ fn fill(alloc: Global, begun: &mut BegunGenesis, bytes: &[u8], at: u64) -> Resul
 }
 
 /// Reads a value at this place, and answers how many bytes it has.
-fn read_at<T: Wire>(alloc: Global, bytes: &[u8], at: u64) -> Result<(T, usize), ReadFault>
+pub fn read_at<V: Drop, L: Layout<V>>(
+    alloc: Global,
+    bytes: &[u8],
+    at: u64,
+) -> Result<(V, usize), ReadFault>
     requires fits { at + length bytes.now < 2 ^ 64 }
-    ensures { ReadsAt T.form (record { at = at; rest = bytes.now }) result }
+    ensures reads { ReadsAt L.form (record { at = at; rest = bytes.now }) result }
+    ensures bytes { IsBytes bytes.now }
 {
     let mut here = Cursor::new(bytes, at);
-    let value = T::read(alloc, &mut here)?;
+    let value = L::read(alloc, &mut here)?;
     let size = (here.at() - at) as usize;
     Ok((value, size))
 }
@@ -147,7 +152,7 @@ fn whole_deferred(begun: BegunGenesis, tail: (Params, u32), more: usize) -> Gene
 
 /// The genesis whose endowments were all read: a plain one is whole. What another has behind them is
 /// few bytes, and is read anew where it is cut.
-#[tactic(auto, using(crate::proofs::GenesisLemmas::plain_whole, crate::proofs::GenesisLemmas::full_whole, crate::proofs::GenesisLemmas::params_cut, crate::proofs::GenesisLemmas::deferred_whole, crate::proofs::GenesisLemmas::tail_cut))]
+#[tactic(auto, using(crate::proofs::GenesisLemmas::genesis_ends))]
 fn finish(alloc: Global, begun: BegunGenesis, bytes: &[u8], at: u64) -> GenesisStep
     requires fits { at + length bytes.now < 2 ^ 64 }
     requires begun { IsBegunGenesis begun (record { at = at; rest = bytes.now }) }
@@ -158,11 +163,11 @@ fn finish(alloc: Global, begun: BegunGenesis, bytes: &[u8], at: u64) -> GenesisS
     let at = at + begun.size as u64;
     match begun.tag {
         0 => whole_plain(begun),
-        1 => match read_at::<Params>(alloc, rest, at) {
+        1 => match read_at::<Params, Own>(alloc, rest, at) {
             Ok((params, more)) => whole_full(begun, params, more),
             Err(fault) => GenesisStep::Stopped(Some(begun), fault),
         },
-        _ => match read_at::<(Params, u32)>(alloc, rest, at) {
+        _ => match read_at::<(Params, u32), Own>(alloc, rest, at) {
             Ok((tail, more)) => whole_deferred(begun, tail, more),
             Err(fault) => GenesisStep::Stopped(Some(begun), fault),
         },

@@ -9,11 +9,11 @@ ghost use Rattle.block_wire.specs.Begun.{next_form, begun_bytes, front_bytes};
 ghost use Rattle.block_wire.specs.Stream.{TakesMore, TakesNext};
 
 use crate::begun::{Begun, Step, go_on, size_of, write_begun};
-use crate::begun_genesis::{BegunGenesis, GenesisStep, resume_genesis};
+use crate::begun_genesis::{BegunGenesis, GenesisStep, read_at, resume_genesis};
 use crate::{Block, Genesis};
-use npos_base::{List, NoMemory};
-use scale_wire::Pen;
+use npos_base::{List, NoMemory, remove_front};
 use scale_wire::fault::{ReadFault, Why, WireFault};
+use scale_wire::{Layout, Pen};
 use std::alloc::Global;
 use std::marker::Model;
 
@@ -67,20 +67,6 @@ impl Model for StreamReader {
         (record { at = r.at; rest = front_bytes r.begun ++ drop r.from r.bytes.items })) };
 }
 
-/// Lets go of the first bytes. Where none go, none are moved, so that the cost of a long value does
-/// not depend on how it is cut.
-fn remove_front(bytes: &mut Vec<u8>, count: usize)
-    requires { count ≤ vec_len bytes.old }
-    ensures { bytes.new.items ≡ drop count bytes.old.items }
-{
-    if count == 0 {
-        return;
-    }
-    let left = bytes.len() - count;
-    bytes.copy_within(count.., 0);
-    bytes.truncate(left);
-}
-
 /// Lets go of the memory of the bytes before this place: those behind it move into a list of their
 /// own. Where there is no memory for that, all stay as they are.
 fn leave_behind(alloc: Global, bytes: &mut Vec<u8>, from: &mut usize)
@@ -122,6 +108,15 @@ fn put_back(
     *bytes = pen.finish().into_vec();
     *from = 0;
     *begun = None;
+    Ok(())
+}
+
+/// Makes room for so many bytes in all.
+fn reserve_all(bytes: &mut Vec<u8>, all: u64) -> Result<(), NoMemory>
+    ensures fits { OnOk result (all < 2 ^ 63) }
+    ensures same { bytes.new.items ≡ bytes.old.items }
+{
+    bytes.reserve((all as usize).saturating_sub(bytes.len()))?;
     Ok(())
 }
 
@@ -229,6 +224,69 @@ impl StreamReader {
                 Err(fault)
             }
         }
+    }
+
+    /// The value of this layout that the bytes begin with, or None where they end before it does and
+    /// more may come. It is read anew each time. After None, a refusal or want of memory the reader
+    /// is as it was.
+    pub fn take_value<V: Drop, L: Layout<V>>(&mut self, ended: bool) -> Result<Option<V>, ReadFault>
+        ensures takes { TakesMore L.form ended self.old result self.new }
+        ensures bytes { IsBytes self.old.rest }
+    {
+        match self.read_value::<V, L>() {
+            Ok(value) => Ok(Some(value)),
+            Err(
+                ReadFault::Wire(
+                    WireFault {
+                        why: Why::Short,
+                        ..
+                    },
+                ),
+            ) if !ended => Ok(None),
+            Err(fault) => Err(fault),
+        }
+    }
+
+    /// The value of this layout that the bytes begin with.
+    fn read_value<V: Drop, L: Layout<V>>(&mut self) -> Result<V, ReadFault>
+        ensures reads { Reads L.form self.old result self.new }
+        ensures bytes { IsBytes self.old.rest }
+    {
+        put_back(self.alloc, &mut self.begun, &mut self.bytes, &mut self.from)?;
+        self.begun_genesis = None;
+        let bytes = &self.bytes.as_slice()[self.from..];
+        let (value, size) = read_at::<V, L>(self.alloc, bytes, self.at)?;
+        self.from += size;
+        self.at += size as u64;
+        Ok(value)
+    }
+
+    /// Lets go of the memory of the bytes that were taken.
+    pub fn let_go(&mut self)
+        ensures { self.new ≡ self.old }
+    {
+        leave_behind(self.alloc, &mut self.bytes, &mut self.from);
+    }
+
+    /// Takes all bytes that are held, whatever they are.
+    pub fn pass_over(&mut self)
+        ensures { self.new ≡ record { at = self.old.at + length self.old.rest; rest = [] } }
+    {
+        self.at += self.len() as u64;
+        self.begun = None;
+        self.begun_genesis = None;
+        self.bytes.clear();
+        self.from = 0;
+    }
+
+    /// Asks for memory as if all bytes that were ever fed were still held. What is not used of it is
+    /// not touched: so memory ends before a place passes 63 bits.
+    pub fn make_room(&mut self) -> Result<(), NoMemory>
+        ensures fits { OnOk result (self.new.at + length self.new.rest < 2 ^ 63) }
+        ensures same { self.new ≡ self.old }
+    {
+        let end = self.at + self.len() as u64;
+        reserve_all(&mut self.bytes, end)
     }
 
     /// What stands next: a block, the None that ends the stream, or More where the bytes end before

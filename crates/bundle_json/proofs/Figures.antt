@@ -1,5 +1,6 @@
 -- A number of 128 bits and its text.
-use Rattle.std.proofs.Common.{◌≡◌, ℕ, ◌^◌, ◌<◌, ◌≤◌, ◌&&◌, Bool, true, false, cond, List, Option, Some, None, Result, Ok, Err, decimal, refl, sym, ap, ◌∙◌, subst, arith, lit≤, lt-ltb, ltb-true, true≢false}
+use Rattle.std.proofs.Common.{◌≡◌, ℕ, ◌^◌, ◌<◌, ◌≤◌, ◌&&◌, Bool, true, false, cond, List, Option, Some, None, Result}
+use Rattle.std.proofs.Common.{Ok, Err, decimal, refl, sym, ap, ◌∙◌, subst, arith, lit≤, lt-ltb, ltb-true, true≢false}
 use Rattle.std.specs.Prelude.{nat_lt}
 use Rattle.std.specs.Str.{bytes_eq}
 use Rattle.std.specs.Str.Parse.{digits_value, ParsesUnsigned}

@@ -39,7 +39,8 @@ digits_read s p n parts signless h worth =
     rw (ne_eqb (slice_index s 0) minus signless, ← parts) (rw (lt-ltb 0 _ h.0.0, h.0.1, h.0.2, lt-ltb _ _ h.1) (ap (λ k. Some (unsigned k)) worth))
 
 -- digits alone are a whole number
-pub digits_front : (old new : List Token) (s : List ℕ) (p : Parts) (n : ℕ) → old ≡ Token.number s ∷ new → p ≡ scan s → (slice_index s 0 ≡ minus → ⊥) → IsInteger p × (digits_of p < 2 ^ 64) → digits_of p ≡ n
+pub digits_front : (old new : List Token) (s : List ℕ) (p : Parts) (n : ℕ) → old ≡ Token.number s ∷ new → p ≡ scan s
+    → (slice_index s 0 ≡ minus → ⊥) → IsInteger p × (digits_of p < 2 ^ 64) → digits_of p ≡ n
     → Front (whole_in 64) 0 old n new
 digits_front old new s p n is parts signless h worth =
     let fits : n < 2 ^ 64 = omega (arith, h.1, worth) in
@@ -79,7 +80,8 @@ list_front stands nests most old first new xs is short h (suc depth) enough =
     ∙ ap (converted (list_in stands most)) (of_array (items (value depth) (length first) first) ∙ ap (parse_map array) ds.1)
     ∙ rw (le-leb _ _ fits, ds.2)
 
-pub edge_front : (old a b c d new : List Token) (voter target amount : ℕ) → old ≡ Token.begin_array ∷ a → Front (whole_in 32) 0 a voter b → Front (whole_in 16) 0 b target c → Front (whole_in 64) 0 c amount d
+pub edge_front : (old a b c d new : List Token) (voter target amount : ℕ) → old ≡ Token.begin_array ∷ a
+    → Front (whole_in 32) 0 a voter b → Front (whole_in 16) 0 b target c → Front (whole_in 64) 0 c amount d
     → after_end_array d ≡ Some new → Front edge_in 1 old (record { voter = voter; target = target; amount = amount }) new
 edge_front old a b c d new voter target amount is v t m end zero enough = absurd (omega (arith, enough))
 edge_front old a b c d new voter target amount is v t m end (suc depth) enough =

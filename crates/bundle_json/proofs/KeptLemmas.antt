@@ -1,5 +1,6 @@
 -- What a bundle in range is written as is a text that reads as it, also with a line feed behind it.
-use Rattle.std.proofs.Common.{◌≡◌, ℕ, suc, ◌^◌, ◌<◌, ◌≤◌, List, [], ◌∷◌, ◌++◌, map, Some, option_and_then, IsUtf8, IsAscii, Bool, true, decimal, refl, sym, ap, ◌∙◌, subst, arith, lit≤, ltb-true, append-nil}
+use Rattle.std.proofs.Common.{◌≡◌, ℕ, suc, ◌^◌, ◌<◌, ◌≤◌, List, [], ◌∷◌, ◌++◌, map, Some, option_and_then, IsUtf8}
+use Rattle.std.proofs.Common.{IsAscii, Bool, true, decimal, refl, sym, ap, ◌∙◌, subst, arith, lit≤, ltb-true, append-nil}
 use Rattle.std.specs.List.{AllByRecursion}
 use Rattle.std.proofs.lemmas.Fmt.{IsAscii-decimal, IsAscii-decimal_wide}
 use Rattle.std.proofs.lemmas.Str.{IsUtf8-append, IsUtf8-nil, IsUtf8-from_ascii}

@@ -3,6 +3,7 @@
 ghost use Rattle.std.specs.Prelude.{◌≡◌, IfOk, IfErr};
 ghost use Rattle.block_wire.specs.Bundles.{bundle_form};
 ghost use Rattle.bundle_json.specs.Laws.{StandsForItself, ReadsAsWritten, LineStands, IsInRange};
+ghost use Rattle.bundle_json.specs.Limits.{AreTheLimits};
 
 use crate::{JsonFault, bundle_from_json, bundle_to_json};
 use block_wire::Bundle;
@@ -30,3 +31,8 @@ pub fn reread(alloc: Global, bundle: &Bundle) -> Result<Bundle, JsonFault>
     let text = bundle_to_json(alloc, bundle)?;
     bundle_from_json(alloc, text.as_slice())
 }
+
+/// The limits that the code names are these numbers.
+pub fn the_limits_are_these()
+    ensures { AreTheLimits }
+{}

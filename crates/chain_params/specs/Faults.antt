@@ -5,7 +5,8 @@ use Rattle.npos_base.specs.declared.limits.TheConstants.{MOST_PAST_ERAS, MOST_QU
 pub use Rattle.npos_base.specs.Limits.{is_within}
 use Rattle.block_wire.specs.declared.genesis.Params.{Params}
 use Rattle.chain_params.specs.declared.fault.GenesisFault.{GenesisFault}
-use Rattle.chain_params.specs.declared.fault.GenesisFault.TheVariants.{RepeatedAccount, TooMuch, BadSeats, BadPhases, BadBonding, BadMinimum, BadThreshold, BadQueue, BadSolutionMax, BadDefer, NoMemory}
+use Rattle.chain_params.specs.declared.fault.GenesisFault.TheVariants.{RepeatedAccount, TooMuch, BadSeats, BadPhases, BadBonding, BadMinimum}
+use Rattle.chain_params.specs.declared.fault.GenesisFault.TheVariants.{BadThreshold, BadQueue, BadSolutionMax, BadDefer, NoMemory}
 
 -- the first threshold, from this place on, that is not above the one before it; the first is above 0
 abbrev pub threshold_fault : ℕ → ℕ → List ℕ → Option GenesisFault

@@ -1,5 +1,7 @@
 -- What the edges that are kept inherit from those that are given, and that a packed solution can be spelled.
-use Rattle.std.proofs.Common.{◌≡◌, inl, inr, ℕ, zero, suc, ◌+◌, ◌-◌, ◌<◌, ◌≤◌, ◌||◌, Bool, true, false, cond, nat_eq, nat_lt, if◌then◌else◌, All, true≢false, List, [], ◌∷◌, length, map, filter, take, fold, get_or, sum_by, Option, Some, None, IfSome, refl, sym, ◌∙◌, ap, subst, arith, IsTrue}
+use Rattle.std.proofs.Common.{◌≡◌, inl, inr, ℕ, zero, suc, ◌+◌, ◌-◌, ◌<◌, ◌≤◌, ◌||◌, Bool, true, false, cond, nat_eq}
+use Rattle.std.proofs.Common.{nat_lt, if◌then◌else◌, All, true≢false, List, [], ◌∷◌, length, map, filter, take, fold}
+use Rattle.std.proofs.Common.{get_or, sum_by, Option, Some, None, IfSome, refl, sym, ◌∙◌, ap, subst, arith, IsTrue}
 use Rattle.std.specs.List.{AllByRecursion, list_any, range_with_len}
 use Rattle.scale_wire.specs.Form.{Form}
 use Rattle.scale_wire.specs.Composite.{IsRow}
@@ -12,13 +14,14 @@ use Rattle.std.proofs.lemmas.List.Sums.{sum_by-cons}
 use Rattle.std.proofs.lemmas.Bool.{cases_lt}
 use Rattle.std.proofs.lemmas.Bool.Decides.{nat_tests, eqb_tells}
 use Rattle.npos_base.specs.declared.figures.Edge.{Edge}
-use Rattle.npos_base.specs.declared.limits.TheConstants.{MOST_NOMINATIONS}
+use Rattle.compact_solution.specs.declared.entry.TheConstants.{WIDE_GROUPS}
 use Rattle.npos_base.specs.Edge.{edges_from}
 use Rattle.compact_solution.specs.Solution.{Entry, share_form, entry_form, group_form, groups_form}
-use Rattle.compact_solution.specs.Packing.{choice_of, chosen_from, choices_of, chosen, kept_of, kept_at, stake_at, parts_in, has_part, by_target, placed, greater, greatest, share_of, entry_of, entries_with, grouped, IsPackable}
+use Rattle.compact_solution.specs.Packing.{choice_of, chosen_from, choices_of, chosen, kept_of, kept_at, stake_at, parts_in, has_part}
+use Rattle.compact_solution.specs.Packing.{by_target, placed, greater, greatest, share_of, entry_of, entries_with, grouped, IsPackable}
 use Rattle.compact_solution.specs.Choosing.{Fits, AllFit, AllKeptFit, no_choice}
 use Rattle.compact_solution.proofs.PackLemmas.{choices_many}
-use Rattle.compact_solution.proofs.GroupLemmas.{many_groups}
+use Rattle.compact_solution.proofs.GroupLemmas.{many_groups, all_nominations}
 
 -- ## Rows and parts
 
@@ -164,10 +167,10 @@ module _ (stakes committee : List ℕ) (edges : List Edge) (fit : IsPackable sta
       ∙ (get_or-map chosen (choices_of stakes edges) voter no_choice
       ∙ ap chosen (get_or-map-range_with_len (λ (v : ℕ). choice_of (stake_at stakes v) (edges_from edges v)) 0 (length stakes) voter voter no_choice h (zero-add voter)))
 
-  pub few_kept : All (λ (own : List Edge). length own ≤ MOST_NOMINATIONS) (kept_of stakes edges)
+  pub few_kept : All (λ (own : List Edge). length own ≤ WIDE_GROUPS) (kept_of stakes edges)
   few_kept voter d h =
       let short : voter < length stakes = omega (arith, h, many_kept) in
-      omega (arith, ap length (kept_is voter d short), few_chosen (stake_at stakes voter) (edges_from edges voter), fit.few_edges voter)
+      omega (arith, ap length (kept_is voter d short), few_chosen (stake_at stakes voter) (edges_from edges voter), fit.few_edges voter, all_nominations)
 
   pub kept_fit : AllKeptFit stakes (kept_of stakes edges)
   kept_fit voter h =
@@ -181,7 +184,9 @@ module _ (stakes committee : List ℕ) (edges : List Edge) (fit : IsPackable sta
     named target [] small is = absurd (true≢false (sym is))
     named target (member ∷ some) small is = elim (eqb_tells member target) [
       | inl same ↦ omega (arith, same.1, small 0)
-      | inr other ↦ named target some (λ i. small (suc i)) (let test : nat_eq member target ≡ false = grind (arith, nat_tests, other.1) in sym (ap (λ (b : Bool). b || list_any (λ m. nat_eq m target) some) test) ∙ is)
+      | inr other ↦ named target some (λ i. small (suc i)) (let test : nat_eq member target
+          ≡ false = grind (arith, nat_tests, other.1) in
+          sym (ap (λ (b : Bool). b || list_any (λ m. nat_eq m target) some) test) ∙ is)
     ]
 
     small_targets : All (λ (edge : Edge). edge.target < 65536) edges
@@ -191,7 +196,8 @@ module _ (stakes committee : List ℕ) (edges : List Edge) (fit : IsPackable sta
     small_kept : (voter : ℕ) → voter < length stakes → All (λ (edge : Edge). edge.target < 65536) (kept_at (kept_of stakes edges) voter)
     small_kept voter h =
         subst (λ (own : List Edge). All (λ (edge : Edge). edge.target < 65536) own) (sym (kept_is voter [] h))
-        (all_chosen (λ (edge : Edge). edge.target < 65536) (stake_at stakes voter) (edges_from edges voter) (All-filter (λ (edge : Edge). nat_eq edge.voter voter) (λ edge. edge.target < 65536) edges small_targets))
+        (all_chosen (λ (edge : Edge). edge.target < 65536) (stake_at stakes voter) (edges_from edges voter)
+        (All-filter (λ (edge : Edge). nat_eq edge.voter voter) (λ edge. edge.target < 65536) edges small_targets))
 
     shares_fit : (stake : ℕ) (own : List Edge) → All (Fits stake) own → All (λ (edge : Edge). edge.target < 65536) own → AllByRecursion share_form.in_range (map (share_of stake) own)
     shares_fit stake [] fits small = tt
@@ -213,7 +219,9 @@ module _ (stakes committee : List ℕ) (edges : List Edge) (fit : IsPackable sta
     )
 
     entries_fit : (shares : ℕ) (voters : List ℕ) → All (λ (voter : ℕ). voter < length stakes) voters
-        → AllByRecursion (entry_form shares).in_range (map (λ voter. entry_of voter (stake_at stakes voter) (kept_at (kept_of stakes edges) voter)) (filter (λ voter. nat_eq (length (kept_at (kept_of stakes edges) voter)) (shares + 1)) voters))
+        → AllByRecursion (entry_form shares).in_range (map (λ voter. entry_of voter (stake_at stakes voter)
+        (kept_at (kept_of stakes edges) voter)) (filter
+        (λ voter. nat_eq (length (kept_at (kept_of stakes edges) voter)) (shares + 1)) voters))
     entries_fit shares [] low = tt
     entries_fit shares (voter ∷ voters) low = elim (eqb_tells (length (kept_at (kept_of stakes edges) voter)) (shares + 1)) [
       | inl count ↦
@@ -231,7 +239,12 @@ module _ (stakes committee : List ℕ) (edges : List Edge) (fit : IsPackable sta
     group_fits : (shares : ℕ) → (group_form shares).in_range (entries_with stakes (kept_of stakes edges) (length stakes) (shares + 1))
     group_fits shares = (
       omega (arith, fit.few_voters, length-map (filter keeps voters) entry, short_filter keeps voters, length-range_with_len 0 (length stakes)),
-      entries_fit shares voters (λ i d h. omega (arith, h, length-range_with_len 0 (length stakes), get_or-range_with_len 0 (length stakes) i d (omega (arith, h, length-range_with_len 0 (length stakes))))),
+      entries_fit shares voters (λ i d h. omega (
+        arith,
+        h,
+        length-range_with_len 0 (length stakes),
+        get_or-range_with_len 0 (length stakes) i d (omega (arith, h, length-range_with_len 0 (length stakes))),
+      )),
     ) where
       voters : List ℕ
       voters = range_with_len 0 (length stakes)

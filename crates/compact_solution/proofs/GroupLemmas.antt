@@ -1,5 +1,6 @@
 -- One voter more: how the groups grow.
-use Rattle.std.proofs.Common.{◌≡◌, ◌≢◌, inl, inr, ℕ, ◌+◌, ◌-◌, ◌<◌, ◌≤◌, Bool, true, false, not, cond, nat_eq, nat_le, All, List, [], ◌∷◌, ◌++◌, length, map, filter, get_or, refl, sym, ◌∙◌, ap, ap₂, take, ◌&&◌, arith}
+use Rattle.std.proofs.Common.{◌≡◌, ◌≢◌, inl, inr, ℕ, ◌+◌, ◌-◌, ◌<◌, ◌≤◌, Bool, true, false, not, cond, nat_eq, nat_le, All}
+use Rattle.std.proofs.Common.{List, [], ◌∷◌, ◌++◌, length, map, filter, get_or, refl, sym, ◌∙◌, ap, ap₂, take, ◌&&◌, arith}
 use Rattle.std.specs.List.{range_with_len, slice_set, list_all}
 use Rattle.std.proofs.lemmas.List.Folds.{list_all_at, list_all_more}
 use Rattle.std.proofs.Math.Nat.{zero-add}
@@ -11,6 +12,7 @@ use Rattle.std.proofs.lemmas.Bool.{cases_lt, leb-true}
 use Rattle.std.proofs.lemmas.Bool.Decides.{nat_tests, eqb_tells}
 use Rattle.npos_base.specs.declared.figures.Edge.{Edge}
 use Rattle.npos_base.specs.declared.limits.TheConstants.{MOST_NOMINATIONS}
+use Rattle.compact_solution.specs.declared.entry.TheConstants.{WIDE_GROUPS}
 use Rattle.compact_solution.specs.Solution.{Entry, plain_groups, wide_groups, groups_in, groups_form, solution_form}
 use Rattle.compact_solution.specs.Choosing.{empty_groups}
 use Rattle.compact_solution.specs.Packing.{stake_at, kept_at, entry_of, entries_with, grouped, fits_plain, groups_for}
@@ -102,11 +104,14 @@ voter_listed groups stakes kept n edges old new here few before none some = elim
 -- ## How many groups
 
 -- a wide solution has a group for each number of targets that a voter can nominate
-pub all_nominations : wide_groups ≡ MOST_NOMINATIONS
-unfolding wide_groups
-all_nominations = refl
+pub all_nominations : MOST_NOMINATIONS ≤ WIDE_GROUPS
+all_nominations = omega arith
 
-pub groups_most : (wide : Bool) → groups_in wide ≤ MOST_NOMINATIONS
+wide_most : WIDE_GROUPS ≤ wide_groups
+unfolding wide_groups
+wide_most = omega arith
+
+pub groups_most : (wide : Bool) → groups_in wide ≤ WIDE_GROUPS
 unfolding plain_groups wide_groups
 groups_most true = omega arith
 groups_most false = omega arith
@@ -117,12 +122,12 @@ plain_few kept fits k d h =
     leb-true (length (get_or kept k d)) plain_groups (AllPass-from_list_all (λ (own : List Edge). nat_le (length own) plain_groups) kept fits k d h)
 
 -- there are groups enough for what is kept
-pub enough_groups : (kept : List (List Edge)) → All (λ (own : List Edge). length own ≤ MOST_NOMINATIONS) kept
+pub enough_groups : (kept : List (List Edge)) → All (λ (own : List Edge). length own ≤ WIDE_GROUPS) kept
     → All (λ (own : List Edge). length own ≤ groups_for kept) kept
 enough_groups kept few = at (fits_plain kept) refl where
   at : (b : Bool) → fits_plain kept ≡ b → All (λ (own : List Edge). length own ≤ groups_in (not b)) kept
   at true fits = plain_few kept fits
-  at false over = λ k d h. omega (arith, few k d h, all_nominations)
+  at false over = λ k d h. omega (arith, few k d h, wide_most)
 
 -- groups in that number make a solution
 pub in_form : (kept : List (List Edge)) (groups : List (List Entry)) → (groups_form (groups_for kept)).in_range groups → solution_form.in_range groups

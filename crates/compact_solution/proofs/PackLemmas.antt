@@ -1,5 +1,6 @@
 -- One edge more, one voter more: how what is kept and listed grows.
-use Rattle.std.proofs.Common.{◌≡◌, ◌≢◌, inl, inr, ℕ, zero, suc, ◌+◌, ◌<◌, ◌≤◌, ◌||◌, Bool, true, false, cond, not, nat_eq, nat_lt, if◌then◌else◌, All, List, [], ◌∷◌, ◌++◌, length, filter, take, fold, get_or, None, refl, sym, ◌∙◌, ap, subst, arith}
+use Rattle.std.proofs.Common.{◌≡◌, ◌≢◌, inl, inr, ℕ, zero, suc, ◌+◌, ◌<◌, ◌≤◌, ◌||◌, Bool, true, false, cond, not, nat_eq, nat_lt, if◌then◌else◌}
+use Rattle.std.proofs.Common.{All, List, [], ◌∷◌, ◌++◌, length, filter, take, fold, get_or, None, refl, sym, ◌∙◌, ap, subst, arith}
 use Rattle.std.specs.List.{list_any, slice_set, insert}
 use Rattle.std.proofs.Math.Nat.{zero-add}
 use Rattle.std.proofs.lemmas.List.{take_all, same_lists, append-nil, get_or-set_other, get_or-set_same, length-set}
@@ -27,7 +28,9 @@ choice_more stake edges edge =
     same_choice (choice_of stake (edges ++ edge ∷ [])) (chosen_next stake (choice_of stake edges) edge)
     (ap by_target (filter-append (has_part stake) edges (edge ∷ [])) ∙ at (has_part stake edge))
     (fold_push greater None edges edge) where
-      at : (b : Bool) → by_target (filter (has_part stake) edges ++ cond b (edge ∷ []) []) ≡ (if b then placed (by_target (filter (has_part stake) edges)) edge else by_target (filter (has_part stake) edges))
+      at : (b : Bool) → by_target (filter (has_part stake) edges ++ cond b (edge ∷ []) [])
+          ≡ (if b then placed (by_target (filter (has_part stake) edges)) edge else by_target
+          (filter (has_part stake) edges))
       at true = fold_push placed [] (filter (has_part stake) edges) edge
       at false = ap by_target (append-nil (filter (has_part stake) edges))
 
@@ -127,13 +130,17 @@ mark_more edges i d first old h count short before target below = elim (eqb_tell
       let test : leads_to target (get_or edges i d) ≡ true = grind (arith, nat_tests, same) in
       ap (λ (n : ℕ). get_or (slice_set old (get_or edges i d).target true) n false) same
       ∙ (get_or-set_same old (get_or edges i d).target true false (omega (arith, short, count))
-      ∙ sym (ap (λ (b : Bool). get_or first target false || b) (list_any_more (leads_to target) edges i d h ∙ ap (λ (b : Bool). list_any (leads_to target) (take i edges) || b) test) ∙ always (get_or first target false) (list_any (leads_to target) (take i edges)))))
+      ∙ sym (ap (λ (b : Bool). get_or first target false || b) (list_any_more (leads_to target) edges i d h
+      ∙ ap (λ (b : Bool). list_any (leads_to target) (take i edges) || b) test)
+      ∙ always (get_or first target false) (list_any (leads_to target) (take i edges)))))
   | inr other ↦
       (let differ : target ≢ (get_or edges i d).target = other.1 in
       let test : leads_to target (get_or edges i d) ≡ false = grind (arith, nat_tests, differ) in
       get_or-set_other old (get_or edges i d).target target true false differ
       ∙ (before target below
-      ∙ ap (λ (b : Bool). get_or first target false || b) (sym (list_any_more (leads_to target) edges i d h ∙ (ap (λ (b : Bool). list_any (leads_to target) (take i edges) || b) test ∙ never (list_any (leads_to target) (take i edges)))))))
+      ∙ ap (λ (b : Bool). get_or first target false || b) (sym (list_any_more (leads_to target) edges i d h
+      ∙ (ap (λ (b : Bool). list_any (leads_to target) (take i edges) || b) test
+      ∙ never (list_any (leads_to target) (take i edges)))))))
 ] where
   always : (a b : Bool) → (a || (b || true)) ≡ true
   always true b = refl

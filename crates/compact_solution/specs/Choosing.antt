@@ -1,8 +1,7 @@
 -- How edges are chosen one after the other, and what is asked of them.
-use Rattle.std.specs.Prelude.{◌≡◌, ℕ, ◌<◌, ◌≤◌, Bool, false, if◌then◌else◌, List, [], map, length, All, slice_index_or, None}
+use Rattle.std.specs.Prelude.{◌≡◌, ℕ, ◌<◌, ◌≤◌, ◌^◌, Bool, false, if◌then◌else◌, List, [], map, length, All, slice_index_or, None}
 use Rattle.std.specs.List.{range_with_len}
 use Rattle.npos_base.specs.declared.figures.Edge.{Edge}
-use Rattle.compact_solution.specs.declared.listing.TheConstants.{NAMES}
 use Rattle.compact_solution.specs.Solution.{Entry}
 use Rattle.compact_solution.specs.Packing.{Choice, has_part, placed, greater, is_kept, stake_at, kept_at}
 
@@ -35,5 +34,5 @@ empty_groups groups = map (λ group. []) (range_with_len 0 groups)
 
 -- each target that a u16 can name is marked exactly where an edge to it is kept
 pub record AreKeptMarks (kept : List (List Edge)) (marks : List Bool) : Type 0 where
-  pub count : length marks ≡ NAMES
-  pub are : (target : ℕ) → target < NAMES → slice_index_or marks target false ≡ is_kept kept target
+  pub count : length marks ≡ 2 ^ 16
+  pub are : (target : ℕ) → target < 2 ^ 16 → slice_index_or marks target false ≡ is_kept kept target

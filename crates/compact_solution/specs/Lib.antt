@@ -4,3 +4,4 @@ pub mod Decoded
 pub mod Packing
 pub mod Choosing
 pub mod Widths
+pub mod Limits

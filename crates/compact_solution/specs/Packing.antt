@@ -1,6 +1,7 @@
 -- Packing: how weights become a solution. What a voter gives is rounded down to parts of its stake,
 -- and what is too little for one part is dropped.
-use Rattle.std.specs.Prelude.{ℕ, ◌+◌, ◌-◌, ◌*◌, ◌/◌, ◌<◌, ◌≤◌, Bool, not, nat_eq, nat_lt, nat_le, IsTrue, if◌then◌else◌, min, List, [], ◌∷◌, length, map, filter, take, fold, sum_by, All, slice_index_or, Option, Some, None, option_to_list, Result, Ok, Err}
+use Rattle.std.specs.Prelude.{ℕ, ◌+◌, ◌-◌, ◌*◌, ◌/◌, ◌<◌, ◌≤◌, Bool, not, nat_eq, nat_lt, nat_le, IsTrue, if◌then◌else◌, min, List, [], ◌∷◌}
+use Rattle.std.specs.Prelude.{length, map, filter, take, fold, sum_by, All, slice_index_or, Option, Some, None, option_to_list, Result, Ok, Err}
 use Rattle.std.specs.List.{list_all, list_any, range_with_len, IsDistinct}
 use Rattle.npos_base.specs.declared.figures.Edge.{Edge}
 pub use Rattle.npos_base.specs.Edge.{same_pair, edges_from}

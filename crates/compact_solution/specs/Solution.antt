@@ -1,7 +1,7 @@
 -- Compact solutions, after Substrate: who backs whom with which part of its stake, in groups of
 -- entries. An entry of the first group names one target, one of the second group two, and so on. A
--- plain solution has 16 groups, and a wide one a group for each number of targets that a voter can
--- nominate.
+-- plain solution has 16 groups, and a wide one 24; these are numbers of the form and no limits of a
+-- chain.
 use Rattle.std.specs.Prelude.{ℕ, Bool, true, false, nat_eq, List, [], ◌∷◌, ◌++◌, length, map}
 use Rattle.std.specs.List.{flat_map}
 use Rattle.scale_wire.specs.Form.{Form}

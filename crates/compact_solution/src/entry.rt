@@ -2,14 +2,15 @@
 ghost use Rattle.std.specs.Prelude.{◌≡◌, ◌+◌, ◌<◌, ◌≤◌, length, slice_index};
 ghost use Rattle.compact_solution.specs.Solution.{groups_in, targets_of, parts_of};
 
-use npos_base::{List, MOST_NOMINATIONS};
+use npos_base::List;
 use std::marker::Model;
 
 /// How many groups a plain solution has: its entries name up to 16 targets.
 pub const PLAIN_GROUPS: usize = 16;
 
-/// How many groups a wide solution has: one for each number of targets that a voter can nominate.
-pub const WIDE_GROUPS: usize = MOST_NOMINATIONS;
+/// How many groups a wide solution has: its entries name up to 24 targets. This is a number of the
+/// form of solutions; a chain lets a voter nominate no more than that.
+pub const WIDE_GROUPS: usize = 24;
 
 /// The byte that stands before a wide solution. No length of a plain group begins with it.
 pub(crate) const WIDE_MARK: u8 = 0xff;
@@ -36,19 +37,19 @@ pub struct Entry {
 
 impl Model for Entry {
     ghost use Rattle.std.specs.Prelude.{◌<◌, length};
-    ghost use Rattle.npos_base.specs.declared.limits.TheConstants.{MOST_NOMINATIONS};
+    ghost use Rattle.compact_solution.specs.declared.entry.TheConstants.{WIDE_GROUPS};
     ghost use Rattle.compact_solution.specs.Solution.{Entry};
 
     ghost Value = { Entry };
 
     ghost view = { λ e. record { voter = e.voter; shares = e.shares; last = e.last } };
 
-    ghost invariant = { λ e. length e.shares < MOST_NOMINATIONS };
+    ghost invariant = { λ e. length e.shares < WIDE_GROUPS };
 }
 
 impl Entry {
     pub(crate) fn new(voter: u32, shares: List<Share>, last: u16) -> Entry
-        requires { length shares < MOST_NOMINATIONS }
+        requires { length shares < WIDE_GROUPS }
         ensures { result ≡ record { voter = voter; shares = shares; last = last } }
     {
         Entry {
@@ -65,11 +66,11 @@ impl Entry {
         self.voter
     }
 
-    /// How many targets the entry names: at least one, and at most as many as a voter
-    /// can nominate.
+    /// How many targets the entry names: at least one, and at most as many as a wide solution has
+    /// groups.
     pub fn len(&self) -> usize
         ensures count { result ≡ length (targets_of self.now) }
-        ensures most { result ≤ MOST_NOMINATIONS }
+        ensures most { result ≤ WIDE_GROUPS }
     {
         self.shares().len() + 1
     }
@@ -96,7 +97,7 @@ impl Entry {
     /// All targets but the last, with their shares.
     pub fn shares(&self) -> &[Share]
         ensures shares { result.now ≡ self.now.shares }
-        ensures most { length result.now < MOST_NOMINATIONS }
+        ensures most { length result.now < WIDE_GROUPS }
     {
         self.shares.as_slice()
     }
@@ -112,7 +113,7 @@ impl Entry {
 /// How many groups a wide or a plain solution has.
 pub(crate) fn groups_in(wide: bool) -> usize
     ensures number { result ≡ groups_in wide }
-    ensures most { result ≤ MOST_NOMINATIONS }
+    ensures most { result ≤ WIDE_GROUPS }
 {
     if wide { WIDE_GROUPS } else { PLAIN_GROUPS }
 }

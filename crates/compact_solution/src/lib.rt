@@ -4,6 +4,7 @@
 
 mod choosing;
 mod entry;
+pub mod laws;
 mod listing;
 mod packing;
 mod reading;

@@ -1,16 +1,16 @@
 //! The entries of kept edges, and the members that are lost.
-ghost use Rattle.std.specs.Prelude.{◌≡◌, ◌≢◌, ◌<◌, ◌≤◌, ◌-◌, ◌||◌, ℕ, All, [], ◌∷◌, ◌++◌, false, not, map, length, IfOk, OnOk, slice_index_or, slice_set};
+ghost use Rattle.std.specs.Prelude.{◌≡◌, ◌≢◌, ◌<◌, ◌≤◌, ◌-◌, ◌^◌, ◌||◌, ℕ, All, [], ◌∷◌, ◌++◌, false, not, map, length, IfOk, OnOk, slice_index_or, slice_set};
 ghost use Rattle.std.specs.List.{list_any};
 ghost use Rattle.compact_solution.specs.Packing.{leads_to, lost_among, lowest_where, entry_of, share_of, fits_plain, groups_for, grouped, lower as lower_of};
 ghost use Rattle.compact_solution.specs.Choosing.{Fits, AreKeptMarks, AllKeptFit, empty_groups};
 
 use crate::choosing::parts_in;
-use crate::entry::{Entry, PLAIN_GROUPS, Share, groups_in};
-use npos_base::{Edge, List, MOST_NOMINATIONS, MOST_VOTERS, NoMemory};
+use crate::entry::{Entry, PLAIN_GROUPS, Share, WIDE_GROUPS, groups_in};
+use npos_base::{Edge, List, MOST_VOTERS, NoMemory};
 use std::alloc::Global;
 
 /// How many targets a `u16` can name.
-pub(crate) const NAMES: usize = 65_536;
+const NAMES: usize = 65_536;
 
 /// The lowest member to which no edge is kept.
 pub(crate) fn lowest_lost(
@@ -48,9 +48,9 @@ fn mark_all(marks: &mut [bool], kept: &[List<Edge>])
 /// Marks the targets of the edges.
 #[tactic(auto, using(crate::proofs::PackLemmas::mark_more))]
 fn mark(marks: &mut [bool], edges: &[Edge])
-    requires { length marks.old ≡ NAMES }
+    requires { length marks.old ≡ 2 ^ 16 }
     ensures count { length marks.new ≡ length marks.old }
-    ensures marked { (target : ℕ) → target < NAMES → slice_index_or marks.new target false
+    ensures marked { (target : ℕ) → target < 2 ^ 16 → slice_index_or marks.new target false
         ≡ (slice_index_or marks.old target false || list_any (leads_to target) edges.now) }
 {
     for edge in edges {
@@ -61,7 +61,7 @@ fn mark(marks: &mut [bool], edges: &[Edge])
 /// The lowest member that is not marked.
 #[tactic(auto, using(crate::proofs::PackLemmas::lowest_more))]
 fn lowest_unmarked(marks: &[bool], members: &[u16]) -> Option<u16>
-    requires { length marks.now ≡ NAMES }
+    requires { length marks.now ≡ 2 ^ 16 }
     ensures { result
         ≡ lowest_where (λ member. not (slice_index_or marks.now member false)) members.now }
 {
@@ -86,10 +86,10 @@ fn lower(lowest: Option<u16>, member: u16) -> Option<u16>
 
 /// How many groups the solution of kept edges has: those of the plain form where they fit into it.
 pub(crate) fn groups_for(kept: &[List<Edge>]) -> usize
-    requires { All (λ edges. length edges ≤ MOST_NOMINATIONS) kept.now }
+    requires { All (λ edges. length edges ≤ WIDE_GROUPS) kept.now }
     ensures count { result ≡ groups_for kept.now }
     ensures enough { All (λ edges. length edges ≤ result) kept.now }
-    ensures most { result ≤ MOST_NOMINATIONS }
+    ensures most { result ≤ WIDE_GROUPS }
 {
     groups_in(!fits_plain(kept))
 }
@@ -116,7 +116,7 @@ pub(crate) fn list_entries(
     requires lists { length kept.now ≡ length stakes.now }
     requires voters { length stakes.now ≤ MOST_VOTERS }
     requires few { All (λ edges. length edges ≤ count) kept.now }
-    requires most { count ≤ MOST_NOMINATIONS }
+    requires most { count ≤ WIDE_GROUPS }
     requires fit { AllKeptFit stakes.now kept.now }
     ensures { IfOk result (λ groups. groups
         ≡ grouped count stakes.now kept.now (length stakes.now)) }
@@ -137,7 +137,7 @@ fn list_all(
     requires lists { length kept.now ≡ length stakes.now }
     requires voters { length stakes.now ≤ MOST_VOTERS }
     requires few { All (λ edges. length edges ≤ length groups.old) kept.now }
-    requires most { length groups.old ≤ MOST_NOMINATIONS }
+    requires most { length groups.old ≤ WIDE_GROUPS }
     requires fit { AllKeptFit stakes.now kept.now }
     ensures { OnOk result (groups.new
         ≡ grouped (length groups.old) stakes.now kept.now (length stakes.now)) }
@@ -163,7 +163,7 @@ fn list_entry(
     kept: &[Edge],
 ) -> Result<(), NoMemory>
     requires few { length kept.now ≤ length groups.old }
-    requires most { length groups.old ≤ MOST_NOMINATIONS }
+    requires most { length groups.old ≤ WIDE_GROUPS }
     requires fit { All (Fits stake) kept.now }
     ensures none { length kept.now ≡ 0 → groups.new ≡ groups.old }
     ensures some { 0 < length kept.now → OnOk result (groups.new
@@ -193,7 +193,7 @@ fn no_groups(alloc: Global, count: usize) -> Result<Vec<List<Entry>>, NoMemory>
 /// The entry of a voter that keeps these edges, of which there is one at least.
 fn entry_of(alloc: Global, voter: u32, stake: u64, kept: &[Edge]) -> Result<Entry, NoMemory>
     requires some { 0 < length kept.now }
-    requires few { length kept.now ≤ MOST_NOMINATIONS }
+    requires few { length kept.now ≤ WIDE_GROUPS }
     requires fit { All (Fits stake) kept.now }
     ensures { IfOk result (λ entry. entry ≡ entry_of voter stake kept.now) }
 {

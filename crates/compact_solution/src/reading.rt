@@ -6,8 +6,8 @@ ghost use Rattle.scale_wire.specs.Reading.{Takes, Reads};
 ghost use Rattle.compact_solution.specs.Solution.{share_form, entry_form, group_form, groups_form, solution_form};
 ghost use Rattle.compact_solution.specs.Widths.{behind_mark};
 
-use crate::entry::{Entry, Share, WIDE_MARK, groups_in};
-use npos_base::{List, MOST_NOMINATIONS, MOST_VOTERS, NoMemory};
+use crate::entry::{Entry, Share, WIDE_GROUPS, WIDE_MARK, groups_in};
+use npos_base::{List, MOST_VOTERS, NoMemory};
 use scale_wire::Cursor;
 use scale_wire::fault::{ReadFault, WireFault};
 use std::alloc::Global;
@@ -49,7 +49,7 @@ fn read_groups(
     cursor: &mut Cursor<'_>,
     count: usize,
 ) -> Result<List<List<Entry>>, ReadFault>
-    requires { count ≤ MOST_NOMINATIONS }
+    requires { count ≤ WIDE_GROUPS }
     ensures { Reads (groups_form count) cursor.old result cursor.new }
 {
     let mut here = cursor.fork();
@@ -67,7 +67,7 @@ fn read_group(
     cursor: &mut Cursor<'_>,
     shares: usize,
 ) -> Result<List<Entry>, ReadFault>
-    requires { shares < MOST_NOMINATIONS }
+    requires { shares < WIDE_GROUPS }
     ensures { Reads (group_form shares) cursor.old result cursor.new }
 {
     let mut here = cursor.fork();
@@ -84,7 +84,7 @@ fn read_entries(
     shares: usize,
     count: u32,
 ) -> Result<List<Entry>, ReadFault>
-    requires { shares < MOST_NOMINATIONS }
+    requires { shares < WIDE_GROUPS }
     ensures { Reads (items_of (entry_form shares) count) cursor.old result cursor.new }
 {
     if shares == 0 {
@@ -97,7 +97,7 @@ fn read_entries(
 // Room for as many of so many entries as the bytes left can hold, at a byte for each number: an
 // entry with this many shares has the voter, a target and a share each, and the last target.
 fn room_for(alloc: Global, count: u32, left: usize, shares: usize) -> Result<Vec<Entry>, NoMemory>
-    requires { shares < MOST_NOMINATIONS }
+    requires { shares < WIDE_GROUPS }
     ensures held { IfOk result (λ entries. 2 * vec_capacity entries ≤ left) }
     ensures room { IfOk result (λ entries.
         vec_capacity entries ≡ min (left / (2 * shares + 2)) count) }
@@ -146,7 +146,7 @@ fn read_shared(
     shares: usize,
     count: u32,
 ) -> Result<List<Entry>, ReadFault>
-    requires { shares < MOST_NOMINATIONS }
+    requires { shares < WIDE_GROUPS }
     ensures { Reads (items_of (entry_form shares) count) cursor.old result cursor.new }
 {
     let mut here = cursor.fork();
@@ -160,7 +160,7 @@ fn read_shared(
 
 // An entry with this many shares.
 fn read_entry(alloc: Global, cursor: &mut Cursor<'_>, shares: usize) -> Result<Entry, ReadFault>
-    requires { shares < MOST_NOMINATIONS }
+    requires { shares < WIDE_GROUPS }
     ensures { Reads (entry_form shares) cursor.old result cursor.new }
 {
     let mut here = cursor.fork();
@@ -177,7 +177,7 @@ fn read_shares(
     cursor: &mut Cursor<'_>,
     count: usize,
 ) -> Result<List<Share>, ReadFault>
-    requires { count < MOST_NOMINATIONS }
+    requires { count < WIDE_GROUPS }
     ensures { Reads (items_of share_form count) cursor.old result cursor.new }
 {
     let mut here = cursor.fork();

@@ -1,5 +1,6 @@
 -- The accounts of a generated election are told apart, and no part of it has a fault.
-use Rattle.std.proofs.Common.{◌≡◌, refl, ap, ap₂, sym, ◌∙◌, subst, arith, mul-le-mul, ℕ, zero, suc, ◌+◌, ◌*◌, ◌%◌, ◌<◌, ◌≤◌, ◌^◌, min, Bool, true, false, nat_eq, nat_le, nat_lt, ◌||◌, List, [], ◌∷◌, ◌++◌, map, length, None, if◌then◌else◌}
+use Rattle.std.proofs.Common.{◌≡◌, refl, ap, ap₂, sym, ◌∙◌, subst, arith, mul-le-mul, ℕ, zero, suc, ◌+◌, ◌*◌, ◌%◌, ◌<◌, ◌≤◌, ◌^◌, min}
+use Rattle.std.proofs.Common.{Bool, true, false, nat_eq, nat_le, nat_lt, ◌||◌, List, [], ◌∷◌, ◌++◌, map, length, None, if◌then◌else◌}
 use Rattle.std.specs.List.{list_any, range_with_len}
 use Rattle.std.proofs.lemmas.Nat.{mod_below}
 use Rattle.std.proofs.lemmas.List.Sums.{sum_by-cons}
@@ -56,7 +57,9 @@ voter_is_free targets place first count stake draft begun h p q r s t u =
     ∙ on (nat_eq stake 0) _ _ (grind (arith, nat_tests, t))
     ∙ on (nat_eq (length votes) 0) _ _ (grind (arith, nat_tests, counted, q))
     ∙ on (nat_lt MOST_NOMINATIONS (length votes)) _ _ (grind (arith, nat_tests, counted, r))
-    ∙ on (list_any (λ target. nat_le (length draft.targets) target) votes) _ _ (ap (λ n. list_any (λ target. nat_le n target) votes) begun.targets_are ∙ votes_within targets first count (omega (arith, p)))
+    ∙ on (list_any (λ target. nat_le (length draft.targets) target) votes) _ _
+    (ap (λ n. list_any (λ target. nat_le n target) votes) begun.targets_are
+    ∙ votes_within targets first count (omega (arith, p)))
     ∙ on (has_repeat votes) _ _ (votes_distinct targets first count p s)
     ∙ on (nat_le (2 ^ 64) (total_of draft.voters + stake)) _ _ (let e = begun.at_most in let d : total_of draft.voters + stake < 2 ^ 64 = omega (arith, e, h, u) in grind (arith, nat_tests, d))
   where
@@ -106,7 +109,9 @@ begun_itself seed targets place some few = record {
   at_most = (total_between seed targets 0 place).1;
 }
 
-pub voters_begun : (seed targets place : ℕ) (draft : Draft) → 1 ≤ targets → targets ≤ 2048 → draft ≡ record { targets = targets_of targets; voters = voters_of seed targets place } → IsBegun targets place draft
+pub voters_begun : (seed targets place : ℕ) (draft : Draft) → 1 ≤ targets → targets ≤ 2048
+    → draft ≡ record { targets = targets_of targets; voters = voters_of seed targets place }
+    → IsBegun targets place draft
 voters_begun seed targets place draft some few e = subst (λ (d : Draft). IsBegun targets place d) (sym e) (begun_itself seed targets place some few)
 
 pub seats_stand : (seed voters seats : ℕ) → 1 ≤ voters → 1 ≤ seats → seats ≤ 512

@@ -39,7 +39,8 @@ apart targets first i j p q r =
     ]
 
 -- none is a vote of a place behind
-new_from : (targets first i start count : ℕ) → first < targets → i < start → start + count ≤ targets → has (map (λ n. (first + n) % targets) (range_with_len start count)) ((first + i) % targets) ≡ false
+new_from : (targets first i start count : ℕ) → first < targets → i < start → start + count ≤ targets
+    → has (map (λ n. (first + n) % targets) (range_with_len start count)) ((first + i) % targets) ≡ false
 new_from targets first i start zero p q r = refl
 new_from targets first i start (suc count) p q r =
     ap₂ (λ a b. a || b) (apart targets first i start p q (omega (arith, r))) (new_from targets first i (start + 1) count p (omega (arith, q)) (omega (arith, r)))

@@ -12,7 +12,8 @@ use Rattle.election_check.specs.declared.fault.Fault.TheVariants.{WrongScore}
 use Rattle.election_check.specs.declared.verdict.Verdict.TheVariants.{Yes}
 use Rattle.election_check.specs.First.{or_yes}
 use Rattle.election_check.specs.Laws.{IsAccepted}
-use Rattle.election_check.specs.Packed.{expanded, entries_fault, expand_fault, same_score, score_fault, solution_fault, verdict_solution, verdict_decoded, verdict_packed, weights_decoded, weights_unless}
+use Rattle.election_check.specs.Packed.{expanded, entries_fault, expand_fault, same_score, score_fault, solution_fault}
+use Rattle.election_check.specs.Packed.{verdict_solution, verdict_decoded, verdict_packed, weights_decoded, weights_unless}
 use Rattle.election_check.specs.Steps.{size_fault, outweighed}
 use Rattle.election_check.proofs.FaultLemmas.{yes_is_none}
 use Rattle.election_check.proofs.FirstLemmas.{when_none, first_none}
@@ -47,7 +48,8 @@ accepted snapshot claim bytes accepts = by (decoded bytes) refl accepts
             feasible = feasible_packed snapshot (entries_of solution) sound filled;
             none_outweighs = none_outweighs snapshot weights outside;
           });
-          claimed = scores_equal (score_of weights) claim (not-false (same_score (score_of weights) claim) (when_none (not (same_score (score_of weights) claim)) (WrongScore (score_of weights)) scored));
+          claimed = scores_equal (score_of weights) claim (not-false (same_score (score_of weights) claim)
+              (when_none (not (same_score (score_of weights) claim)) (WrongScore (score_of weights)) scored));
         }
 
     by : (read : Result (List (List Entry)) WireFault) → decoded bytes ≡ read → verdict_decoded snapshot claim read ≡ Yes → IsAccepted snapshot claim bytes

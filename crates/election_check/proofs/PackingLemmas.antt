@@ -1,5 +1,6 @@
 -- Feasible weights can be packed, and the solution that they pack to expands to weights of a committee of the same members.
-use Rattle.std.proofs.Common.{◌≡◌, ℕ, zero, suc, ◌+◌, ◌-◌, ◌<◌, ◌≤◌, ◌||◌, Bool, true, false, not, nat_eq, nat_le, List, [], ◌∷◌, ◌++◌, length, map, filter, fold, get_or, min, find, Option, Some, None, option_map, Ok, All, inl, inr, refl, sym, ap, ◌∙◌, subst, arith}
+use Rattle.std.proofs.Common.{◌≡◌, ℕ, zero, suc, ◌+◌, ◌-◌, ◌<◌, ◌≤◌, ◌||◌, Bool, true, false, not, nat_eq, nat_le, List, [], ◌∷◌, ◌++◌, length, map}
+use Rattle.std.proofs.Common.{filter, fold, get_or, min, find, Option, Some, None, option_map, Ok, All, inl, inr, refl, sym, ap, ◌∙◌, subst, arith}
 use Rattle.std.specs.List.{IsDistinct, AllByRecursion, flat_map, list_any, range_with_len}
 use Rattle.std.proofs.Math.Nat.{zero-add}
 use Rattle.std.proofs.Math.ListN.{get_or-map}
@@ -10,16 +11,18 @@ use Rattle.std.proofs.lemmas.List.Folds.{Any-from_list_any, list_any_at, list_an
 use Rattle.std.proofs.lemmas.List.FromFn.{get_or-map-range_with_len, length-range_with_len, get_or-range_with_len}
 use Rattle.npos_base.specs.declared.figures.Edge.{Edge}
 use Rattle.npos_base.specs.declared.limits.TheConstants.{MOST_NOMINATIONS}
+use Rattle.compact_solution.specs.declared.entry.TheConstants.{WIDE_GROUPS}
 use Rattle.npos_base.specs.Edge.{edges_from}
 use Rattle.election_snapshot.specs.Snapshot.{Snapshot, Voter, IsWellFormed, IsVoterOf, nobody, has, nominates, stake_of, votes_of, stakes_of}
 use Rattle.election_snapshot.proofs.HasLemmas.{all_has, filter_has}
 use Rattle.weight_book.specs.Weights.{Weights, IsFeasible}
 use Rattle.weight_book.proofs.SumLemmas.{sum_covered, sum_of_ones}
 use Rattle.compact_solution.specs.Solution.{Entry, targets_of, entries_of}
-use Rattle.compact_solution.specs.Packing.{stake_at, choice_of, choices_of, chosen, kept_of, kept_at, entry_of, entries_with, groups_for, groups_of, leads_to, is_kept, lower, lost_among, packed, packed_or_lost, IsPackable}
+use Rattle.compact_solution.specs.Packing.{stake_at, choice_of, choices_of, chosen, kept_of, kept_at, entry_of, entries_with, groups_for}
+use Rattle.compact_solution.specs.Packing.{groups_of, leads_to, is_kept, lower, lost_among, packed, packed_or_lost, IsPackable}
 use Rattle.compact_solution.specs.Choosing.{no_choice}
 use Rattle.compact_solution.proofs.PackLemmas.{choices_many}
-use Rattle.compact_solution.proofs.GroupLemmas.{enough_groups}
+use Rattle.compact_solution.proofs.GroupLemmas.{all_nominations, enough_groups}
 use Rattle.compact_solution.proofs.FitLemmas.{all_chosen, few_chosen}
 use Rattle.election_check.specs.declared.fault.Fault.{Fault}
 use Rattle.election_check.specs.declared.fault.Fault.TheVariants.{NoVoter, NoTarget, VoterTwice, TargetTwice, NotNominated, BadShare, WrongSize}
@@ -336,8 +339,8 @@ module _ (snapshot : Snapshot) (weights : Weights) (formed : IsWellFormed snapsh
   many_kept : length kept ≡ length snapshot.voters
   many_kept = length-map (choices_of stakes weights.edges) chosen ∙ (choices_many stakes weights.edges ∙ many)
 
-  all_few : All (λ (edges : List Edge). length edges ≤ MOST_NOMINATIONS) kept
-  all_few k d h = omega (arith, ap length (get_or_default kept k d [] h), few_kept k (omega (arith, h, many_kept)))
+  all_few : All (λ (edges : List Edge). length edges ≤ WIDE_GROUPS) kept
+  all_few k d h = omega (arith, ap length (get_or_default kept k d [] h), few_kept k (omega (arith, h, many_kept)), all_nominations)
 
   -- the solution, plain or wide, has a group for each number of edges that is kept
   enough : (voter : ℕ) → voter < length snapshot.voters → count_at voter ≤ groups_for kept

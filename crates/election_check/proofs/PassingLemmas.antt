@@ -100,7 +100,9 @@ module _ (snapshot : Snapshot) where
       (all_fail (overspends snapshot edges) (length snapshot.voters) voter (mapped_none Overspent (find (overspends snapshot edges) (range_with_len 0 (length snapshot.voters))) e) h)
 
   sized : (weights : Weights) → size_fault snapshot weights ≡ None → length weights.committee ≡ snapshot.seats
-  sized weights e = eqb-true (length weights.committee) snapshot.seats (not-false (nat_eq (length weights.committee) snapshot.seats) (when_none (not (nat_eq (length weights.committee) snapshot.seats)) (WrongSize (length weights.committee)) e))
+  sized weights e = eqb-true (length weights.committee) snapshot.seats
+      (not-false (nat_eq (length weights.committee) snapshot.seats)
+      (when_none (not (nat_eq (length weights.committee) snapshot.seats)) (WrongSize (length weights.committee)) e))
 
   pub feasible : (weights : Weights) → members_fault snapshot [] weights.committee ≡ None → edges_fault snapshot weights.committee [] weights.edges ≡ None
       → overspent snapshot weights.edges ≡ None → size_fault snapshot weights ≡ None → IsFeasible snapshot weights
@@ -112,16 +114,25 @@ module _ (snapshot : Snapshot) where
 
   pub none_outweighs : (weights : Weights) → outweighed snapshot weights ≡ None → NoneOutweighs snapshot weights
   none_outweighs weights e target range outside =
-      let fails = all_fail (outweighs snapshot weights) (length snapshot.targets) target (mapped_none (λ n. Outweighed n (prescore_of snapshot weights n)) (find (outweighs snapshot weights) (range_with_len 0 (length snapshot.targets))) e) range in
+      let fails = all_fail (outweighs snapshot weights) (length snapshot.targets) target
+      (mapped_none (λ n. Outweighed n (prescore_of snapshot weights n)) (find (outweighs snapshot weights)
+      (range_with_len 0 (length snapshot.targets))) e) range in
       leb-false (threshold snapshot) (prescore_of snapshot weights target)
       (false_from_ne_true (nat_le (threshold snapshot) (prescore_of snapshot weights target))
-      (λ t. both_ways (outweighs snapshot weights target) fails (and_from (not (has weights.committee target)) (nat_le (threshold snapshot) (prescore_of snapshot weights target)) (not_from_false (has weights.committee target) outside) t)))
+      (λ t. both_ways (outweighs snapshot weights target) fails (and_from (not (has weights.committee target))
+      (nat_le (threshold snapshot) (prescore_of snapshot weights target))
+      (not_from_false (has weights.committee target) outside) t)))
 
   outweighed_none : (weights : Weights) → NoneOutweighs snapshot weights → outweighed snapshot weights ≡ None
-  outweighed_none weights none = none_mapped (λ n. Outweighed n (prescore_of snapshot weights n)) (find (outweighs snapshot weights) (range_with_len 0 (length snapshot.targets))) (none_found (outweighs snapshot weights) (length snapshot.targets) (λ target h. at target h (has weights.committee target) refl)) where
-    at : (target : ℕ) → target < length snapshot.targets → (b : Bool) → has weights.committee target ≡ b → outweighs snapshot weights target ≡ false
-    at target h true e = and_left (not (has weights.committee target)) (nat_le (threshold snapshot) (prescore_of snapshot weights target)) (not_from_true (has weights.committee target) e)
-    at target h false e = and_right (not (has weights.committee target)) (nat_le (threshold snapshot) (prescore_of snapshot weights target)) (lt-leb (threshold snapshot) (prescore_of snapshot weights target) (none target h e))
+  outweighed_none weights none = none_mapped (λ n. Outweighed n (prescore_of snapshot weights n))
+      (find (outweighs snapshot weights) (range_with_len 0 (length snapshot.targets)))
+      (none_found (outweighs snapshot weights) (length snapshot.targets)
+      (λ target h. at target h (has weights.committee target) refl)) where
+        at : (target : ℕ) → target < length snapshot.targets → (b : Bool) → has weights.committee target ≡ b → outweighs snapshot weights target ≡ false
+        at target h true e = and_left (not (has weights.committee target)) (nat_le (threshold snapshot) (prescore_of snapshot weights target)) (not_from_true (has weights.committee target) e)
+        at target h false e = and_right (not (has weights.committee target))
+            (nat_le (threshold snapshot) (prescore_of snapshot weights target))
+            (lt-leb (threshold snapshot) (prescore_of snapshot weights target) (none target h e))
 
   pub passes : (weights : Weights) → plain_fault snapshot weights ≡ None → Passes snapshot weights
   passes weights e =

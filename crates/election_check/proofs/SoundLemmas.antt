@@ -1,5 +1,6 @@
 -- Entries without a fault make feasible weights.
-use Rattle.std.proofs.Common.{◌≡◌, ℕ, ◌+◌, ◌*◌, ◌<◌, ◌≤◌, Bool, true, false, cond, not, nat_eq, nat_le, List, [], ◌∷◌, ◌++◌, length, map, get_or, Some, None, find, All, inl, inr, refl, sym, ap, ap₂, ◌∙◌, subst, arith}
+use Rattle.std.proofs.Common.{◌≡◌, ℕ, ◌+◌, ◌*◌, ◌<◌, ◌≤◌, Bool, true, false, cond, not, nat_eq, nat_le, List, [], ◌∷◌, ◌++◌}
+use Rattle.std.proofs.Common.{length, map, get_or, Some, None, find, All, inl, inr, refl, sym, ap, ap₂, ◌∙◌, subst, arith}
 use Rattle.std.specs.Prelude.{sum, sum_by}
 use Rattle.std.specs.List.{IsDistinct, AllByRecursion, list_any, range_with_len}
 use Rattle.std.proofs.lemmas.Bool.{cases_Bool, true≢false, or_parts, or_from, eqb-true, eq-eqb, ne_eqb, and_left, and_right, leb-false, not-false, cond_both}
@@ -21,7 +22,8 @@ use Rattle.compact_solution.specs.Solution.{Entry, targets_of, parts_of, whole_s
 use Rattle.election_check.specs.declared.fault.Fault.TheVariants.{NoVoter, NoTarget, VoterTwice, TargetTwice, NotNominated, BadShare, WrongSize}
 use Rattle.election_check.specs.First.{when}
 use Rattle.election_check.specs.Steps.{size_fault}
-use Rattle.election_check.specs.Packed.{amount_of, edge_of, rest_of, entry_edges, listed_in, weights_of, first_repeat, unknown_target, repeated_target, unnominated_target, has_bad_share, entry_fault, voters_in, entries_fault}
+use Rattle.election_check.specs.Packed.{amount_of, edge_of, rest_of, entry_edges, listed_in, weights_of, first_repeat, unknown_target}
+use Rattle.election_check.specs.Packed.{repeated_target, unnominated_target, has_bad_share, entry_fault, voters_in, entries_fault}
 use Rattle.election_check.proofs.FirstLemmas.{when_none, first_none, all_good}
 use Rattle.election_check.proofs.PassingLemmas.{mapped_none}
 use Rattle.election_check.proofs.ListFacts.{find_none_all, All-of_map, All-flat_map, map-flat_map, all_stand, has_range, range_within, range_distinct, IsDistinct-append}
@@ -187,7 +189,9 @@ module _ (snapshot : Snapshot) where
       let one : spent (entry_edges (stake_of snapshot entry.voter) entry) voter ≡ cond (nat_eq entry.voter voter) (stake_of snapshot entry.voter) 0 =
       spent_of_one voter entry.voter (entry_edges (stake_of snapshot entry.voter) entry) (voter_of_edges (stake_of snapshot entry.voter) entry)
       ∙ ap (λ n. cond (nat_eq entry.voter voter) n 0) (amounts_of_edges (stake_of snapshot entry.voter) entry here.shares) in
-      let both : spent (all_edges snapshot (entry ∷ entries)) voter ≡ cond (nat_eq entry.voter voter) (stake_of snapshot entry.voter) 0 + cond (has (voters_in entries) voter) (stake_of snapshot voter) 0 =
+      let both : spent (all_edges snapshot (entry ∷ entries)) voter
+      ≡ cond (nat_eq entry.voter voter) (stake_of snapshot entry.voter) 0 + cond (has (voters_in entries) voter)
+      (stake_of snapshot voter) 0 =
       spent-append (entry_edges (stake_of snapshot entry.voter) entry) (all_edges snapshot entries) voter ∙ ap₂ (λ a b. a + b) one rest in
       elim (cases_Bool (nat_eq entry.voter voter)) [
         | inl t ↦

@@ -1,5 +1,6 @@
 -- What each step of a check has found so far.
-use Rattle.std.proofs.Common.{◌≡◌, ℕ, ◌+◌, ◌*◌, ◌<◌, ◌≤◌, Bool, true, false, ◌&&◌, ◌||◌, nat_eq, List, [], length, take, drop, get_or, set, sum_by, slice_index, slice_index_or, ◌⊎◌, inl, inr, refl, sym, ap, ap₂, subst, ◌∙◌, arith}
+use Rattle.std.proofs.Common.{◌≡◌, ℕ, ◌+◌, ◌*◌, ◌<◌, ◌≤◌, Bool, true, false, ◌&&◌, ◌||◌, nat_eq, List, [], length, take, drop}
+use Rattle.std.proofs.Common.{get_or, set, sum_by, slice_index, slice_index_or, ◌⊎◌, inl, inr, refl, sym, ap, ap₂, subst, ◌∙◌, arith}
 use Rattle.std.specs.List.{list_any, IsDistinct}
 use Rattle.std.proofs.lemmas.List.{get_or-set_same, get_or-set_other, get_or-map}
 use Rattle.std.proofs.lemmas.List.Folds.{list_any_more}
@@ -79,17 +80,23 @@ module _ (snapshot : Snapshot) (formed : IsWellFormed snapshot) (edges : List Ed
   pub pairs_more : (table : List Bool) → length table ≡ length snapshot.voters * MOST_NOMINATIONS → ArePairs snapshot table (take i edges)
       → ArePairs snapshot (set table ((get_or edges i d).voter * MOST_NOMINATIONS + place) true) (take (i + 1) edges)
   pairs_more table size pairs voter k p q =
-      at (cases_eq (edge.voter * MOST_NOMINATIONS + place) (voter * MOST_NOMINATIONS + k)) ∙ sym (list_any_more (λ e. nat_eq e.voter voter && nat_eq e.target (get_or (votes_of snapshot voter) k 0)) edges i d h)
+      at (cases_eq (edge.voter * MOST_NOMINATIONS + place) (voter * MOST_NOMINATIONS + k))
+      ∙ sym (list_any_more (λ e. nat_eq e.voter voter && nat_eq e.target (get_or (votes_of snapshot voter) k 0))
+      edges i d h)
     where
       at : (edge.voter * MOST_NOMINATIONS + place ≡ voter * MOST_NOMINATIONS + k) ⊎ (edge.voter * MOST_NOMINATIONS + place ≡ voter * MOST_NOMINATIONS + k → ⊥)
           → get_or (set table (edge.voter * MOST_NOMINATIONS + place) true) (voter * MOST_NOMINATIONS + k) false
           ≡ (has_pair (take i edges) voter (get_or (votes_of snapshot voter) k 0) || (nat_eq edge.voter voter && nat_eq edge.target (get_or (votes_of snapshot voter) k 0)))
       at (inl same) = ap (λ n. get_or (set table n true) (voter * MOST_NOMINATIONS + k) false) same
           ∙ get_or-set_same table (voter * MOST_NOMINATIONS + k) true false (omega (arith, size, few voter p, q, p))
-          ∙ sym (or_right (has_pair (take i edges) voter (get_or (votes_of snapshot voter) k 0)) (nat_eq edge.voter voter && nat_eq edge.target (get_or (votes_of snapshot voter) k 0)) (this_pair voter k p q same))
+          ∙ sym (or_right (has_pair (take i edges) voter (get_or (votes_of snapshot voter) k 0))
+          (nat_eq edge.voter voter && nat_eq edge.target (get_or (votes_of snapshot voter) k 0))
+          (this_pair voter k p q same))
       at (inr differ) = get_or-set_other table (edge.voter * MOST_NOMINATIONS + place) (voter * MOST_NOMINATIONS + k) true false (λ e. differ (sym e))
           ∙ pairs voter k p q
-          ∙ or_none (has_pair (take i edges) voter (get_or (votes_of snapshot voter) k 0)) (nat_eq edge.voter voter && nat_eq edge.target (get_or (votes_of snapshot voter) k 0)) (other_pair voter k p q differ)
+          ∙ or_none (has_pair (take i edges) voter (get_or (votes_of snapshot voter) k 0))
+          (nat_eq edge.voter voter && nat_eq edge.target (get_or (votes_of snapshot voter) k 0))
+          (other_pair voter k p q differ)
 
 -- the stakes by voter
 pub stakes_at : (snapshot : Snapshot) (voter : ℕ) → voter < length snapshot.voters → get_or (stakes_of snapshot.voters) voter 0 ≡ stake_of snapshot voter

@@ -1,5 +1,7 @@
 -- A packed solution while its entries are taken.
-use Rattle.std.proofs.Common.{◌≡◌, ℕ, zero, suc, ◌+◌, ◌-◌, ◌*◌, ◌/◌, ◌%◌, ◌<◌, ◌≤◌, Bool, true, false, cond, not, ◌||◌, nat_eq, nat_lt, nat_le, List, [], ◌∷◌, ◌++◌, length, take, drop, filter, get_or, Option, Some, None, find, All, inl, inr, refl, sym, ap, ◌∙◌, subst, lit<, append-nil, append_assoc, length-append, slice_set, arith}
+use Rattle.std.proofs.Common.{◌≡◌, ℕ, zero, suc, ◌+◌, ◌-◌, ◌*◌, ◌/◌, ◌%◌, ◌<◌, ◌≤◌, Bool, true, false, cond, not, ◌||◌, nat_eq}
+use Rattle.std.proofs.Common.{nat_lt, nat_le, List, [], ◌∷◌, ◌++◌, length, take, drop, filter, get_or, Option, Some, None, find, All}
+use Rattle.std.proofs.Common.{inl, inr, refl, sym, ap, ◌∙◌, subst, lit<, append-nil, append_assoc, length-append, slice_set, arith}
 use Rattle.std.specs.Prelude.{if◌then◌else◌, Ok, Err}
 use Rattle.std.specs.List.{range_with_len}
 use Rattle.std.proofs.Math.Nat.{mul-add-div_right}
@@ -45,7 +47,9 @@ an_error None fault e = absurd (cc)
 an_error (Some other) fault e = ap (λ v. Some v) (cc)
 
 -- an entry none of whose targets is past the last one
-pub targets_known : (snapshot : Snapshot) (entry : Entry) → find (λ target. nat_le (length snapshot.targets) target) (targets_of entry) ≡ None → All (λ target. target < length snapshot.targets) (targets_of entry)
+pub targets_known : (snapshot : Snapshot) (entry : Entry)
+    → find (λ target. nat_le (length snapshot.targets) target) (targets_of entry) ≡ None
+    → All (λ target. target < length snapshot.targets) (targets_of entry)
 targets_known snapshot entry none k d below =
     leb-false (length snapshot.targets) (get_or (targets_of entry) k d)
     (find_none_all (λ target. nat_le (length snapshot.targets) target) (targets_of entry) none k d below)

@@ -1,7 +1,8 @@
 -- The numbers of the verdicts.
 use Rattle.std.specs.Prelude.{ℕ}
 use Rattle.election_check.specs.declared.verdict.Verdict.{Verdict}
-use Rattle.election_check.specs.declared.verdict.Verdict.TheVariants.{Yes, Undecodable, NoVoter, NoTarget, VoterTwice, TargetTwice, NotNominated, BadShare, WrongSize, WrongScore, Outweighed, Overspent}
+use Rattle.election_check.specs.declared.verdict.Verdict.TheVariants.{Yes, Undecodable, NoVoter, NoTarget, VoterTwice, TargetTwice}
+use Rattle.election_check.specs.declared.verdict.Verdict.TheVariants.{NotNominated, BadShare, WrongSize, WrongScore, Outweighed, Overspent}
 
 abbrev pub verdict_number : Verdict → ℕ
 verdict_number Yes = 0

@@ -1,6 +1,7 @@
 -- The verdict on a packed solution with a claimed score: the first fault of the entries in their
 -- order, then of the committee's size, then of the claim, then a target that outweighs.
-use Rattle.std.specs.Prelude.{ℕ, ◌-◌, ◌*◌, ◌/◌, Bool, not, ◌&&◌, ◌||◌, nat_eq, nat_le, if◌then◌else◌, List, [], ◌∷◌, ◌++◌, length, map, filter, sum, sum_by, find, Option, Some, None, option_map, Result, Ok, Err}
+use Rattle.std.specs.Prelude.{ℕ, ◌-◌, ◌*◌, ◌/◌, Bool, not, ◌&&◌, ◌||◌, nat_eq, nat_le, if◌then◌else◌, List, [], ◌∷◌, ◌++◌}
+use Rattle.std.specs.Prelude.{length, map, filter, sum, sum_by, find, Option, Some, None, option_map, Result, Ok, Err}
 use Rattle.std.specs.List.{list_any, flat_map, range_with_len}
 use Rattle.npos_base.specs.declared.figures.Score.{Score}
 use Rattle.npos_base.specs.declared.figures.Edge.{Edge}

@@ -4,6 +4,7 @@ ghost use Rattle.std.specs.List.Sorted.{IsStrictlyIncreasing};
 ghost use Rattle.election_snapshot.specs.Snapshot.{IsWellFormed, has};
 ghost use Rattle.weight_book.specs.Weights.{IsFeasible, support};
 ghost use Rattle.weight_book.specs.Passing.{Passes};
+ghost use Rattle.weight_book.specs.Answered.{IsAnswered};
 ghost use Rattle.weight_book.specs.Proportional.{IsProportional};
 ghost use Rattle.election_check.specs.Seats.{IsReordered};
 
@@ -58,12 +59,14 @@ impl Elected {
     }
 
     /// The members, in rising order. Each group of voters that holds at least the stake of some
-    /// seats, and agrees on as many targets, nominates at least that many of them.
+    /// seats, and agrees on one target outside, nominates at least that many of them; so does each
+    /// that agrees on as many targets as seats, wherever these stand.
     pub fn committee(&self) -> &[u16]
         ensures members { result.now ≡ self.now.weights.plain.committee }
         ensures rising { IsStrictlyIncreasing result.now }
         ensures feasible { IsFeasible self.now.snapshot self.now.weights.plain }
         ensures passes { Passes self.now.snapshot self.now.weights.plain }
+        ensures answered { IsAnswered self.now.snapshot self.now.weights.plain.committee }
         ensures proportional { IsProportional self.now.snapshot self.now.weights.plain }
     {
         self.weights.committee()

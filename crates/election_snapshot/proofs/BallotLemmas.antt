@@ -67,3 +67,6 @@ ends_with votes ends more are h = record {
   rise = rise_with (length votes) 0 ends (length (votes ++ more)) are.rise (omega (arith, length-append votes more));
   few = omega (arith, are.few, h, length-append votes more, length-append ends (length (votes ++ more) ∷ []));
 }
+
+-- by these `ballots` goes on
+pub ruleset ballot_cuts = (cut_count, cut_voter, start_before_end, end_within)

@@ -1,5 +1,6 @@
 -- The voters, as they are kept in three lists of one length.
-use Rattle.std.proofs.Common.{◌≡◌, ℕ, zero, suc, ◌+◌, ◌<◌, ◌≤◌, ◌^◌, Bool, true, false, nat_eq, nat_le, nat_lt, List, [], ◌∷◌, ◌++◌, length, get_or, sum, refl, ap, ap₂, sym, ◌∙◌, subst, arith, Option, Some, None, if◌then◌else◌, ◌||◌, true≢false, length-append}
+use Rattle.std.proofs.Common.{◌≡◌, ℕ, zero, suc, ◌+◌, ◌<◌, ◌≤◌, ◌^◌, Bool, true, false, nat_eq, nat_le, nat_lt, List, [], ◌∷◌, ◌++◌, length, get_or}
+use Rattle.std.proofs.Common.{sum, refl, ap, ap₂, sym, ◌∙◌, subst, arith, Option, Some, None, if◌then◌else◌, ◌||◌, true≢false, length-append}
 use Rattle.std.specs.List.{IsDistinct, list_any, AllByRecursion}
 use Rattle.std.proofs.lemmas.List.Sums.{sum_by-cons, sum_by-append}
 use Rattle.std.proofs.lemmas.List.Elements.{All-push}
@@ -14,19 +15,25 @@ use Rattle.election_snapshot.specs.Draft.{Draft, accounts_of, has_repeat, stands
 use Rattle.election_snapshot.specs.declared.voters.KeptVoters.{KeptVoters}
 use Rattle.election_snapshot.specs.Kept.{voters_of, AreKept, AreSame, HaveOneMore}
 
-pub kept_count : (accounts : List AccountId) (stakes : List ℕ) (votes : List (List ℕ)) → length stakes ≡ length accounts → length votes ≡ length accounts → length (voters_of accounts stakes votes) ≡ length accounts
+pub kept_count : (accounts : List AccountId) (stakes : List ℕ) (votes : List (List ℕ))
+    → length stakes ≡ length accounts → length votes ≡ length accounts → length (voters_of accounts stakes votes)
+    ≡ length accounts
 kept_count [] stakes votes p q = refl
 kept_count (a ∷ accounts) [] votes p q = absurd (omega (arith, p))
 kept_count (a ∷ accounts) (s ∷ stakes) [] p q = absurd (omega (arith, q))
 kept_count (a ∷ accounts) (s ∷ stakes) (v ∷ votes) p q = ap suc (kept_count accounts stakes votes (omega (arith, p)) (omega (arith, q)))
 
-pub kept_accounts : (accounts : List AccountId) (stakes : List ℕ) (votes : List (List ℕ)) → length stakes ≡ length accounts → length votes ≡ length accounts → accounts_of (voters_of accounts stakes votes) ≡ accounts
+pub kept_accounts : (accounts : List AccountId) (stakes : List ℕ) (votes : List (List ℕ))
+    → length stakes ≡ length accounts → length votes ≡ length accounts → accounts_of (voters_of accounts stakes votes)
+    ≡ accounts
 kept_accounts [] stakes votes p q = refl
 kept_accounts (a ∷ accounts) [] votes p q = absurd (omega (arith, p))
 kept_accounts (a ∷ accounts) (s ∷ stakes) [] p q = absurd (omega (arith, q))
 kept_accounts (a ∷ accounts) (s ∷ stakes) (v ∷ votes) p q = ap (λ xs. a ∷ xs) (kept_accounts accounts stakes votes (omega (arith, p)) (omega (arith, q)))
 
-pub kept_stakes : (accounts : List AccountId) (stakes : List ℕ) (votes : List (List ℕ)) → length stakes ≡ length accounts → length votes ≡ length accounts → stakes_of (voters_of accounts stakes votes) ≡ stakes
+pub kept_stakes : (accounts : List AccountId) (stakes : List ℕ) (votes : List (List ℕ))
+    → length stakes ≡ length accounts → length votes ≡ length accounts → stakes_of (voters_of accounts stakes votes)
+    ≡ stakes
 kept_stakes [] [] votes p q = refl
 kept_stakes [] (s ∷ stakes) votes p q = absurd (omega (arith, p))
 kept_stakes (a ∷ accounts) [] votes p q = absurd (omega (arith, p))
@@ -48,13 +55,16 @@ kept_more [] [] (v ∷ votes) who stake voted p q = absurd (omega (arith, q))
 kept_more [] (s ∷ stakes) votes who stake voted p q = absurd (omega (arith, p))
 kept_more (a ∷ accounts) [] votes who stake voted p q = absurd (omega (arith, p))
 kept_more (a ∷ accounts) (s ∷ stakes) [] who stake voted p q = absurd (omega (arith, q))
-kept_more (a ∷ accounts) (s ∷ stakes) (v ∷ votes) who stake voted p q = ap (λ xs. record { account = a; stake = s; votes = v } ∷ xs) (kept_more accounts stakes votes who stake voted (omega (arith, p)) (omega (arith, q)))
+kept_more (a ∷ accounts) (s ∷ stakes) (v ∷ votes) who stake voted p q =
+    ap (λ xs. record { account = a; stake = s; votes = v } ∷ xs) (kept_more accounts stakes votes who stake voted
+    (omega (arith, p)) (omega (arith, q)))
 
 total_stakes : (voters : List Voter) → total_of voters ≡ sum (stakes_of voters)
 total_stakes [] = refl
 total_stakes (voter ∷ voters) = sum_by-cons (λ (v : Voter). v.stake) voter voters ∙ ap (λ n. voter.stake + n) (total_stakes voters) ∙ sym (sum_by-cons (λ (n : ℕ). n) voter.stake (stakes_of voters))
 
-pub kept_total : (targets accounts : List AccountId) (stakes : List ℕ) (votes : List (List ℕ)) (total : ℕ) → AreKept targets accounts stakes votes total → total_of (voters_of accounts stakes votes) ≡ total
+pub kept_total : (targets accounts : List AccountId) (stakes : List ℕ) (votes : List (List ℕ)) (total : ℕ)
+    → AreKept targets accounts stakes votes total → total_of (voters_of accounts stakes votes) ≡ total
 kept_total targets accounts stakes votes total h = total_stakes (voters_of accounts stakes votes) ∙ ap sum (kept_stakes accounts stakes votes h.stakes_count h.votes_count) ∙ sym h.total_is
 
 pub account_read : (accounts : List AccountId) (i : ℕ) (d e : AccountId) → i < length accounts → get_or accounts i d ≡ get_or accounts i e
@@ -276,7 +286,9 @@ module _ (targets : List AccountId) (old room : KeptVoters) (same : AreSame old 
     more_kept = rw (more.total, same.total) (kept_with targets old.accounts.items old.stakes.items old.ballots.items old.total who stake voted _ _ _ accounts stakes votes kept free)
 
     pub more_drafted : drafted targets new ≡ with_voter (drafted targets old) who stake voted
-    more_drafted = ap (λ voters. record { targets = targets; voters = voters }) (voters_new targets old.accounts.items old.stakes.items old.ballots.items old.total who stake voted _ _ _ accounts stakes votes kept)
+    more_drafted = ap (λ voters. record { targets = targets; voters = voters })
+        (voters_new targets old.accounts.items old.stakes.items old.ballots.items old.total who stake voted _ _ _
+        accounts stakes votes kept)
 
 pub stake_read : (voters : List Voter) (i : ℕ) → get_or (stakes_of voters) i 0 ≡ (get_or voters i nobody).stake
 stake_read [] i = refl

@@ -6,7 +6,9 @@ use Rattle.npos_base.specs.Account.{same_account}
 use Rattle.npos_base.specs.declared.limits.TheConstants.{MOST_NOMINATIONS, MOST_TARGETS, MOST_VOTERS, MOST_SEATS}
 use Rattle.election_snapshot.specs.Snapshot.{Voter, Snapshot, has, total_of}
 use Rattle.election_snapshot.specs.declared.fault.SnapshotFault.{SnapshotFault}
-use Rattle.election_snapshot.specs.declared.fault.SnapshotFault.TheVariants.{Few, Poor, RepeatedTarget, RepeatedVoter, UnknownTarget, RepeatedVote, NoVotes, ZeroStake, TooManyTargets, TooManyVoters, TooManyVotes, TotalTooLarge, BadSeats}
+use Rattle.election_snapshot.specs.declared.fault.SnapshotFault.TheVariants.{Few, Poor, RepeatedTarget, RepeatedVoter, UnknownTarget}
+use Rattle.election_snapshot.specs.declared.fault.SnapshotFault.TheVariants.{RepeatedVote, NoVotes, ZeroStake, TooManyTargets}
+use Rattle.election_snapshot.specs.declared.fault.SnapshotFault.TheVariants.{TooManyVoters, TooManyVotes, TotalTooLarge, BadSeats}
 
 pub record Draft : Type 0 where
   pub targets : List AccountId

@@ -73,7 +73,7 @@ impl Ballots {
     }
 
     /// The votes of a voter.
-    #[tactic(auto, using(crate::proofs::BallotLemmas::cut_count, crate::proofs::BallotLemmas::cut_voter, crate::proofs::BallotLemmas::start_before_end, crate::proofs::BallotLemmas::end_within))]
+    #[tactic(auto, using(crate::proofs::BallotLemmas::ballot_cuts))]
     pub(crate) fn votes(&self, voter: usize) -> &[u16]
         requires { voter < length self.now.items }
         ensures { result.now ≡ slice_index_or self.now.items voter [] }

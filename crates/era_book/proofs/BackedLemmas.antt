@@ -32,7 +32,8 @@ module _ (targets voters : List AccountId) (member : ℕ) where
   among_all P own [] each = All-nil P
   among_all P own (e ∷ es) each = at (gives_to member e && is_of own targets voters e) refl (among_all P own es each) where
     at : (b : Bool) → (gives_to member e && is_of own targets voters e) ≡ b → All P (backers_among own targets voters es member)
-        → All P (map (backer_of voters) (cond b (e ∷ filter (λ edge. gives_to member edge && is_of own targets voters edge) es) (filter (λ edge. gives_to member edge && is_of own targets voters edge) es)))
+        → All P (map (backer_of voters) (cond b (e ∷ filter (λ edge. gives_to member edge && is_of own targets voters
+        edge) es) (filter (λ edge. gives_to member edge && is_of own targets voters edge) es)))
     at true is rest = All-cons P (backer_of voters e) (backers_among own targets voters es member) (each e is) rest
     at false is rest = rest
 

@@ -64,7 +64,9 @@ module _ (targets voters : List AccountId) (m : ℕ) where
   all_accounts P Q own (e ∷ es) each all =
       at (gives_to m e && is_of own targets voters e) refl (all_accounts P Q own es each (All-tail Q e es all)) where
         at : (b : Bool) → (gives_to m e && is_of own targets voters e) ≡ b → AllByRecursion P (accounts own es)
-            → AllByRecursion P (map (λ (backer : Backer). backer.who) (map (backer_of voters) (cond b (e ∷ filter (λ edge. gives_to m edge && is_of own targets voters edge) es) (filter (λ edge. gives_to m edge && is_of own targets voters edge) es))))
+            → AllByRecursion P (map (λ (backer : Backer). backer.who)
+            (map (backer_of voters) (cond b (e ∷ filter (λ edge. gives_to m edge && is_of own targets voters edge)
+            es) (filter (λ edge. gives_to m edge && is_of own targets voters edge) es))))
         at true is rest = (each e (All-head Q e es all) is, rest)
         at false is rest = rest
 
@@ -85,7 +87,9 @@ module _ (targets voters : List AccountId) (m : ℕ) where
             apart_at voters e.voter x.voter distinct (All-head (λ (y : Edge). y.voter < length voters) e es within) facts.0 (other_voter e.voter x.voter e.target x.target m facts.1 here there)
 
         at : (b : Bool) → (gives_to m e && is_of own targets voters e) ≡ b → IsDistinct same_account (accounts own es)
-            → IsDistinct same_account (map (λ (backer : Backer). backer.who) (map (backer_of voters) (cond b (e ∷ filter (λ edge. gives_to m edge && is_of own targets voters edge) es) (filter (λ edge. gives_to m edge && is_of own targets voters edge) es))))
+            → IsDistinct same_account (map (λ (backer : Backer). backer.who)
+            (map (backer_of voters) (cond b (e ∷ filter (λ edge. gives_to m edge && is_of own targets voters edge)
+            es) (filter (λ edge. gives_to m edge && is_of own targets voters edge) es))))
         at true is rest = (
           all_accounts (λ y. same_account (account_at voters e.voter) y ≡ false) (λ x. (x.voter < length voters) × (same_pair e x ≡ false)) own es (apart is)
               (along (λ x. x.voter < length voters) (λ x. same_pair e x ≡ false) es (All-tail (λ (x : Edge). x.voter < length voters) e es within) pairs.0),
@@ -106,7 +110,9 @@ module _ (targets voters : List AccountId) (m : ℕ) where
         other : (e x : Edge) → (gives_to m e && is_of true targets voters e) ≡ true → (gives_to m x && is_of false targets voters x) ≡ true
             → same_account (account_at voters e.voter) (account_at voters x.voter) ≡ false
         other e x is also =
-            let itself : account_at voters e.voter ≡ account_at targets e.target = same_exact (account_at voters e.voter) (account_at targets e.target) (and_parts (gives_to m e) (is_of true targets voters e) is).1 in
+            let itself : account_at voters e.voter ≡ account_at targets e.target =
+            same_exact (account_at voters e.voter) (account_at targets e.target)
+            (and_parts (gives_to m e) (is_of true targets voters e) is).1 in
             let no_other : not (same_account (account_at voters x.voter) (account_at targets x.target)) ≡ true = (and_parts (gives_to m x) (is_of false targets voters x) also).1 in
             let one_target : e.target ≡ x.target = same_target e.target x.target m (to_target e (is_of true targets voters e) is) (to_target x (is_of false targets voters x) also) in
             same_turned (account_at voters x.voter) (account_at voters e.voter)

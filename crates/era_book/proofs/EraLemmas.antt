@@ -1,5 +1,6 @@
 -- The eras that are kept stay sound and as many as they have to be, and what is found in them.
-use Rattle.std.proofs.Common.{◌≡◌, ℕ, zero, suc, ◌+◌, ◌-◌, ◌<◌, ◌≤◌, Bool, true, false, cond, Bor, List, [], ◌∷◌, length, get_or, slice_get, slice_set, unwrap_or, fold, All, IfSome, IsSomeAnd, Option, Some, None, refl, ap, sym, subst, ◌∙◌, length-set, arith}
+use Rattle.std.proofs.Common.{◌≡◌, ℕ, zero, suc, ◌+◌, ◌-◌, ◌<◌, ◌≤◌, Bool, true, false, cond, Bor, List, [], ◌∷◌, length, get_or, slice_get}
+use Rattle.std.proofs.Common.{slice_set, unwrap_or, fold, All, IfSome, IsSomeAnd, Option, Some, None, refl, ap, sym, subst, ◌∙◌, length-set, arith}
 use Rattle.std.specs.BTreeMap.{is_at}
 use Rattle.std.specs.Option.{option_copied}
 use Rattle.std.proofs.lemmas.Bool.Decides.{nat_tests}
@@ -37,12 +38,16 @@ pub sound_newcomers : (exposures : List Exposure) → All IsSoundExposure exposu
 sound_newcomers exposures sound = all_with (λ member. IsSoundExposure member.exposure) [] exposures sound (All-nil (λ (member : Member). IsSoundExposure member.exposure))
 
 -- the latest era, or an earlier one, has other members
-pub kept_first : {queue : List DeferredSlash} {next : ℕ} (current : ℕ) (first other : Members) (later : List Members) → AreKept (record { current = current; kept = first ∷ later; queue = queue; next_slash = next }) → AreMembers other
+pub kept_first : {queue : List DeferredSlash} {next : ℕ} (current : ℕ) (first other : Members) (later : List Members)
+    → AreKept (record { current = current; kept = first ∷ later; queue = queue; next_slash = next })
+    → AreMembers other
     → AreKept (record { current = current; kept = other ∷ later; queue = queue; next_slash = next })
 kept_first {queue} {next} current first other later kept sound =
     record { count = kept.count; sound = All-cons AreMembers other later sound (All-tail AreMembers first later kept.sound) }
 
-pub kept_later : {queue : List DeferredSlash} {next : ℕ} (current : ℕ) (first other : Members) (later : List Members) (n : ℕ) → AreKept (record { current = current; kept = first ∷ later; queue = queue; next_slash = next }) → AreMembers other
+pub kept_later : {queue : List DeferredSlash} {next : ℕ} (current : ℕ) (first other : Members) (later : List Members)
+    (n : ℕ) → AreKept (record { current = current; kept = first ∷ later; queue = queue; next_slash = next })
+    → AreMembers other
     → AreKept (record { current = current; kept = first ∷ slice_set later n other; queue = queue; next_slash = next })
 kept_later {queue} {next} current first other later n kept sound =
     record {
@@ -75,7 +80,8 @@ found_sound None later n is all = tt
 found_sound (Some members) later n is all = subst (λ (o : Option Members). IfSome o AreMembers) (sym is) (all_at AreMembers later n all)
 
 -- an earlier era stands behind the latest one
-pub earlier_era : {queue : List DeferredSlash} {next : ℕ} (current era : ℕ) (first : Members) (later : List Members) → AreKept (record { current = current; kept = first ∷ later; queue = queue; next_slash = next })
+pub earlier_era : {queue : List DeferredSlash} {next : ℕ} (current era : ℕ) (first : Members) (later : List Members)
+    → AreKept (record { current = current; kept = first ∷ later; queue = queue; next_slash = next })
     → era ≤ current → (current - era ≡ 0 → ⊥) → slice_get later (current - era - 1) ≡ era_of (record { current = current; kept = first ∷ later; queue = queue; next_slash = next }) era
 earlier_era {queue} {next} current era first later kept begun behind = at (is_unknown (record { current = current; kept = first ∷ later; queue = queue; next_slash = next }) era) refl where
   behind_first : (n : ℕ) → (n ≡ 0 → ⊥) → slice_get later (n - 1) ≡ slice_get (first ∷ later) n
@@ -105,7 +111,9 @@ known_within eras era kept known =
 
 -- a change of a member of an earlier era
 pub earlier_changed : {queue : List DeferredSlash} {next : ℕ} (current era : ℕ) (who : AccountId) (change : Member → Member) (first old d : Members) (later : List Members)
-    → AreKept (record { current = current; kept = first ∷ later; queue = queue; next_slash = next }) → is_unknown (record { current = current; kept = first ∷ later; queue = queue; next_slash = next }) era ≡ false
+    → AreKept (record { current = current; kept = first ∷ later; queue = queue; next_slash = next })
+    → is_unknown (record { current = current; kept = first ∷ later; queue = queue; next_slash = next }) era
+    ≡ false
     → (current - era ≡ 0 → ⊥) → old ≡ get_or later (current - era - 1) d
     → record { current = current; kept = first ∷ slice_set later (current - era - 1) (with_member who change old); queue = queue; next_slash = next }
     ≡ with_member_in era who change (record { current = current; kept = first ∷ later; queue = queue; next_slash = next })
@@ -121,7 +129,9 @@ earlier_changed {queue} {next} current era who change first old d later kept kno
 
       found : old ≡ members_in eras era
       found =
-          is ∙ ap (λ (o : Option Members). unwrap_or o []) (sym (slice_get-get_or later (current - era - 1) d (omega (arith, within.1, behind))) ∙ earlier_era current era first later kept within.0 behind)
+          is ∙ ap (λ (o : Option Members). unwrap_or o [])
+          (sym (slice_get-get_or later (current - era - 1) d (omega (arith, within.1, behind)))
+          ∙ earlier_era current era first later kept within.0 behind)
 
       at : (n : ℕ) → (n ≡ 0 → ⊥) → current - era ≡ n → first ∷ slice_set later (n - 1) (with_member who change old) ≡ slice_set (first ∷ later) n (with_member who change old)
       at zero some e = absurd (some refl)
@@ -130,7 +140,9 @@ earlier_changed {queue} {next} current era who change first old d later kept kno
 -- and its era stays sound
 pub earlier_sound : {queue : List DeferredSlash} {next : ℕ} (current era : ℕ) (who : AccountId) (change : Member → Member) (first old d : Members) (later : List Members)
     → ((member : Member) → (change member).exposure ≡ member.exposure)
-    → AreKept (record { current = current; kept = first ∷ later; queue = queue; next_slash = next }) → is_unknown (record { current = current; kept = first ∷ later; queue = queue; next_slash = next }) era ≡ false
+    → AreKept (record { current = current; kept = first ∷ later; queue = queue; next_slash = next })
+    → is_unknown (record { current = current; kept = first ∷ later; queue = queue; next_slash = next }) era
+    ≡ false
     → (current - era ≡ 0 → ⊥) → old ≡ get_or later (current - era - 1) d
     → AreKept (record { current = current; kept = first ∷ slice_set later (current - era - 1) (with_member who change old); queue = queue; next_slash = next })
 earlier_sound {queue} {next} current era who change first old d later same kept known behind is =

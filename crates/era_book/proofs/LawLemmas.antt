@@ -1,5 +1,7 @@
 -- What all payouts of one era are together, and all that is due from one account.
-use Rattle.std.proofs.Common.{◌≡◌, ◌≢◌, ℕ, zero, suc, ◌+◌, ◌-◌, ◌<◌, ◌≤◌, Bool, true, false, cond, ◌||◌, nat_eq, nat_lt, nat_le, List, [], ◌∷◌, map, filter, fold, slice_get, unwrap_or, sum_by, All, IsSomeAnd, Option, Some, None, refl, ap, sym, subst, ◌∙◌, true≢false, lit≤, arith}
+use Rattle.std.proofs.Common.{◌≡◌, ◌≢◌, ℕ, zero, suc, ◌+◌, ◌-◌, ◌<◌, ◌≤◌, Bool, true, false, cond, ◌||◌, nat_eq}
+use Rattle.std.proofs.Common.{nat_lt, nat_le, List, [], ◌∷◌, map, filter, fold, slice_get, unwrap_or, sum_by, All}
+use Rattle.std.proofs.Common.{IsSomeAnd, Option, Some, None, refl, ap, sym, subst, ◌∙◌, true≢false, lit≤, arith}
 use Rattle.std.specs.Map.{values_of}
 use Rattle.std.proofs.lemmas.Bool.Decides.{nat_tests}
 use Rattle.std.proofs.lemmas.List.Elements.{All-nil, All-cons, All-head, All-tail}
@@ -97,11 +99,15 @@ got_within reward members sound =
     let points : ℕ = total_points members in
     omega (
       arith,
-      sum_under (λ member. IsSoundExposure member.exposure) (pay_of reward points) (λ member. part reward member.points points) (λ member s. one points member s member.claimed) (values_of members) sound,
+      sum_under (λ member. IsSoundExposure member.exposure) (pay_of reward points)
+          (λ member. part reward member.points points) (λ member s. one points member s member.claimed)
+          (values_of members) sound,
       parts_within (λ (member : Member). member.points) reward points (values_of members),
       part_whole reward points,
     ) where
-      one : (points : ℕ) (member : Member) → IsSoundExposure member.exposure → (b : Bool) → cond b (amount_sum (payout_lines member.exposure (part reward member.points points))) 0 ≤ part reward member.points points
+      one : (points : ℕ) (member : Member) → IsSoundExposure member.exposure → (b : Bool)
+          → cond b (amount_sum (payout_lines member.exposure (part reward member.points points))) 0 ≤ part reward
+          member.points points
       one points member s true = payout_within member.exposure (part reward member.points points) s
       one points member s false = omega arith
 
@@ -121,7 +127,9 @@ claim_adds reward members who unclaimed = at (member_of members who) refl unclai
   same = sum_stays (λ member. member.points) who claiming (λ member. refl) members
 
   at : (found : Option Member) → member_of members who ≡ found → IsSomeAnd found (λ member. member.claimed ≡ false)
-      → sum_by (pay_of reward (total_points (with_member who claiming members))) (values_of (with_member who claiming members)) ≡ sum_by (pay_of reward points) (values_of members) + (paid_to members reward found).total
+      → sum_by (pay_of reward (total_points (with_member who claiming members)))
+      (values_of (with_member who claiming members)) ≡ sum_by (pay_of reward points) (values_of members) +
+      (paid_to members reward found).total
   at None is unclaimed_yet = absurd unclaimed_yet
   at (Some member) is unclaimed_yet =
       let none : pay_of reward points member ≡ 0 = ap (λ b. cond b (amount_sum (payout_lines member.exposure (part reward member.points points))) 0) unclaimed_yet in
@@ -152,7 +160,9 @@ got_after era reward (Pointed items) eras ok kept fine late =
           let here : All (λ (member : Member). member.claimed ≡ false) (values_of (members_in eras eras.current)) =
           subst (λ n. All (λ (member : Member). member.claimed ≡ false) (values_of (members_in eras n))) (sym same) unclaimed in
           let now : all_pay reward (fold with_points (members_in eras eras.current) items) ≡ 0 =
-          nothing_got reward (fold with_points (members_in eras eras.current) items) (all_pointed (λ member. member.claimed ≡ false) (λ member points is. is) (members_in eras eras.current) items here) in
+          nothing_got reward (fold with_points (members_in eras eras.current) items)
+          (all_pointed (λ member. member.claimed ≡ false) (λ member points is. is) (members_in eras eras.current)
+          items here) in
           let before : all_pay reward (members_in eras era) ≡ 0 = nothing_got reward (members_in eras era) unclaimed in
           omega (arith, now, before)
       at false e = omega arith

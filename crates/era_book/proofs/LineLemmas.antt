@@ -67,7 +67,8 @@ payout_within exposure value sound =
     let lines : List Backer = map (backer_line exposure value) outer in
     let commission : commission_of exposure value ≤ value = part_within value exposure.commission WHOLE_FRACTION sound.commission in
     let shares : sum_by (λ (b : Backer). share exposure value b.amount) outer ≤ part rest (amount_sum outer) exposure.support = parts_within (λ (b : Backer). b.amount) rest exposure.support outer in
-    let both : part rest own exposure.support + part rest (amount_sum outer) exposure.support ≤ part rest (own + amount_sum outer) exposure.support = two_parts rest own (amount_sum outer) exposure.support in
+    let both : part rest own exposure.support + part rest (amount_sum outer) exposure.support ≤ part rest
+    (own + amount_sum outer) exposure.support = two_parts rest own (amount_sum outer) exposure.support in
     let all : part rest (own + amount_sum outer) exposure.support ≤ rest =
     part_within rest (own + amount_sum outer) exposure.support (omega (arith, own_and_others exposure.validator exposure.backers, sound.support)) in
     omega (

@@ -1,6 +1,7 @@
 -- The edges in the order of the voters: they are the same edges, and a sort by voter gives every
 -- target the same backers.
-use Rattle.std.proofs.Common.{◌≡◌, ℕ, zero, suc, ◌+◌, ◌<◌, ◌≤◌, Bool, true, false, cond, ◌&&◌, nat_eq, nat_lt, List, [], ◌∷◌, ◌++◌, length, map, filter, sum_by, get_or, All, refl, ap, ap₂, sym, subst, ◌∙◌, arith}
+use Rattle.std.proofs.Common.{◌≡◌, ℕ, zero, suc, ◌+◌, ◌<◌, ◌≤◌, Bool, true, false, cond, ◌&&◌, nat_eq, nat_lt, List, []}
+use Rattle.std.proofs.Common.{◌∷◌, ◌++◌, length, map, filter, sum_by, get_or, All, refl, ap, ap₂, sym, subst, ◌∙◌, arith}
 use Rattle.std.specs.List.{IsDistinct, AllByRecursion}
 use Rattle.std.specs.List.Sorted.{IsPermutation, IsNonDecreasingBy}
 use Rattle.std.proofs.lemmas.Bool.Decides.{nat_tests}
@@ -307,7 +308,9 @@ module _ (targets voters : List AccountId) (own : Bool) (target : ℕ) where
     at true is =
         let leads = test_leads voter edge is in
         let same : same_pair (record { voter = voter; target = target; amount = 0 }) edge ≡ true =
-        subst (λ (v : ℕ). (nat_eq v edge.voter && nat_eq target edge.target) ≡ true) leads.0 (subst (λ (t : ℕ). (nat_eq edge.voter edge.voter && nat_eq t edge.target) ≡ true) leads.1 (same_itself edge)) in
+        subst (λ (v : ℕ). (nat_eq v edge.voter && nat_eq target edge.target) ≡ true) leads.0
+        (subst (λ (t : ℕ). (nat_eq edge.voter edge.voter && nat_eq t edge.target) ≡ true) leads.1
+        (same_itself edge)) in
         let here : one (same_pair (record { voter = voter; target = target; amount = 0 }) edge) ≡ 1 = ap one same in
         omega (arith, here)
     at false is = omega arith
@@ -363,7 +366,9 @@ module _ (targets voters : List AccountId) (own : Bool) (target : ℕ) where
 backers_sorted : (targets voters : List AccountId) (n : ℕ) (old new : List Edge) (target : ℕ) → IsPermutation old new → Rises new → All (λ edge. edge.voter < n) new → IsDistinct same_pair old
     → backers_of targets voters new target ≡ backers_of targets voters (edges_by_voter n old) target
 backers_sorted targets voters n old new target moved up within distinct =
-    ap₂ (λ xs ys. map (backer_of voters) xs ++ map (backer_of voters) ys) (kept_sorted targets voters true target n old new moved up within distinct) (kept_sorted targets voters false target n old new moved up within distinct)
+    ap₂ (λ xs ys. map (backer_of voters) xs ++ map (backer_of voters) ys)
+    (kept_sorted targets voters true target n old new moved up within distinct)
+    (kept_sorted targets voters false target n old new moved up within distinct)
 
 pub exposures_sorted : (targets : List AccountId) (commissions supports : List ℕ) (voters : List AccountId) (n : ℕ) (old new : List Edge) (members : List ℕ)
     → IsPermutation old new → Rises new → All (λ edge. edge.voter < n) new → IsDistinct same_pair old

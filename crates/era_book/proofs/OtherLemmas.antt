@@ -22,7 +22,8 @@ set_other : (rows : Members) (who account : AccountId) (member : Member) → acc
     → member_of (set_value (is_at (account_cmp who)) rows member) account ≡ member_of rows account
 set_other [] who account member apart = refl
 set_other (row ∷ rows) who account member apart = at (account_cmp who row.0) refl (set_other rows who account member apart) where
-  here : account_cmp who row.0 ≡ Equal → cond (is_at (account_cmp account) row.0) (Some member) (member_of rows account) ≡ cond (is_at (account_cmp account) row.0) (Some row.1) (member_of rows account)
+  here : account_cmp who row.0 ≡ Equal → cond (is_at (account_cmp account) row.0) (Some member)
+      (member_of rows account) ≡ cond (is_at (account_cmp account) row.0) (Some row.1) (member_of rows account)
   here is =
       let other : is_at (account_cmp account) row.0 ≡ false = account_apart account row.0 (λ same. apart (same ∙ sym (account_exact who row.0 is))) in
       ap (λ b. cond b (Some member) (member_of rows account)) other ∙ sym (ap (λ b. cond b (Some row.1) (member_of rows account)) other)

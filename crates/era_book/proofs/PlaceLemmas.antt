@@ -121,7 +121,9 @@ set_at who (first ∷ seats) (suc i) after rising within here same =
     (set_at who seats i after (sorted_tail account_cmp first.validator (keys_of (entries_of seats)) rising) (omega (arith, within)) here same))
 
 -- a member changes, and no account does
-module _ (who : AccountId) (seats : List Seat) (i : ℕ) (seat after : Seat) (rising : AreRising seats) (here : (i < length seats) × IsSeatOf who seats i) (is : seat ≡ get_or seats i seat) (same : after.validator ≡ seat.validator) where
+module _ (who : AccountId) (seats : List Seat) (i : ℕ) (seat after : Seat) (rising : AreRising seats)
+    (here : (i < length seats) × IsSeatOf who seats i) (is : seat ≡ get_or seats i seat) (same : after.validator
+    ≡ seat.validator) where
   account : after.validator ≡ who
   account = same ∙ (ap (λ (s : Seat). s.validator) is ∙ here.1 seat)
 

@@ -1,5 +1,6 @@
 -- What is kept stands for the same members as the accounts of their era grow, and after one of them changed.
-use Rattle.std.proofs.Common.{◌≡◌, ℕ, suc, ◌+◌, ◌<◌, Bool, true, false, cond, ◌&&◌, List, [], ◌∷◌, ◌++◌, length, length-append, map, filter, take, get_or, All, Option, Some, None, is_some, refl, ap, ap₂, sym, ◌∙◌, arith}
+use Rattle.std.proofs.Common.{◌≡◌, ℕ, suc, ◌+◌, ◌<◌, Bool, true, false, cond, ◌&&◌, List, [], ◌∷◌, ◌++◌, length, length-append}
+use Rattle.std.proofs.Common.{map, filter, take, get_or, All, Option, Some, None, is_some, refl, ap, ap₂, sym, ◌∙◌, arith}
 use Rattle.std.specs.BTreeMap.{is_at, insert_entry}
 use Rattle.std.specs.Map.{lookup, set_value, values_of}
 use Rattle.std.specs.Option.{option_map}
@@ -198,9 +199,12 @@ exposed_more exposed members i within =
 
 -- one more member is seated
 pub member_seated : (targets : List AccountId) (commissions supports : List ℕ) (voters : List AccountId) (edges : List Edge) (seats : List (AccountId × Seat)) (seat : Seat) (members : List ℕ) (i : ℕ)
-    → i < length members → seat ≡ seat_of (account_at targets (get_or members i 0)) (get_or commissions (get_or members i 0) 0) (get_or supports (get_or members i 0) 0) (shares_of targets voters edges (get_or members i 0))
+    → i < length members → seat ≡ seat_of (account_at targets (get_or members i 0))
+    (get_or commissions (get_or members i 0) 0) (get_or supports (get_or members i 0) 0)
+    (shares_of targets voters edges (get_or members i 0))
     → members_seen voters seats ≡ members_with (map (exposure_of targets commissions supports voters edges) (take i members))
-    → members_seen voters (insert_entry account_cmp seats (account_at targets (get_or members i 0)) seat) ≡ members_with (map (exposure_of targets commissions supports voters edges) (take (i + 1) members))
+    → members_seen voters (insert_entry account_cmp seats (account_at targets (get_or members i 0)) seat)
+    ≡ members_with (map (exposure_of targets commissions supports voters edges) (take (i + 1) members))
 member_seated targets commissions supports voters edges seats seat members i within is before =
     members_inserted voters (account_at targets m) seat seats
     ∙ (ap₂ (λ (rows : Members) (member : Member). insert_entry account_cmp rows (account_at targets m) member) before seen

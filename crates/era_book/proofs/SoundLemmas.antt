@@ -38,7 +38,8 @@ module _ (targets voters : List AccountId) (commissions supports : List ℕ) (ed
       })
       (each_sound ms voters_are commissions_are within pairs (All-tail (λ member. get_or supports member 0 ≡ support edges member) m ms given))
 
-  others_apart : (m : ℕ) (members : List ℕ) → IsDistinct same_account targets → m < length targets → All (λ member. member < length targets) members → AllByRecursion (λ other. nat_eq m other ≡ false) members
+  others_apart : (m : ℕ) (members : List ℕ) → IsDistinct same_account targets → m < length targets
+      → All (λ member. member < length targets) members → AllByRecursion (λ other. nat_eq m other ≡ false) members
       → AllByRecursion (λ who. same_account (account_at targets m) who ≡ false) (map (λ (exposure : Exposure). exposure.validator) (map exposed members))
   others_apart m [] distinct here within apart = tt
   others_apart m (n ∷ ns) distinct here within apart = (

@@ -14,3 +14,4 @@ pub mod Course
 pub mod Laws
 pub mod Committee
 pub mod Seats
+pub mod Limits

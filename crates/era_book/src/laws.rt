@@ -1,6 +1,7 @@
 //! What holds of payouts and slashes. Each law is the contract of a function that does nothing.
 ghost use Rattle.era_book.specs.Committee.{SupportLaw, SpentLaw, BackersLaw, SoundLaw, OrderLaw};
 ghost use Rattle.era_book.specs.Laws.{PayoutLaw, TelescopeLaw, RewardLaw, DueLaw, InOrderLaw, RewardOnLaw, DueOnLaw, WaitingLaw, PutLaw, ValuesLaw, BareLaw, SameErasLaw, WholeLaw, BackedLaw};
+ghost use Rattle.era_book.specs.Limits.{AreTheLimits};
 
 /// A validator and its backers together are paid at most what is to be paid to them: each part is
 /// rounded down.
@@ -77,4 +78,9 @@ pub fn eras_are_made_anew_from_their_members()
 pub fn members_stay_whole()
     ensures whole { WholeLaw }
     ensures backed { BackedLaw }
+{}
+
+/// The limit that the code names is this number.
+pub fn the_limits_are_these()
+    ensures { AreTheLimits }
 {}

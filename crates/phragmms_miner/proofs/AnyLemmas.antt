@@ -1,5 +1,6 @@
 -- Every election with enough targets has a run: turns unit by unit, rounds of them, seat after seat.
-use Rattle.std.proofs.Common.{◌≡◌, ◌⊎◌, ℕ, zero, suc, ◌+◌, ◌-◌, ◌<◌, ◌≤◌, ◌&&◌, Bool, true, false, cond, not, nat_eq, List, [], ◌∷◌, ◌++◌, length, get_or, All, inl, inr, refl, ap, ap₂, sym, subst, ◌∙◌, arith, length-append}
+use Rattle.std.proofs.Common.{◌≡◌, ◌⊎◌, ℕ, zero, suc, ◌+◌, ◌-◌, ◌<◌, ◌≤◌, ◌&&◌, Bool, true, false, cond, not, nat_eq, List, []}
+use Rattle.std.proofs.Common.{◌∷◌, ◌++◌, length, get_or, All, inl, inr, refl, ap, ap₂, sym, subst, ◌∙◌, arith, length-append}
 use Rattle.std.specs.List.{AllPairs, AllByRecursion, IsDistinct, list_any, range_with_len}
 use Rattle.std.proofs.lemmas.List.Folds.{Any-from_list_any, list_any-append}
 use Rattle.std.proofs.lemmas.List.Elements.{All-head, All-tail, All-cons, All-nil, All-filter, All-append, All-from_recursion, filter_passes}
@@ -489,7 +490,14 @@ module _ (snapshot : Snapshot) (rounds seat : ℕ) (some : 1 ≤ rounds) (old : 
         let all = range_with_len 0 (length snapshot.targets) in
         let covered = sum_covered (λ _. 1) all old.committee (range_distinct 0 (length snapshot.targets)) (λ k d h.
         let target = get_or all k d in
-        not-false (has old.committee target) (none target (omega (arith, length-range_with_len 0 (length snapshot.targets), h, get_or-range_with_len 0 (length snapshot.targets) k d (omega (arith, h, length-range_with_len 0 (length snapshot.targets))))))) in
+        not-false (has old.committee target) (none target
+        (omega (
+          arith,
+          length-range_with_len 0 (length snapshot.targets),
+          h,
+          get_or-range_with_len 0 (length snapshot.targets) k d
+              (omega (arith, h, length-range_with_len 0 (length snapshot.targets))),
+        )))) in
         absurd (omega (arith, covered, sum_of_ones all, sum_of_ones old.committee, length-range_with_len 0 (length snapshot.targets), state.count, open_seat))
   ]
 
@@ -537,7 +545,9 @@ module _ (snapshot : Snapshot) (rounds seat : ℕ) (some : 1 ≤ rounds) (old : 
     rises = rising_pairs edges (tidy_rises balance.new)
 
     spends : (voter : ℕ) → voter < length snapshot.voters → spent edges voter ≤ stake_of snapshot voter
-    spends voter h = by (edges_from edges voter) refl (All-filter (λ (e : Edge). nat_eq e.voter voter) (λ (e : Edge). (e.voter < length snapshot.voters) × (backs snapshot members e.voter e.target ≡ true)) edges each)
+    spends voter h = by (edges_from edges voter) refl (All-filter (λ (e : Edge). nat_eq e.voter voter)
+        (λ (e : Edge). (e.voter < length snapshot.voters) × (backs snapshot members e.voter e.target ≡ true)) edges
+        each)
         (λ k d l. filter_passes (λ (e : Edge). nat_eq e.voter voter) edges k d l) where
           by : (own : List Edge) → edges_from edges voter ≡ own → All (λ (e : Edge). (e.voter < length snapshot.voters) × (backs snapshot members e.voter e.target ≡ true)) (edges_from edges voter)
               → All (λ (e : Edge). nat_eq e.voter voter ≡ true) (edges_from edges voter) → spent edges voter ≤ stake_of snapshot voter

@@ -1,5 +1,6 @@
 -- The run, seat by seat.
-use Rattle.std.proofs.Common.{◌≡◌, ℕ, zero, suc, ◌+◌, ◌<◌, ◌≤◌, Bool, true, false, not, List, [], ◌∷◌, ◌++◌, length, take, filter, get_or, slice_index_or, inl, inr, refl, ap, sym, subst, ◌∙◌, arith, append-nil}
+use Rattle.std.proofs.Common.{◌≡◌, ℕ, zero, suc, ◌+◌, ◌<◌, ◌≤◌, Bool, true, false, not, List, [], ◌∷◌, ◌++◌, length, take}
+use Rattle.std.proofs.Common.{filter, get_or, slice_index_or, inl, inr, refl, ap, sym, subst, ◌∙◌, arith, append-nil}
 use Rattle.std.specs.List.{range_with_len}
 use Rattle.std.proofs.lemmas.List.{take-append-le, take_all, get_or_append_left, get_or_push}
 use Rattle.std.proofs.lemmas.List.Elements.{All-filter, filter-append}
@@ -26,7 +27,15 @@ outside_of committee targets = filter (λ target. not (has committee target)) (r
 pub outside_rising : (committee : List ℕ) (targets : ℕ) → AreRising targets (outside_of committee targets)
 outside_rising committee targets = record {
   rising = AllPairs-filter (λ a b. a < b) (λ target. not (has committee target)) (range_with_len 0 targets)
-      (λ i j d a b. omega (arith, a, length-range_with_len 0 targets, get_or-range_with_len 0 targets i d (omega (arith, a, b, length-range_with_len 0 targets)), get_or-range_with_len 0 targets j d (omega (arith, b, length-range_with_len 0 targets))));
+      (λ i j d a b. omega (
+        arith,
+        a,
+        length-range_with_len 0 targets,
+        get_or-range_with_len 0 targets i d
+            (omega (arith, a, b, length-range_with_len 0 targets)),
+        get_or-range_with_len 0 targets j d
+            (omega (arith, b, length-range_with_len 0 targets)),
+      ));
   in_range = All-filter (λ target. not (has committee target)) (λ target. target < targets) (range_with_len 0 targets)
       (λ k d h. omega (arith, length-range_with_len 0 targets, get_or-range_with_len 0 targets k d (omega (arith, h, length-range_with_len 0 targets))));
 }

@@ -1,5 +1,6 @@
 -- Links from each nominator to the next, as they are made from the last voter to the first.
-use Rattle.std.proofs.Common.{◌≡◌, ℕ, zero, suc, ◌+◌, ◌-◌, ◌<◌, ◌≤◌, ◌⊎◌, Bool, true, false, cond, nat_eq, List, [], ◌∷◌, length, take, get_or, set, filter, Some, slice_get, All, inl, inr, refl, ap, sym, subst, ◌∙◌, arith}
+use Rattle.std.proofs.Common.{◌≡◌, ℕ, zero, suc, ◌+◌, ◌-◌, ◌<◌, ◌≤◌, ◌⊎◌, Bool, true, false, cond, nat_eq, List, [], ◌∷◌, length}
+use Rattle.std.proofs.Common.{take, get_or, set, filter, Some, slice_get, All, inl, inr, refl, ap, sym, subst, ◌∙◌, arith}
 use Rattle.std.specs.List.{range_with_len, IsDistinct}
 use Rattle.std.proofs.lemmas.Bool.{cases_Bool, cases_eq, cases_lt, cond-true, cond-false, eq-eqb, eqb-true, true≢false}
 use Rattle.std.proofs.lemmas.Bool.Decides.{Decides-eqb}
@@ -175,7 +176,12 @@ module _ (snapshot : Snapshot) (starts : List ℕ) where
             (subst (Leads snapshot target (voter + 1)) (sym (linked place target at_here)) (so_far.firsts_lead target (ranged place target at_here)))
         | inr differ ↦
             let above : voter < other = beyond_apart voter other beyond differ in
-            subst (Leads snapshot target (other + 1)) (sym (kept (says starts other + place) (omega (arith, starts_rise snapshot starts voter other are_starts above (omega (arith, in_voters other place target at))))))
+            subst (Leads snapshot target (other + 1)) (sym
+            (kept (says starts other + place) (omega (
+              arith,
+              starts_rise snapshot starts voter other are_starts
+                  above (omega (arith, in_voters other place target at)),
+            ))))
             (so_far.nexts_lead other place target (omega (arith, above)) at)
       ];
     } where

@@ -1,8 +1,10 @@
 -- One pick's draws, nominator by nominator, and the tables beside them.
-use Rattle.std.proofs.Common.{◌≡◌, ℕ, zero, suc, ◌+◌, ◌-◌, ◌<◌, ◌≤◌, ◌⊎◌, min, Bool, true, false, cond, nat_eq, nat_lt, List, [], ◌∷◌, ◌++◌, length, length-append, length-drop, take, drop, get_or, set, map, filter, sum_by, inl, inr, refl, ap, sym, subst, ◌∙◌, arith}
+use Rattle.std.proofs.Common.{◌≡◌, ℕ, zero, suc, ◌+◌, ◌-◌, ◌<◌, ◌≤◌, ◌⊎◌, min, Bool, true, false, cond, nat_eq, nat_lt, List, [], ◌∷◌, ◌++◌, length}
+use Rattle.std.proofs.Common.{length-append, length-drop, take, drop, get_or, set, map, filter, sum_by, inl, inr, refl, ap, sym, subst, ◌∙◌, arith}
 use Rattle.std.specs.List.{range_with_len}
 use Rattle.std.proofs.Math.Seq.{take-append_seam}
-use Rattle.std.proofs.lemmas.List.{take_all, take_more, map_more, length-set, take-append-le, get_or_append_left, get_or_push, get_or-set_same, get_or-set_other, append_assoc, append-nil, drop_more, set-get_or}
+use Rattle.std.proofs.lemmas.List.{take_all, take_more, map_more, length-set, take-append-le, get_or_append_left, get_or_push}
+use Rattle.std.proofs.lemmas.List.{get_or-set_same, get_or-set_other, append_assoc, append-nil, drop_more, set-get_or}
 use Rattle.std.proofs.lemmas.List.Elements.{filter-append}
 use Rattle.std.proofs.lemmas.List.Sums.{sum_by_push}
 use Rattle.std.proofs.lemmas.Bool.{cases_Bool, cases_eq, cases_lt, cond-true, cond-false, eq-eqb, ne_eqb, true≢false}
@@ -85,7 +87,8 @@ module _ (snapshot : Snapshot) (left : List ℕ) (voter amount : ℕ) (size : le
   module _ (backings : List ℕ) (are : AreSums snapshot left backings) (sound : IsVoterOf (length snapshot.targets) (voter_at snapshot voter)) where
     pub backing_is_enough : (target : ℕ) → nominates snapshot voter target ≡ true → amount ≤ says backings target
     backing_is_enough target t =
-        let in_targets : target < length snapshot.targets = all_at (λ n. n < length snapshot.targets) (votes_of snapshot voter) sound.votes_in_range target (from_has (votes_of snapshot voter) target t) in
+        let in_targets : target < length snapshot.targets = all_at (λ n. n < length snapshot.targets)
+        (votes_of snapshot voter) sound.votes_in_range target (from_has (votes_of snapshot voter) target t) in
         omega (arith, enough, are target in_targets, term_le (says left) (nominators snapshot target) voter (has_nominators snapshot voter target t))
 
     pub backings_lowered : (new : List ℕ) → ((target : ℕ) → target < length snapshot.targets

@@ -1,12 +1,12 @@
 //! Words and the commands that they ask for. The expected ones are the rules', by hand.
 use npos_base::NoMemory;
-use npos_words::{Command, Miner, command_of, laws};
+use npos_words::{Command, command_of, laws};
 use std::alloc::Global;
 use std::test::Fail;
 
 /// Words behind the program's name, parted by blanks, and the text of their command, which is empty
 /// where they have none.
-static WORDS: [(&str, &str); 54] = [
+static WORDS: [(&str, &str); 56] = [
     ("replay", "replay"),
     ("check", "check"),
     ("pack", "pack"),
@@ -23,12 +23,14 @@ static WORDS: [(&str, &str); 54] = [
     ("best", ""),
     ("Replay", ""),
     ("--", ""),
-    ("mine --rounds 3 --miner=mms", "mine mms 3"),
-    ("mine --miner fill", "mine fill 8"),
+    ("mine --rounds 3 --miner=mms", "mine Mms(3)"),
+    ("mine --miner fill", "mine Fill"),
+    ("mine --miner mms", "mine Mms(8)"),
     (
-        "mine --miner=seq --rounds=00000000000000000100",
-        "mine seq 100",
+        "mine --miner=mms --rounds=00000000000000000100",
+        "mine Mms(100)",
     ),
+    ("mine --miner=seq --rounds 100", "mine Seq"),
     ("mine --miner mms --rounds 0", ""),
     ("mine --miner mms --rounds 101", ""),
     ("mine", ""),
@@ -79,14 +81,7 @@ fn told(alloc: Global, command: &Option<Command>) -> Result<String, Fail> {
         Some(Command::Checkpoint) => format!(in alloc; "checkpoint")?,
         Some(Command::Resume) => format!(in alloc; "resume")?,
         Some(Command::Pools) => format!(in alloc; "pools")?,
-        Some(Command::Mine { miner, rounds }) => {
-            let name = match miner {
-                Miner::Fill => "fill",
-                Miner::Seq => "seq",
-                Miner::Mms => "mms",
-            };
-            format!(in alloc; "mine {name} {rounds}")?
-        }
+        Some(Command::Mine(miner)) => format!(in alloc; "mine {miner:?}")?,
         Some(
             Command::Demo {
                 seed,

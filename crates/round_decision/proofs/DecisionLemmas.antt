@@ -173,3 +173,6 @@ left_later queue now next left is = at now.items refl where
     split = left.split ∙ (ap (λ xs. left.taken ++ xs) (e ∙ ap (λ xs. item ∷ xs) (sym (ap (λ (q : Ranking). q.items) is ∙ ap (drop 1) e)))
         ∙ sym (append_assoc left.taken (item ∷ []) next.items));
   }
+
+-- by these `decision` goes on
+pub ruleset leaving = (left_later, left_whole)

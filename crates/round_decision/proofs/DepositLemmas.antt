@@ -116,3 +116,6 @@ held_more book item items are = record {
 pub known_returned : (book : Ledger) (item : Submission) (rest : List Submission) → AreHeld book (item ∷ rest) → is_some (row_of (returned book item) item.who) ≡ true
 known_returned book item rest are =
     known-returned item.who item.deposit book item.who (held_within book (item ∷ rest) item rest are refl) ∙ known_first book item rest are
+
+-- by these `decision` goes on
+pub ruleset holding = (front, held_within)

@@ -1,5 +1,6 @@
 -- The members of a committee in rising order.
-use Rattle.std.proofs.Common.{◌≡◌, ◌↔◌, ℕ, zero, suc, ◌+◌, ◌<◌, ◌≤◌, Bool, true, false, cond, nat_eq, ◌||◌, All, List, [], ◌∷◌, ◌++◌, filter, map, take, get_or, slice_get, Some, length, refl, sym, ◌∙◌, ap, ap₂, arith, IsPermutation}
+use Rattle.std.proofs.Common.{◌≡◌, ◌↔◌, ℕ, zero, suc, ◌+◌, ◌<◌, ◌≤◌, Bool, true, false, cond, nat_eq, ◌||◌, All, List, [], ◌∷◌, ◌++◌}
+use Rattle.std.proofs.Common.{filter, map, take, get_or, slice_get, Some, length, refl, sym, ◌∙◌, ap, ap₂, arith, IsPermutation}
 use Rattle.std.specs.List.{range_with_len, AllPairs}
 use Rattle.std.specs.List.Sorted.{IsStrictlyIncreasing}
 use Rattle.std.proofs.lemmas.Bool.Decides.{nat_tests}

@@ -55,7 +55,7 @@ fn forfeit(
 /// Judges the submissions by rank up to the first that holds, which is the winner. The deposits of
 /// those before it are burned, also where memory is refused before it is found. The weights of its
 /// solution are then in `weights`.
-#[tactic(auto, using(crate::proofs::DepositLemmas::front, crate::proofs::DepositLemmas::held_within, crate::proofs::DecisionLemmas::left_later, crate::proofs::DecisionLemmas::left_whole))]
+#[tactic(auto, using(crate::proofs::DepositLemmas::holding, crate::proofs::DecisionLemmas::leaving))]
 fn find_winner(
     alloc: Global,
     checker: &mut Checker,

@@ -14,7 +14,9 @@ use Rattle.scale_wire.specs.ValueLaws.{flag_is}
 use Rattle.scale_wire.specs.Reading.{Place, Refuses, IsRead, IsFault, Reads, HasRest, BadWhole, HasFront, Writes}
 
 -- what is refused behind the head is refused as the whole
-pub behind_fault : {A : Type 0} (head : Form A) (bad : A → List ℕ → ℕ → Why → Type 0) (old mid new : Place) (first : A) (fault : WireFault) → IsRead head old first mid → Refuses (bad first) mid fault new → Refuses (BadThen head bad) old fault old
+pub behind_fault : {A : Type 0} (head : Form A) (bad : A → List ℕ → ℕ → Why
+    → Type 0) (old mid new : Place) (first : A) (fault : WireFault) → IsRead head old first mid
+    → Refuses (bad first) mid fault new → Refuses (BadThen head bad) old fault old
 behind_fault head bad old mid new first fault read refused = record {
   place = length (head.spelling first) + refused.place;
   bad = inr record {
@@ -31,17 +33,22 @@ behind_fault head bad old mid new first fault read refused = record {
 }
 
 -- the second of a pair was refused
-pub pair_err : {A B : Type 0} (a : Form A) (b : Form B) (old mid new : Place) (first : A) (fault : ReadFault) → IsRead a old first mid → Reads b mid (Err fault) new → Reads (pair a b) old (Err fault) old
+pub pair_err : {A B : Type 0} (a : Form A) (b : Form B) (old mid new : Place) (first : A) (fault : ReadFault)
+    → IsRead a old first mid → Reads b mid (Err fault) new → Reads (pair a b) old (Err fault) old
 pair_err a b old mid new first (Wire fault) read refused = behind_fault a (λ _. b.bad) old mid new first fault read refused
 pair_err a b old mid new first NoMemory read refused = refl
 
 -- what follows the first of a triple was refused
-pub triple_err : {A B C : Type 0} (a : Form A) (b : Form B) (c : Form C) (old mid new : Place) (first : A) (fault : ReadFault) → IsRead a old first mid → Reads (pair b c) mid (Err fault) new → Reads (triple a b c) old (Err fault) old
+pub triple_err : {A B C : Type 0} (a : Form A) (b : Form B) (c : Form C) (old mid new : Place) (first : A)
+    (fault : ReadFault) → IsRead a old first mid → Reads (pair b c) mid (Err fault) new
+    → Reads (triple a b c) old (Err fault) old
 triple_err a b c old mid new first (Wire fault) read refused = behind_fault a (λ _. (pair b c).bad) old mid new first fault read refused
 triple_err a b c old mid new first NoMemory read refused = refl
 
 -- a byte follows the value that was read
-pub bad_whole : {V : Type 0} (form : Form V) (bytes : List ℕ) (value : V) (end : Place) → IsRead form (record { at = 0; rest = bytes }) value end → 0 < length end.rest → BadWhole form bytes end.at Trailing
+pub bad_whole : {V : Type 0} (form : Form V) (bytes : List ℕ) (value : V) (end : Place)
+    → IsRead form (record { at = 0; rest = bytes }) value end → 0 < length end.rest
+    → BadWhole form bytes end.at Trailing
 bad_whole form bytes value end read more = inr (refl, rest_of end.rest read.whole more)
   where
     rest_of : (rest : List ℕ) → bytes ≡ form.spelling value ++ rest → 0 < length rest → HasRest form bytes end.at
@@ -79,7 +86,9 @@ writes_behind first second old mid (Ok done) new first_is written = written ∙ 
 writes_behind first second old mid (Err e) new first_is has = front_behind first second old mid new first_is has
 
 -- the value behind the tag of an option was refused; `here` is a copy of the cursor as it was
-pub optional_err : {A : Type 0} (value : Form A) (old here mid new : Place) (tag : ℕ) (fault : ReadFault) → here ≡ old → tag ≢ 0 → IsRead (tag_form 2) here tag mid → Reads value mid (Err fault) new → Reads (optional value) old (Err fault) old
+pub optional_err : {A : Type 0} (value : Form A) (old here mid new : Place) (tag : ℕ) (fault : ReadFault) → here ≡ old
+    → tag ≢ 0 → IsRead (tag_form 2) here tag mid → Reads value mid (Err fault) new
+    → Reads (optional value) old (Err fault) old
 optional_err value old here mid new tag (Wire fault) same not_none read refused =
     let is_some : tag ≡ 1 = omega (arith, read.in_range) in
     subst (λ (o : Place). IsFault (optional value) o fault o) same (behind_fault (tag_form 2) (BadOptional value) here mid new tag fault read record {
@@ -95,7 +104,9 @@ pub second_front : (first second third old mid new : List ℕ) → mid ≡ old +
 second_front first second third old mid new first_is has = front_behind first (second ++ third) old mid new first_is (front_more second third mid new has)
 
 -- two of three were appended, and then the third was written
-pub third_written : {E : Type 0} (first second third old mid next : List ℕ) (result : Result Unit E) (new : List ℕ) → mid ≡ old ++ first → next ≡ mid ++ second → Writes third next result new → Writes (first ++ (second ++ third)) old result new
+pub third_written : {E : Type 0} (first second third old mid next : List ℕ) (result : Result Unit E) (new : List ℕ)
+    → mid ≡ old ++ first → next ≡ mid ++ second → Writes third next result new
+    → Writes (first ++ (second ++ third)) old result new
 third_written first second third old mid next result new first_is second_is written =
     writes_behind first (second ++ third) old mid result new first_is (writes_behind second third mid next result new second_is written)
 

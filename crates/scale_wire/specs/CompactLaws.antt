@@ -9,7 +9,8 @@ use Rattle.scale_wire.specs.Form.{IsWire, IsBytes, part}
 use Rattle.scale_wire.specs.LittleEndian.{number_from}
 use Rattle.scale_wire.specs.LittleEndianLaws.{length-little_endian}
 use Rattle.scale_wire.specs.Refusal.{first_reason}
-use Rattle.scale_wire.specs.Compact.{Mode, OneByte, TwoBytes, FourBytes, Big, mode_of, announced, bytes_in, number_in, announces_over, is_longer_in, least_bytes, compact_bytes, compact_reasons, compact_refusal}
+use Rattle.scale_wire.specs.Compact.{Mode, OneByte, TwoBytes, FourBytes, Big, mode_of, announced, bytes_in, number_in}
+use Rattle.scale_wire.specs.Compact.{announces_over, is_longer_in, least_bytes, compact_bytes, compact_reasons, compact_refusal}
 use Rattle.scale_wire.specs.Parts.{compact_form, length_form, length_refusal, compact_u16, compact_u32, compact_u64}
 use Rattle.scale_wire.specs.PartLaws.{IsHead, IsPart, part_laws, not_lacking, some_left}
 use Rattle.scale_wire.specs.TableLaws.{by_reason}

@@ -80,7 +80,9 @@ module _ {V : Type 0} (form : Form V) (laws : IsWire form) where
         | inr there ↦ elim bad' [
           | inl here' ↦ absurd (never_both bytes (rest_begins bytes at there.1) record { at = at'; why = why'; bad = here' })
           | inr there' ↦
-              let p = laws.one_reading there.1.value there'.1.value (there.1.next ∷ there.1.rest) (there'.1.next ∷ there'.1.rest) there.1.in_range there'.1.in_range (sym there.1.whole ∙ there'.1.whole) in
+              let p = laws.one_reading there.1.value there'.1.value (there.1.next ∷ there.1.rest)
+              (there'.1.next ∷ there'.1.rest) there.1.in_range there'.1.in_range (sym there.1.whole
+              ∙ there'.1.whole) in
               (there.1.at_is ∙ (ap (λ (v : V). length (form.spelling v)) p.0 ∙ sym there'.1.at_is), there.0 ∙ sym there'.0)
         ]
       ]

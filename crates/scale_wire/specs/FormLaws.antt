@@ -6,7 +6,8 @@ use Rattle.scale_wire.specs.declared.fault.Why.{Why}
 use Rattle.scale_wire.specs.declared.fault.Why.TheVariants.{Short, Trailing}
 use Rattle.scale_wire.specs.Form.{Form, Begins, IsRefused, IsWire, IsBytes, IsAtMost, IsBelow, IsShorter, both, times, either}
 use Rattle.scale_wire.specs.Parts.{byte_string, length_form, tag_form}
-use Rattle.scale_wire.specs.Composite.{BadThen, pair, triple, seen, nothing, items, row, IsRow, longest_row, list, byte_list, optional, optional_bytes, BadOptional, Fields, variant_at, longest_variant, Choice, choice, behind_tag}
+use Rattle.scale_wire.specs.Composite.{BadThen, pair, triple, seen, nothing, items, row, IsRow, longest_row, list, byte_list, optional}
+use Rattle.scale_wire.specs.Composite.{optional_bytes, BadOptional, Fields, variant_at, longest_variant, Choice, choice, behind_tag}
 
 pub IsBytes-rest : (front rest : List ℕ) → IsBytes (front ++ rest) → IsBytes rest
 IsBytes-rest [] rest bytes = bytes
@@ -129,7 +130,9 @@ module _ {V W : Type 0} (form : Form V) (of : Form W) (make : W → V) (made : I
   made_reading x y rest more x_fits y_fits same =
       let from_x = made.comes x x_fits in
       let from_y = made.comes y y_fits in
-      let p = laws.one_reading from_x.0 from_y.0 rest more from_x.1 from_y.1 (ap (λ (s : List ℕ). s ++ rest) (sym (made_spelling x x_fits)) ∙ (same ∙ ap (λ (s : List ℕ). s ++ more) (made_spelling y y_fits))) in
+      let p = laws.one_reading from_x.0 from_y.0 rest more from_x.1 from_y.1
+      (ap (λ (s : List ℕ). s ++ rest) (sym (made_spelling x x_fits))
+      ∙ (same ∙ ap (λ (s : List ℕ). s ++ more) (made_spelling y y_fits))) in
       (sym from_x.2 ∙ (ap make p.0 ∙ from_y.2), p.1)
 
   made_covers : (bytes : List ℕ) → IsBytes bytes → Begins form bytes ⊎ IsRefused form bytes
@@ -191,16 +194,25 @@ followed head first_of tail most = record {
   longest = both head.longest most;
 }
 
-module _ {A W : Type 0} (head : Form A) (first_of : W → A) (tail : A → Form W) (most : Option ℕ) (head_laws : IsWire head) (tail_laws : (a : A) → head.in_range a → IsWire (tail a)) (agrees : (a : A) (w : W) → (tail a).in_range w → first_of w ≡ a) (within : (a : A) → head.in_range a → IsWithin (tail a).longest most) where
-  tail_reading : (a a' : A) → a ≡ a' → head.in_range a → (x y : W) (rest more : List ℕ) → (tail a).in_range x → (tail a').in_range y → (tail a).spelling x ++ rest ≡ (tail a').spelling y ++ more → (x ≡ y) × (rest ≡ more)
+module _ {A W : Type 0} (head : Form A) (first_of : W → A) (tail : A
+    → Form W) (most : Option ℕ) (head_laws : IsWire head) (tail_laws : (a : A) → head.in_range a
+    → IsWire (tail a)) (agrees : (a : A) (w : W) → (tail a).in_range w → first_of w ≡ a) (within : (a : A)
+    → head.in_range a → IsWithin (tail a).longest most) where
+  tail_reading : (a a' : A) → a ≡ a' → head.in_range a → (x y : W) (rest more : List ℕ) → (tail a).in_range x
+      → (tail a').in_range y → (tail a).spelling x ++ rest ≡ (tail a').spelling y ++ more → (x ≡ y) × (rest ≡ more)
   tail_reading a a' path a_fits x y rest more x_fits y_fits same =
       let y_at_a : (tail a).in_range y = subst (λ (b : A). (tail b).in_range y) (sym path) y_fits in
       let same_at_a : (tail a).spelling x ++ rest ≡ (tail a).spelling y ++ more = subst (λ (b : A). (tail a).spelling x ++ rest ≡ (tail b).spelling y ++ more) (sym path) same in
       (tail_laws a a_fits).one_reading x y rest more x_fits y_at_a same_at_a
 
-  followed_reading : (x y : W) (rest more : List ℕ) → (followed head first_of tail most).in_range x → (followed head first_of tail most).in_range y → (followed head first_of tail most).spelling x ++ rest ≡ (followed head first_of tail most).spelling y ++ more → (x ≡ y) × (rest ≡ more)
+  followed_reading : (x y : W) (rest more : List ℕ) → (followed head first_of tail most).in_range x
+      → (followed head first_of tail most).in_range y → (followed head first_of tail most).spelling x ++ rest
+      ≡ (followed head first_of tail most).spelling y ++ more → (x ≡ y) × (rest ≡ more)
   followed_reading x y rest more x_fits y_fits same =
-      let p = head_laws.one_reading (first_of x) (first_of y) ((tail (first_of x)).spelling x ++ rest) ((tail (first_of y)).spelling y ++ more) x_fits.0 y_fits.0 (sym (append_assoc (head.spelling (first_of x)) ((tail (first_of x)).spelling x) rest) ∙ (same ∙ append_assoc (head.spelling (first_of y)) ((tail (first_of y)).spelling y) more)) in
+      let p = head_laws.one_reading (first_of x) (first_of y) ((tail (first_of x)).spelling x
+      ++ rest) ((tail (first_of y)).spelling y ++ more) x_fits.0 y_fits.0
+      (sym (append_assoc (head.spelling (first_of x)) ((tail (first_of x)).spelling x) rest)
+      ∙ (same ∙ append_assoc (head.spelling (first_of y)) ((tail (first_of y)).spelling y) more)) in
       tail_reading (first_of x) (first_of y) p.0 x_fits.0 x y rest more x_fits.1 y_fits.1 p.1
 
   followed_begins : (bytes : List ℕ) (here : Begins head bytes) → Begins (tail here.value) here.rest → Begins (followed head first_of tail most) bytes
@@ -241,9 +253,12 @@ module _ {A W : Type 0} (head : Form A) (first_of : W → A) (tail : A → Form 
   tail_exclusive a a' path a_fits x rest more at why x_fits same bad =
       (tail_laws a a_fits).exclusive x rest at why x_fits (subst (λ (s : List ℕ). (tail a).bad s at why) (sym same) (subst (λ (b : A). (tail b).bad more at why) (sym path) bad))
 
-  followed_exclusive : (x : W) (rest : List ℕ) (at : ℕ) (why : Why) → (followed head first_of tail most).in_range x → (followed head first_of tail most).bad ((followed head first_of tail most).spelling x ++ rest) at why → ⊥
+  followed_exclusive : (x : W) (rest : List ℕ) (at : ℕ) (why : Why) → (followed head first_of tail most).in_range x
+      → (followed head first_of tail most).bad ((followed head first_of tail most).spelling x ++ rest) at why → ⊥
   followed_exclusive x rest at why x_fits bad =
-      let apart : (head.spelling (first_of x) ++ (tail (first_of x)).spelling x) ++ rest ≡ head.spelling (first_of x) ++ ((tail (first_of x)).spelling x ++ rest) = append_assoc (head.spelling (first_of x)) ((tail (first_of x)).spelling x) rest in
+      let apart : (head.spelling (first_of x) ++ (tail (first_of x)).spelling x) ++ rest ≡ head.spelling (first_of x)
+      ++ ((tail (first_of x)).spelling x ++ rest) = append_assoc (head.spelling (first_of x))
+      ((tail (first_of x)).spelling x) rest in
       elim bad [
         | inl at_head ↦ head_laws.exclusive (first_of x) ((tail (first_of x)).spelling x ++ rest) at why x_fits.0 (subst (λ (s : List ℕ). head.bad s at why) apart at_head)
         | inr behind ↦
@@ -251,11 +266,15 @@ module _ {A W : Type 0} (head : Form A) (first_of : W → A) (tail : A → Form 
             tail_exclusive (first_of x) behind.first p.0 x_fits.0 x rest behind.rest behind.place why x_fits.1 p.1 behind.refused
       ]
 
-  tail_one_fault : (a a' : A) → a ≡ a' → head.in_range a → (rest rest' : List ℕ) → rest ≡ rest' → (at at' : ℕ) (why why' : Why) → (tail a).bad rest at why → (tail a').bad rest' at' why' → (at ≡ at') × (why ≡ why')
+  tail_one_fault : (a a' : A) → a ≡ a' → head.in_range a → (rest rest' : List ℕ) → rest ≡ rest'
+      → (at at' : ℕ) (why why' : Why) → (tail a).bad rest at why → (tail a').bad rest' at' why'
+      → (at ≡ at') × (why ≡ why')
   tail_one_fault a a' path a_fits rest rest' same at at' why why' bad bad' =
       (tail_laws a a_fits).one_fault rest at at' why why' bad (subst (λ (s : List ℕ). (tail a).bad s at' why') (sym same) (subst (λ (b : A). (tail b).bad rest' at' why') (sym path) bad'))
 
-  followed_one_fault : (bytes : List ℕ) (at at' : ℕ) (why why' : Why) → (followed head first_of tail most).bad bytes at why → (followed head first_of tail most).bad bytes at' why' → (at ≡ at') × (why ≡ why')
+  followed_one_fault : (bytes : List ℕ) (at at' : ℕ) (why why' : Why)
+      → (followed head first_of tail most).bad bytes at why → (followed head first_of tail most).bad bytes at' why'
+      → (at ≡ at') × (why ≡ why')
   followed_one_fault bytes at at' why why' bad bad' =
       elim bad [
         | inl here ↦ elim bad' [
@@ -271,7 +290,9 @@ module _ {A W : Type 0} (head : Form A) (first_of : W → A) (tail : A → Form 
         ]
       ]
 
-  followed_persists : (bytes more : List ℕ) (at : ℕ) (why : Why) → IsBytes bytes → why ≢ Short → (followed head first_of tail most).bad bytes at why → (followed head first_of tail most).bad (bytes ++ more) at why
+  followed_persists : (bytes more : List ℕ) (at : ℕ) (why : Why) → IsBytes bytes → why ≢ Short
+      → (followed head first_of tail most).bad bytes at why
+      → (followed head first_of tail most).bad (bytes ++ more) at why
   followed_persists bytes more at why are_bytes not_short bad =
       elim bad [
         | inl here ↦ inl (head_laws.persists bytes more at why are_bytes not_short here)
@@ -282,7 +303,9 @@ module _ {A W : Type 0} (head : Form A) (first_of : W → A) (tail : A → Form 
           whole = ap (λ (s : List ℕ). s ++ more) there.whole ∙ append_assoc (head.spelling there.first) there.rest more;
           place = there.place;
           at_is = there.at_is;
-          refused = (tail_laws there.first there.in_range).persists there.rest more there.place why (IsBytes-rest (head.spelling there.first) there.rest (subst IsBytes there.whole are_bytes)) not_short there.refused;
+          refused = (tail_laws there.first there.in_range).persists there.rest more there.place why
+              (IsBytes-rest (head.spelling there.first) there.rest (subst IsBytes there.whole are_bytes)) not_short
+              there.refused;
         }
       ]
 
@@ -304,7 +327,9 @@ module _ {A W : Type 0} (head : Form A) (first_of : W → A) (tail : A → Form 
       elim bad [
         | inl here ↦ first_below (length bytes) head.longest most (head_laws.short bytes at here)
         | inr there ↦
-            let behind = below_within (length there.rest) (tail there.first).longest most ((tail_laws there.first there.in_range).short there.rest there.place there.refused) (within there.first there.in_range) in
+            let behind = below_within (length there.rest) (tail there.first).longest most
+            ((tail_laws there.first there.in_range).short there.rest there.place there.refused)
+            (within there.first there.in_range) in
             let size : length bytes ≡ length (head.spelling there.first) + length there.rest = ap length there.whole ∙ length-append (head.spelling there.first) there.rest in
             subst (λ n. IsBelow n (both head.longest most)) (sym size)
             (both_below (length (head.spelling there.first)) (length there.rest) head.longest most (head_laws.bounded there.first there.in_range) behind)

@@ -36,7 +36,9 @@ is_refused_or_not : (answer : Option Why) → (answer ≡ None) ⊎ ((why : Why)
 is_refused_or_not None = inl refl
 is_refused_or_not (Some why) = inr (why, refl)
 
-module _ {V : Type 0} (spelling : V → List ℕ) (fits : V → Type 0) (refusal : List ℕ → Option Why) (most : ℕ) (value : List ℕ → V) (size : List ℕ → ℕ) (laws : IsPart spelling fits refusal most value size) where
+module _ {V : Type 0} (spelling : V → List ℕ) (fits : V → Type 0) (refusal : List ℕ
+    → Option Why) (most : ℕ) (value : List ℕ → V) (size : List ℕ
+    → ℕ) (laws : IsPart spelling fits refusal most value size) where
   part_reading : (x y : V) (rest more : List ℕ) → fits x → fits y → spelling x ++ rest ≡ spelling y ++ more → (x ≡ y) × (rest ≡ more)
   part_reading x y rest more x_fits y_fits same =
       let one : x ≡ y = sym (laws.back x rest x_fits) ∙ (ap value same ∙ laws.back y more y_fits) in

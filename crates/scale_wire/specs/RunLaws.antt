@@ -31,7 +31,9 @@ module _ {A : Type 0} (item : Form A) (item_laws : IsWire item) (tag_laws : IsWi
   one_item : (x y : A) (rest more : List ℕ) → item.in_range x → item.in_range y → optional_bytes item (Some x) ++ rest ≡ optional_bytes item (Some y) ++ more → (x ≡ y) × (rest ≡ more)
   one_item x y rest more x_fits y_fits same = item_laws.one_reading x y rest more x_fits y_fits (ap (drop 1) same)
 
-  run_reading : (xs ys : List A) (rest more : List ℕ) → AllByRecursion item.in_range xs → AllByRecursion item.in_range ys → run_bytes item xs ++ rest ≡ run_bytes item ys ++ more → (xs ≡ ys) × (rest ≡ more)
+  run_reading : (xs ys : List A) (rest more : List ℕ) → AllByRecursion item.in_range xs
+      → AllByRecursion item.in_range ys → run_bytes item xs ++ rest ≡ run_bytes item ys ++ more
+      → (xs ≡ ys) × (rest ≡ more)
   run_reading [] [] rest more xs_fit ys_fit same = (refl, ap (drop 1) same)
   run_reading [] (y ∷ ys) rest more xs_fit ys_fit same = absurd (end_or_item y rest (run_bytes item ys ++ more) ys_fit.0 (same ∙ run_more y ys more))
   run_reading (x ∷ xs) [] rest more xs_fit ys_fit same = absurd (end_or_item x more (run_bytes item xs ++ rest) xs_fit.0 (sym same ∙ run_more x xs rest))

@@ -74,18 +74,20 @@ none_below f n low (suc count) l = rw (sum_by-cons (λ m. cond (nat_eq m n) (f m
 
 pub only_one : (f : ℕ → ℕ) (n low count : ℕ) → low ≤ n → n < low + count → sum_by (λ m. cond (nat_eq m n) (f m) 0) (range_with_len low count) ≡ f n
 only_one f n low zero p q = absurd (omega (arith, p, q))
-only_one f n low (suc count) p q = rw (sum_by-cons (λ m. cond (nat_eq m n) (f m) 0) low (range_with_len (low + 1) count)) (at (cases_eq low n) (λ l. only_one f n (low + 1) count l (omega (arith, q)))) where
-  at : (low ≡ n) ⊎ (low ≡ n → ⊥) → (low + 1 ≤ n → sum_by (λ m. cond (nat_eq m n) (f m) 0) (range_with_len (low + 1) count) ≡ f n)
-      → cond (nat_eq low n) (f low) 0 + sum_by (λ m. cond (nat_eq m n) (f m) 0) (range_with_len (low + 1) count) ≡ f n
-  at (inl e) more = omega (
-    arith,
-    cond-true (nat_eq low n) (f low) 0 (eq-eqb low n e),
-    none_below f n (low + 1) count (omega (arith, e)),
-    ap f e,
-  )
-  at (inr d) more = omega (arith, cond-false (nat_eq low n) (f low) 0 (ne_eqb low n d), more (beyond low n p d)) where
-    beyond : (low n : ℕ) → low ≤ n → (low ≡ n → ⊥) → low + 1 ≤ n
-    beyond low n l differ = omega (arith, l, differ)
+only_one f n low (suc count) p q = rw (sum_by-cons (λ m. cond (nat_eq m n) (f m) 0) low
+    (range_with_len (low + 1) count)) (at (cases_eq low n) (λ l. only_one f n (low + 1) count l (omega (arith, q))))
+  where
+    at : (low ≡ n) ⊎ (low ≡ n → ⊥) → (low + 1 ≤ n → sum_by (λ m. cond (nat_eq m n) (f m) 0) (range_with_len (low + 1) count) ≡ f n)
+        → cond (nat_eq low n) (f low) 0 + sum_by (λ m. cond (nat_eq m n) (f m) 0) (range_with_len (low + 1) count) ≡ f n
+    at (inl e) more = omega (
+      arith,
+      cond-true (nat_eq low n) (f low) 0 (eq-eqb low n e),
+      none_below f n (low + 1) count (omega (arith, e)),
+      ap f e,
+    )
+    at (inr d) more = omega (arith, cond-false (nat_eq low n) (f low) 0 (ne_eqb low n d), more (beyond low n p d)) where
+      beyond : (low n : ℕ) → low ≤ n → (low ≡ n → ⊥) → low + 1 ≤ n
+      beyond low n l differ = omega (arith, l, differ)
 
 -- of the nominators one at most is this voter
 pub one_nominator : (snapshot : Snapshot) (f : ℕ → ℕ) (voter target : ℕ) → voter < length snapshot.voters

@@ -1,5 +1,6 @@
 -- Rooms in one list: what each holds after one more item, and what they come to when all are full.
-use Rattle.std.proofs.Common.{◌≡◌, ◌≢◌, ℕ, zero, suc, ◌+◌, ◌-◌, ◌^◌, ◌<◌, ◌≤◌, Bool, true, false, cond, List, [], ◌∷◌, ◌++◌, length, take, drop, get_or, set, inl, inr, refl, ap, ap₂, sym, ◌∙◌, arith, slice_range, length-drop, length-append}
+use Rattle.std.proofs.Common.{◌≡◌, ◌≢◌, ℕ, zero, suc, ◌+◌, ◌-◌, ◌^◌, ◌<◌, ◌≤◌, Bool, true, false, cond, List, [], ◌∷◌, ◌++◌, length}
+use Rattle.std.proofs.Common.{take, drop, get_or, set, inl, inr, refl, ap, ap₂, sym, ◌∙◌, arith, slice_range, length-drop, length-append}
 use Rattle.std.proofs.lemmas.Bool.{cases_eq, cases_lt, true≢false}
 use Rattle.std.proofs.Math.ListN.{get_or-append}
 use Rattle.std.proofs.Math.Seq.{get_or-append_seam}
@@ -121,7 +122,9 @@ rise_apart starts sizes count apart one (suc other) h k = elim (cases_eq one (su
   suc_is : (n : ℕ) → suc n ≡ n + 1
   suc_is n = omega arith
 
-pub empty_rooms : (items starts sizes nexts : List ℕ) → length starts ≡ length sizes + 1 → AreApart starts sizes (length sizes) → length items ≡ says starts (length sizes) → says starts (length sizes) < 2 ^ 32
+pub empty_rooms : (items starts sizes nexts : List ℕ) → length starts ≡ length sizes + 1
+    → AreApart starts sizes (length sizes) → length items ≡ says starts (length sizes)
+    → says starts (length sizes) < 2 ^ 32
     → nexts ≡ take (length sizes) starts → AreRooms items starts nexts
 empty_rooms items starts sizes nexts count apart full small are = record {
   starts_are = omega (arith, count, same_count);
@@ -206,7 +209,8 @@ module _ (snapshot : Snapshot) (target : ℕ) where
     rest : voter < length snapshot.voters → (voter + 1) + (length snapshot.voters - (voter + 1)) ≡ length snapshot.voters
     rest h = omega (arith, h)
 
-  module _ (items starts nexts : List ℕ) (rooms : AreRooms items starts nexts) (h : target < length nexts) (size : says starts (target + 1) ≡ says starts target + length (nominators snapshot target)) where
+  module _ (items starts nexts : List ℕ) (rooms : AreRooms items starts nexts) (h : target < length nexts)
+      (size : says starts (target + 1) ≡ says starts target + length (nominators snapshot target)) where
     -- who nominates the target finds its room not full
     pub room_free : (voter : ℕ) → held items starts nexts target ≡ nominators_before snapshot target voter → nominates snapshot voter target ≡ true → says nexts target < says starts (target + 1)
     room_free voter so_far t = omega (arith, held_count items starts nexts rooms target h, ap length so_far, before_all voter t, size)
@@ -237,3 +241,6 @@ part_rises items starts part parts h = (parts part (part_within items starts par
 -- what stands within a table is what it says
 pub said : (table : List ℕ) (number value : ℕ) → number < length table → value ≡ get_or table number value → value ≡ says table number
 said table number value h is = is ∙ get_or_default table number value 0 h
+
+-- by these `nominators` goes on
+pub ruleset part_steps = (at_within, at_small, rooms_then, held_here, held_other)

@@ -1,5 +1,6 @@
 -- Tables by target, changed at each of a voter's votes.
-use Rattle.std.proofs.Common.{◌≡◌, ℕ, ◌+◌, ◌<◌, ◌⊎◌, min, Bool, true, false, not, cond, ◌||◌, nat_eq, List, [], ◌∷◌, length, take, get_or, set, filter, Option, Some, None, IfSome, is_none, inl, inr, refl, ap, sym, subst, ◌∙◌, arith}
+use Rattle.std.proofs.Common.{◌≡◌, ℕ, ◌+◌, ◌<◌, ◌⊎◌, min, Bool, true, false, not, cond, ◌||◌, nat_eq, List, [], ◌∷◌, length, take}
+use Rattle.std.proofs.Common.{get_or, set, filter, Option, Some, None, IfSome, is_none, inl, inr, refl, ap, sym, subst, ◌∙◌, arith}
 use Rattle.std.specs.List.{IsDistinct, range_with_len, fold}
 use Rattle.std.proofs.lemmas.List.{length-take, get_or-take, get_or_default, get_or-set_same, get_or-set_other}
 use Rattle.std.proofs.lemmas.List.Elements.{filter-append}
@@ -30,7 +31,9 @@ module _ (votes : List ℕ) (distinct : IsDistinct nat_eq votes) (i d : ℕ) (h 
   pub fresh : has (take i votes) (get_or votes i d) ≡ false
   fresh = list_any_none (λ other. nat_eq other (get_or votes i d)) (take i votes) (λ k e l.
       let (below, among) = in_front k (length-take i votes) l in
-      rw (get_or-take i votes k e below) (ne_eqb (get_or votes k e) (get_or votes i d) (λ same. AllPairs-from_IsDistinct Decides-eqb votes distinct k i d below h (get_or_default votes k d e among ∙ same))))
+      rw (get_or-take i votes k e below) (ne_eqb (get_or votes k e) (get_or votes i d)
+      (λ same. AllPairs-from_IsDistinct Decides-eqb votes distinct k i d below h (get_or_default votes k d e among
+      ∙ same))))
     where
       in_front : (k : ℕ) → length (take i votes) ≡ min i (length votes) → k < length (take i votes) → (k < i) × (k < length votes)
       in_front k e l = (omega (arith, e, l), omega (arith, e, l))

@@ -108,7 +108,7 @@ impl Rooms {
     }
 
     /// Puts the item into the room, which is not full.
-    #[tactic(auto, using(crate::proofs::PartLemmas::at_within, crate::proofs::PartLemmas::at_small, crate::proofs::PartLemmas::rooms_then, crate::proofs::PartLemmas::held_here, crate::proofs::PartLemmas::held_other))]
+    #[tactic(auto, using(crate::proofs::PartLemmas::part_steps))]
     fn put(&mut self, room: usize, item: u32)
         requires rooms { AreRooms self.old.items.items self.old.starts.items self.old.nexts.items }
         requires there { room < length self.old.nexts.items }

@@ -45,7 +45,9 @@ module _ (snapshot : Snapshot) (picks : List ℕ) (run : AreRun snapshot picks) 
       ∙ ap (λ (last : ℕ → ℕ). gifts_of snapshot (load_after snapshot picks) last (says left) rises) last_path
       ∙ ap (λ (rest : ℕ → ℕ). gifts_of snapshot (load_after snapshot picks) (last_after snapshot picks) rest rises) rest_path
       ∙ ap (λ rs. gifts_of snapshot (load_after snapshot picks) (last_after snapshot picks) (λ voter. stake_of snapshot voter - earlier snapshot picks voter) rs) rises_are
-      ∙ ap (filter (λ (edge : Edge). nat_lt 0 edge.amount)) (map_agree (gift_edge snapshot (load_after snapshot picks) (last_after snapshot picks) (λ voter. stake_of snapshot voter - earlier snapshot picks voter))
+      ∙ ap (filter (λ (edge : Edge). nat_lt 0 edge.amount))
+      (map_agree (gift_edge snapshot (load_after snapshot picks) (last_after snapshot picks)
+      (λ voter. stake_of snapshot voter - earlier snapshot picks voter))
       (λ note. edge_along (given snapshot picks) note.voter note.target) (rises_after snapshot picks) (λ note h. ap (edge_with note) (gift_is snapshot picks run note h)))
     where
       load_path : says loads ≡ load_after snapshot picks

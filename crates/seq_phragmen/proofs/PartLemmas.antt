@@ -1,5 +1,6 @@
 -- The parts of the first rises: what they leave of each stake.
-use Rattle.std.proofs.Common.{◌≡◌, ℕ, ◌+◌, ◌-◌, ◌<◌, ◌≤◌, ◌⊎◌, Bool, true, false, not, cond, ◌&&◌, nat_eq, nat_lt, List, [], ◌∷◌, ◌++◌, length, take, get_or, set, map, filter, inl, inr, refl, ap, sym, ◌∙◌, arith}
+use Rattle.std.proofs.Common.{◌≡◌, ℕ, ◌+◌, ◌-◌, ◌<◌, ◌≤◌, ◌⊎◌, Bool, true, false, not, cond, ◌&&◌, nat_eq, nat_lt, List}
+use Rattle.std.proofs.Common.{[], ◌∷◌, ◌++◌, length, take, get_or, set, map, filter, inl, inr, refl, ap, sym, ◌∙◌, arith}
 use Rattle.std.proofs.lemmas.List.{map_more, get_or-set_same, get_or-set_other}
 use Rattle.std.proofs.lemmas.List.Elements.{filter-append}
 use Rattle.std.proofs.lemmas.Bool.{cases_eq, eq-eqb, ne_eqb}
@@ -24,7 +25,9 @@ module _ (snapshot : Snapshot) (loads lasts : List ℕ) (rises : List Rise) wher
 
     more : (voter : ℕ) → taken_from (i + 1) voter ≡ taken_from i voter
         + cond (nat_eq (get_or rises i d).voter voter && not (nat_eq (get_or rises i d).target (says lasts voter))) (part snapshot (says loads voter) voter (get_or rises i d).height) 0
-    more voter = sum_filter_more (λ (rise : Rise). nat_eq rise.voter voter && not (nat_eq rise.target (says lasts voter))) (λ (rise : Rise). part snapshot (says loads voter) voter rise.height) rises i d h
+    more voter = sum_filter_more (λ (rise : Rise). nat_eq rise.voter voter && not
+        (nat_eq rise.target (says lasts voter))) (λ (rise : Rise). part snapshot (says loads voter) voter rise.height)
+        rises i d h
 
     of_other : (voter : ℕ) → ((get_or rises i d).voter ≡ voter → ⊥) → taken_from (i + 1) voter ≡ taken_from i voter
     of_other voter differ = more voter
@@ -57,7 +60,9 @@ module _ (snapshot : Snapshot) (loads lasts : List ℕ) (rises : List Rise) wher
           enough,
         ) where
           all_of : (voter : ℕ) → taken_from (i + 1) voter ≤ earlier_parts snapshot (says loads voter) (says lasts voter) rises voter
-          all_of voter = sum_filter-take-le (λ (rise : Rise). nat_eq rise.voter voter && not (nat_eq rise.target (says lasts voter))) (λ (rise : Rise). part snapshot (says loads voter) voter rise.height) rises (i + 1)
+          all_of voter = sum_filter-take-le (λ (rise : Rise). nat_eq rise.voter voter && not
+              (nat_eq rise.target (says lasts voter))) (λ (rise : Rise). part snapshot (says loads voter) voter
+              rise.height) rises (i + 1)
 
         pub left_lowered : (get_or rises i d).voter < length left → AreLeft (i + 1) (set left (get_or rises i d).voter (says left (get_or rises i d).voter - part_now))
         left_lowered below voter = at (cases_eq (get_or rises i d).voter voter) where

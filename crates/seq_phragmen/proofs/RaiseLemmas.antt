@@ -24,7 +24,9 @@ module _ (snapshot : Snapshot) (loads : List ℕ) (voter height : ℕ) (size : l
 
   raised_at : (n : ℕ) → stake_of snapshot n * says raised n ≡ stake_of snapshot n * says loads n + cond (nat_eq n voter) (stake_of snapshot n * height) 0
   raised_at n = elim (cases_eq n voter) [
-    | inl e ↦ ap (λ m. stake_of snapshot n * m) (ap (says raised) e ∙ get_or-set_same loads voter (says loads voter + height) 0 (omega (arith, size, in_reach)) ∙ ap (λ m. says loads m + height) (sym e))
+    | inl e ↦ ap (λ m. stake_of snapshot n * m) (ap (says raised) e
+        ∙ get_or-set_same loads voter (says loads voter + height) 0 (omega (arith, size, in_reach))
+        ∙ ap (λ m. says loads m + height) (sym e))
         ∙ mul-add (stake_of snapshot n) (says loads n) height
         ∙ ap (λ m. stake_of snapshot n * says loads n + m) (sym (cond-true (nat_eq n voter) (stake_of snapshot n * height) 0 (eq-eqb n voter e)))
     | inr differ ↦ ap (λ m. stake_of snapshot n * m) (get_or-set_other loads voter n (says loads voter + height) 0 differ)
@@ -32,7 +34,9 @@ module _ (snapshot : Snapshot) (loads : List ℕ) (voter height : ℕ) (size : l
   ]
 
   burden_raised : (target : ℕ) → burden snapshot (says raised) target ≡ burden snapshot (says loads) target + cond (nominates snapshot voter target) (stake_of snapshot voter * height) 0
-  burden_raised target = sum_same (λ n. stake_of snapshot n * says raised n) (λ n. stake_of snapshot n * says loads n + cond (nat_eq n voter) (stake_of snapshot n * height) 0) raised_at (nominators snapshot target)
+  burden_raised target = sum_same (λ n. stake_of snapshot n * says raised n)
+      (λ n. stake_of snapshot n * says loads n + cond (nat_eq n voter) (stake_of snapshot n * height) 0) raised_at
+      (nominators snapshot target)
       ∙ sum_of_sums (λ n. stake_of snapshot n * says loads n) (λ n. cond (nat_eq n voter) (stake_of snapshot n * height) 0) (nominators snapshot target)
       ∙ ap (λ m. burden snapshot (says loads) target + m) (one_nominator snapshot (λ n. stake_of snapshot n * height) voter target in_reach)
 
@@ -59,7 +63,8 @@ module _ (snapshot : Snapshot) (loads : List ℕ) (voter height : ℕ) (size : l
 
 -- nobody carries anything where no voter has a load
 pub no_burden : (snapshot : Snapshot) (load : ℕ → ℕ) → ((voter : ℕ) → load voter ≡ 0) → (target : ℕ) → burden snapshot load target ≡ 0
-no_burden snapshot load none target = sum_same (λ voter. stake_of snapshot voter * load voter) (λ _. 0) (λ voter. ap (λ n. stake_of snapshot voter * n) (none voter) ∙ omega arith) (nominators snapshot target)
+no_burden snapshot load none target = sum_same (λ voter. stake_of snapshot voter * load voter) (λ _. 0)
+    (λ voter. ap (λ n. stake_of snapshot voter * n) (none voter) ∙ omega arith) (nominators snapshot target)
     ∙ sum_of_none (nominators snapshot target)
 
 -- ---- one pick
@@ -93,9 +98,17 @@ module _ (snapshot : Snapshot) (target score : ℕ) (old lasts_old : List ℕ) (
         → IsRaising (i + 1) (set loads voter (says loads voter + (score - says loads voter))) (set lasts voter target) new
         (rises ++ record { voter = voter; target = target; height = score - says loads voter } ∷ [])
     raising_more new are size = record {
-      loads_are = subst (λ n. AreChanged (λ _. score) 0 (take (i + 1) voters) old (set loads voter n)) (omega (arith, untouched, falls voter))
-          (changed voters (nominators_distinct snapshot target) i d h (λ _. score) 0 old loads so_far.loads_are (omega (arith, voter_in_range, sizes.0)), length-set loads voter score ∙ so_far.loads_are.1);
-      lasts_are = (changed voters (nominators_distinct snapshot target) i d h (λ _. target) 0 lasts_old lasts so_far.lasts_are (omega (arith, voter_in_range, sizes.1)), length-set lasts voter target ∙ so_far.lasts_are.1);
+      loads_are = subst (λ n. AreChanged (λ _. score) 0 (take (i + 1) voters) old (set loads voter n)) (omega (arith, untouched, falls voter)) (
+        changed voters (nominators_distinct snapshot target) i d h (λ _. score) 0 old loads so_far.loads_are
+            (omega (arith, voter_in_range, sizes.0)),
+        length-set loads voter score ∙ so_far.loads_are.1,
+      );
+      lasts_are = (
+        changed voters (nominators_distinct snapshot target) i d h (λ _. target) 0 lasts_old lasts
+            so_far.lasts_are (omega (arith, voter_in_range, sizes.1)),
+        length-set lasts voter target
+            ∙ so_far.lasts_are.1,
+      );
       burdens_are = are;
       burdens_size = size ∙ so_far.burdens_size;
       rises_are = ap (λ rs. rs ++ rise_to (score - says loads voter) ∷ []) so_far.rises_are
@@ -111,7 +124,9 @@ module _ (snapshot : Snapshot) (target score : ℕ) (old lasts_old : List ℕ) (
       → (n : ℕ) → says now n ≡ cond (nominates snapshot n target) value (says now_old n)
   all_changed now_old size value i now are ends n = elim (cases_lt n (length snapshot.voters)) [
     | inl l ↦ are.0 n (omega (arith, l, size)) ∙ ap (λ ns. cond (has ns n) value (says now_old n)) (take_all i voters ends) ∙ ap (λ b. cond b value (says now_old n)) same
-    | inr l ↦ get_or-eq_default now 0 (omega (arith, l, size, are.1)) ∙ sym (cond-false (nominates snapshot n target) value (says now_old n) (none l) ∙ get_or-eq_default now_old 0 (omega (arith, l, size)))
+    | inr l ↦ get_or-eq_default now 0 (omega (arith, l, size, are.1))
+        ∙ sym (cond-false (nominates snapshot n target) value (says now_old n) (none l)
+        ∙ get_or-eq_default now_old 0 (omega (arith, l, size)))
   ] where
     none : length snapshot.voters ≤ n → nominates snapshot n target ≡ false
     none l = at (cases_Bool (nominates snapshot n target)) where

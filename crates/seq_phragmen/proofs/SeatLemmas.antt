@@ -31,7 +31,8 @@ module _ (snapshot : Snapshot) (picks : List ℕ) (race : Race) (after : IsAfter
   scores_are target h = ap₂ (λ b a. shared_load (seat_load snapshot) b a) (after.burdens target h) (after.approvals target h)
       ∙ ap (λ (load : ℕ → ℕ). score snapshot load target) loads_are
 
-  pub lightest_is_next : first_best less (score_by (seat_load snapshot) race.burdens.items race.approvals.items) (unmarked race.is_picked.items (length race.is_picked.items)) ≡ next_pick snapshot picks
+  pub lightest_is_next : first_best less (score_by (seat_load snapshot) race.burdens.items race.approvals.items)
+      (unmarked race.is_picked.items (length race.is_picked.items)) ≡ next_pick snapshot picks
   lightest_is_next =
       ap (λ n. first_best less value (unmarked race.is_picked.items n)) after.marks_size
       ∙ ap (first_best less value) (unmarked_outside race.is_picked.items picks (length snapshot.targets) after.marks)
@@ -45,7 +46,8 @@ module _ (snapshot : Snapshot) (picks : List ℕ) (race : Race) (after : IsAfter
       → (target : ℕ) → target < length snapshot.targets → score_by seat burdens approvals target ≡ score snapshot (load_after snapshot picks) target
   score_found burdens approvals seat burdens_are approvals_are whole target h = rw (burdens_are, approvals_are, whole) (scores_are target h)
 
-  pub next_found : (burdens approvals : List ℕ) (marks : List Bool) (seat : ℕ) → burdens ≡ race.burdens.items → approvals ≡ race.approvals.items → marks ≡ race.is_picked.items → seat ≡ seat_load snapshot
+  pub next_found : (burdens approvals : List ℕ) (marks : List Bool) (seat : ℕ) → burdens ≡ race.burdens.items
+      → approvals ≡ race.approvals.items → marks ≡ race.is_picked.items → seat ≡ seat_load snapshot
       → first_best less (score_by seat burdens approvals) (unmarked marks (length marks)) ≡ next_pick snapshot picks
   next_found burdens approvals marks seat burdens_are approvals_are marks_are whole = rw (burdens_are, approvals_are, marks_are, whole) lightest_is_next
 
@@ -125,35 +127,38 @@ module _ (snapshot : Snapshot) (picks : List ℕ) (race : Race) (book : WeightBo
       → KeepsRoom book new
       → more ≡ rises ++ map (rise_of (says race.loads.items) target height) (nominators snapshot target)
       → IsRunning snapshot (target ∷ picks) next new more
-  running_more next new more height loads_now lasts_now burdens_now floors_now top run height_is loads_is lasts_is burdens_is loads loads_size lasts lasts_size burdens burdens_size floors_are floors floors_size approvals_same marks nominators_same members edges room noted = record {
-    after = record {
-      loads = λ voter. ap (λ ns. says ns voter) loads_is ∙ loads voter ∙ ap₂ (λ a b. cond (nominates snapshot voter target) a b) height_is (running.after.loads voter);
-      loads_size = ap length loads_is ∙ loads_size ∙ running.after.loads_size;
-      lasts = λ voter. ap (λ ns. says ns voter) lasts_is ∙ lasts voter ∙ ap (λ n. cond (nominates snapshot voter target) target n) (running.after.lasts voter);
-      lasts_size = ap length lasts_is ∙ lasts_size ∙ running.after.lasts_size;
-      approvals = λ other h. ap (λ ns. says ns other) approvals_same ∙ running.after.approvals other h;
-      approvals_size = ap length approvals_same ∙ running.after.approvals_size;
-      burdens = subst (λ ns. AreBurdens snapshot ns next.burdens.items) (sym loads_is) (subst (λ ns. AreBurdens snapshot loads_now ns) (sym burdens_is) burdens);
-      burdens_size = ap length burdens_is ∙ burdens_size ∙ running.after.burdens_size;
-      floors = subst (λ (ms : List Bool). AreFloors (score snapshot (load_after snapshot (target ∷ picks))) ms next.floors.items) (sym marks)
-          (subst (λ (ns : List ℕ). AreFloors (score snapshot (load_after snapshot (target ∷ picks))) (set race.is_picked.items target true) ns) (sym floors_are) (floors_more floors_now top run floors));
-      floors_size = ap length floors_are ∙ length-set floors_now target top ∙ floors_size ∙ running.after.floors_size;
-      marks = λ number. ap (λ ms. get_or ms number false) marks ∙ marked_more race.is_picked.items picks target running.after.marks (omega (arith, in_range, running.after.marks_size)) number;
-      marks_size = ap length marks ∙ length-set race.is_picked.items target true ∙ running.after.marks_size;
-      nominators_are = λ other h. ap (λ lists. get_or lists other []) nominators_same ∙ running.after.nominators_are other h;
-      nominators_size = ap length nominators_same ∙ running.after.nominators_size;
-    };
-    members = members ∙ ap (λ ms. ms ++ target ∷ []) running.members ∙ sym (reverse-append (target ∷ []) picks);
-    edges = edges ∙ running.edges;
-    rises_are = noted ∙ ap₂ (λ rs (f : ℕ → ℕ). rs ++ map (rise_of f target height) (nominators snapshot target)) running.rises_are (loads_are snapshot picks race running.after)
-        ∙ ap (λ n. rises_then n) height_is;
-    room = record {
-      members = omega (arith, running.room.members, room.members);
-      edges = omega (arith, running.room.edges, room.edges);
-    };
-  } where
-    rises_then : ℕ → List Rise
-    rises_then n = rises_after snapshot picks ++ map (rise_of (load_after snapshot picks) target n) (nominators snapshot target)
+  running_more next new more height loads_now lasts_now burdens_now floors_now top run height_is loads_is lasts_is
+      burdens_is loads loads_size lasts lasts_size burdens burdens_size floors_are floors floors_size approvals_same
+      marks nominators_same members edges room noted = record {
+        after = record {
+          loads = λ voter. ap (λ ns. says ns voter) loads_is ∙ loads voter ∙ ap₂ (λ a b. cond (nominates snapshot voter target) a b) height_is (running.after.loads voter);
+          loads_size = ap length loads_is ∙ loads_size ∙ running.after.loads_size;
+          lasts = λ voter. ap (λ ns. says ns voter) lasts_is ∙ lasts voter ∙ ap (λ n. cond (nominates snapshot voter target) target n) (running.after.lasts voter);
+          lasts_size = ap length lasts_is ∙ lasts_size ∙ running.after.lasts_size;
+          approvals = λ other h. ap (λ ns. says ns other) approvals_same ∙ running.after.approvals other h;
+          approvals_size = ap length approvals_same ∙ running.after.approvals_size;
+          burdens = subst (λ ns. AreBurdens snapshot ns next.burdens.items) (sym loads_is) (subst (λ ns. AreBurdens snapshot loads_now ns) (sym burdens_is) burdens);
+          burdens_size = ap length burdens_is ∙ burdens_size ∙ running.after.burdens_size;
+          floors = subst (λ (ms : List Bool). AreFloors (score snapshot (load_after snapshot (target ∷ picks))) ms next.floors.items) (sym marks)
+              (subst (λ (ns : List ℕ). AreFloors (score snapshot (load_after snapshot (target ∷ picks)))
+              (set race.is_picked.items target true) ns) (sym floors_are) (floors_more floors_now top run floors));
+          floors_size = ap length floors_are ∙ length-set floors_now target top ∙ floors_size ∙ running.after.floors_size;
+          marks = λ number. ap (λ ms. get_or ms number false) marks ∙ marked_more race.is_picked.items picks target running.after.marks (omega (arith, in_range, running.after.marks_size)) number;
+          marks_size = ap length marks ∙ length-set race.is_picked.items target true ∙ running.after.marks_size;
+          nominators_are = λ other h. ap (λ lists. get_or lists other []) nominators_same ∙ running.after.nominators_are other h;
+          nominators_size = ap length nominators_same ∙ running.after.nominators_size;
+        };
+        members = members ∙ ap (λ ms. ms ++ target ∷ []) running.members ∙ sym (reverse-append (target ∷ []) picks);
+        edges = edges ∙ running.edges;
+        rises_are = noted ∙ ap₂ (λ rs (f : ℕ → ℕ). rs ++ map (rise_of f target height) (nominators snapshot target)) running.rises_are (loads_are snapshot picks race running.after)
+            ∙ ap (λ n. rises_then n) height_is;
+        room = record {
+          members = omega (arith, running.room.members, room.members);
+          edges = omega (arith, running.room.edges, room.edges);
+        };
+      } where
+        rises_then : ℕ → List Rise
+        rises_then n = rises_after snapshot picks ++ map (rise_of (load_after snapshot picks) target n) (nominators snapshot target)
 
 -- ---- all seats
 pub picks_are : (snapshot : Snapshot) (picks : List ℕ) (race : Race) (book : WeightBook) (rises : List Rise) → IsRunning snapshot picks race book rises → picks ≡ reverse book.plain.committee

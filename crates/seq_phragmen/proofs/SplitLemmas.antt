@@ -1,5 +1,6 @@
 -- The rises of a run, and what they give: a voter's rises sum to its load, so their parts to no more than its stake.
-use Rattle.std.proofs.Common.{◌≡◌, ℕ, zero, ◌+◌, ◌-◌, ◌*◌, ◌/◌, ◌<◌, ◌≤◌, ◌⊎◌, Bool, true, false, not, cond, ◌||◌, ◌&&◌, nat_eq, List, [], ◌∷◌, length, map, filter, sum_by, inl, inr, refl, ap, sym, subst, ◌∙◌, arith}
+use Rattle.std.proofs.Common.{◌≡◌, ℕ, zero, ◌+◌, ◌-◌, ◌*◌, ◌/◌, ◌<◌, ◌≤◌, ◌⊎◌, Bool, true, false, not, cond, ◌||◌, ◌&&◌}
+use Rattle.std.proofs.Common.{nat_eq, List, [], ◌∷◌, length, map, filter, sum_by, inl, inr, refl, ap, sym, subst, ◌∙◌, arith}
 use Rattle.std.specs.List.{range_with_len}
 use Rattle.std.proofs.Math.Nat.{zero-div}
 use Rattle.std.proofs.lemmas.Bool.{cases_Bool, cases_eq, cond-true, cond-false, eqb-true, eq-eqb, ne_eqb, or_left, or_right, true≢false}
@@ -152,7 +153,8 @@ module _ (snapshot : Snapshot) where
       (filter (λ (note : Rise). nat_eq note.voter voter && not (nat_eq note.target last)) (rises_now pick picks))
       ∙ ap (λ n. earlier_parts snapshot whole last (rises_after snapshot picks) voter + n) (now_parts pick picks whole last voter h)
 
-  all_parts : (picks : List ℕ) (whole last voter : ℕ) → voter < length snapshot.voters → has picks last ≡ false → earlier_parts snapshot whole last (rises_after snapshot picks) voter ≡ parts snapshot whole picks voter
+  all_parts : (picks : List ℕ) (whole last voter : ℕ) → voter < length snapshot.voters → has picks last ≡ false
+      → earlier_parts snapshot whole last (rises_after snapshot picks) voter ≡ parts snapshot whole picks voter
   all_parts [] whole last voter h out = refl
   all_parts (pick ∷ picks) whole last voter h out = let away = apart pick picks last out in
       with_now pick picks whole last voter h
@@ -168,7 +170,8 @@ module _ (snapshot : Snapshot) where
   same_parts : (pick : ℕ) (picks : List ℕ) (whole last voter : ℕ) → voter < length snapshot.voters → nominates snapshot voter pick ≡ false
       → earlier_parts snapshot whole last (rises_after snapshot (pick ∷ picks)) voter ≡ earlier_parts snapshot whole last (rises_after snapshot picks) voter
   same_parts pick picks whole last voter h f = with_now pick picks whole last voter h
-      ∙ ap (λ n. earlier_parts snapshot whole last (rises_after snapshot picks) voter + cond (not (nat_eq pick last)) n 0) (no_part whole voter (rise snapshot picks pick voter) (not_raised pick picks voter f))
+      ∙ ap (λ n. earlier_parts snapshot whole last (rises_after snapshot picks) voter + cond (not (nat_eq pick last))
+      n 0) (no_part whole voter (rise snapshot picks pick voter) (not_raised pick picks voter f))
       ∙ nothing (not (nat_eq pick last)) (earlier_parts snapshot whole last (rises_after snapshot picks) voter)
     where
       nothing : (b : Bool) (n : ℕ) → n + cond b 0 0 ≡ n
@@ -219,12 +222,16 @@ module _ (snapshot : Snapshot) where
     inner : (pick ≡ note.target) ⊎ (pick ≡ note.target → ⊥)
         → cond (nat_eq note.target pick) (stake_of snapshot note.voter - parts snapshot whole picks note.voter) (part snapshot whole note.voter note.height)
         ≡ cond (nat_eq pick note.target) (stake_of snapshot note.voter - parts snapshot whole picks note.voter) (part_to snapshot whole picks note.voter note.target)
-    inner (inl e) = cond-true (nat_eq note.target pick) (stake_of snapshot note.voter - parts snapshot whole picks note.voter) (part snapshot whole note.voter note.height) (eq-eqb note.target pick (sym e))
-        ∙ sym (cond-true (nat_eq pick note.target) (stake_of snapshot note.voter - parts snapshot whole picks note.voter) (part_to snapshot whole picks note.voter note.target) (eq-eqb pick note.target e))
-    inner (inr d) = cond-false (nat_eq note.target pick) (stake_of snapshot note.voter - parts snapshot whole picks note.voter) (part snapshot whole note.voter note.height) (ne_eqb note.target pick (λ e. d (sym e)))
+    inner (inl e) = cond-true (nat_eq note.target pick) (stake_of snapshot note.voter - parts snapshot whole picks
+        note.voter) (part snapshot whole note.voter note.height) (eq-eqb note.target pick (sym e))
+        ∙ sym (cond-true (nat_eq pick note.target) (stake_of snapshot note.voter - parts snapshot whole picks
+        note.voter) (part_to snapshot whole picks note.voter note.target) (eq-eqb pick note.target e))
+    inner (inr d) = cond-false (nat_eq note.target pick) (stake_of snapshot note.voter - parts snapshot whole picks
+        note.voter) (part snapshot whole note.voter note.height) (ne_eqb note.target pick (λ e. d (sym e)))
         ∙ sym (is.parted whole)
         ∙ cond-false (nat_eq pick note.target) (part snapshot whole note.voter (rise snapshot picks pick note.voter)) (part_to snapshot whole picks note.voter note.target) (ne_eqb pick note.target d)
-        ∙ sym (cond-false (nat_eq pick note.target) (stake_of snapshot note.voter - parts snapshot whole picks note.voter) (part_to snapshot whole picks note.voter note.target) (ne_eqb pick note.target d))
+        ∙ sym (cond-false (nat_eq pick note.target) (stake_of snapshot note.voter - parts snapshot whole picks
+        note.voter) (part_to snapshot whole picks note.voter note.target) (ne_eqb pick note.target d))
 
     earlier_note : nominates snapshot note.voter pick ≡ false → In (rises_after snapshot picks) note
     earlier_note f = there (in_either (rises_after snapshot picks) (rises_now pick picks) note h) where
@@ -238,17 +245,20 @@ module _ (snapshot : Snapshot) where
         → gift snapshot (load (pick ∷ picks)) (last_after snapshot (pick ∷ picks)) (λ v. stake_of snapshot v - earlier (pick ∷ picks) v) note ≡ given snapshot (pick ∷ picks) note.voter note.target
     at (inl t) before =
         ap (λ n. choice (last_after snapshot (pick ∷ picks) note.voter) n (part snapshot whole note.voter note.height)) (earlier_now pick picks run.0.is_outside note.voter is.voter_in_range t)
-        ∙ ap (λ n. choice n (parts snapshot whole picks note.voter) (part snapshot whole note.voter note.height)) (cond-true (nominates snapshot note.voter pick) pick (last_after snapshot picks note.voter) t)
+        ∙ ap (λ n. choice n (parts snapshot whole picks note.voter) (part snapshot whole note.voter note.height))
+        (cond-true (nominates snapshot note.voter pick) pick (last_after snapshot picks note.voter) t)
         ∙ inner (cases_eq pick note.target)
         ∙ sym (cond-true (nominates snapshot note.voter pick)
-        (cond (nat_eq pick note.target) (stake_of snapshot note.voter - parts snapshot whole picks note.voter) (part_to snapshot whole picks note.voter note.target)) (given snapshot picks note.voter note.target) t)
+        (cond (nat_eq pick note.target) (stake_of snapshot note.voter - parts snapshot whole picks note.voter)
+        (part_to snapshot whole picks note.voter note.target)) (given snapshot picks note.voter note.target) t)
     at (inr f) before =
         ap (λ n. choice (last_after snapshot (pick ∷ picks) note.voter) n (part snapshot whole note.voter note.height)) (earlier_before pick picks note.voter is.voter_in_range f)
         ∙ ap (λ n. choice n (earlier picks note.voter) (part snapshot whole note.voter note.height)) (cond-false (nominates snapshot note.voter pick) pick (last_after snapshot picks note.voter) f)
         ∙ ap (λ n. choice (last_after snapshot picks note.voter) (earlier picks note.voter) (part snapshot n note.voter note.height)) (load_stays snapshot pick picks note.voter f)
         ∙ before (earlier_note f)
         ∙ sym (cond-false (nominates snapshot note.voter pick)
-        (cond (nat_eq pick note.target) (stake_of snapshot note.voter - parts snapshot whole picks note.voter) (part_to snapshot whole picks note.voter note.target)) (given snapshot picks note.voter note.target) f)
+        (cond (nat_eq pick note.target) (stake_of snapshot note.voter - parts snapshot whole picks note.voter)
+        (part_to snapshot whole picks note.voter note.target)) (given snapshot picks note.voter note.target) f)
 
   -- ---- what a voter gives in all
   pub part_member : (whole : ℕ) (picks : List ℕ) (voter target : ℕ) → 0 < part_to snapshot whole picks voter target → (has picks target ≡ true) × (nominates snapshot voter target ≡ true)
@@ -257,7 +267,11 @@ module _ (snapshot : Snapshot) where
     at : (nat_eq pick target ≡ true) ⊎ (nat_eq pick target ≡ false)
         → (0 < part_to snapshot whole picks voter target → (has picks target ≡ true) × (nominates snapshot voter target ≡ true))
         → (has (pick ∷ picks) target ≡ true) × (nominates snapshot voter target ≡ true)
-    at (inl e) before = (or_left (nat_eq pick target) (has picks target) e, subst (λ n. nominates snapshot voter n ≡ true) (eqb-true pick target e) (here (cases_Bool (nominates snapshot voter pick)))) where
+    at (inl e) before = (
+      or_left (nat_eq pick target) (has picks target) e,
+      subst (λ n. nominates snapshot voter n
+          ≡ true) (eqb-true pick target e) (here (cases_Bool (nominates snapshot voter pick))),
+    ) where
       here : (nominates snapshot voter pick ≡ true) ⊎ (nominates snapshot voter pick ≡ false) → nominates snapshot voter pick ≡ true
       here (inl t) = t
       here (inr f) = absurd (omega (

@@ -1,6 +1,7 @@
 -- What each account has after a call, for the crates above: one equation on its row says what is free, active, on its way out
 -- and held, and one on the row's being there says whether the account is known.
-use Rattle.std.proofs.Common.{◌≡◌, ℕ, ◌+◌, ◌-◌, ◌≤◌, ◌<◌, Bool, true, false, refl, ap, ap₂, sym, ◌∙◌, subst, arith, Option, Some, None, is_some, not, ◌==◌, List, [], ◌∷◌, All, ◌||◌, if◌then◌else◌, true≢false, unwrap_or}
+use Rattle.std.proofs.Common.{◌≡◌, ℕ, ◌+◌, ◌-◌, ◌≤◌, ◌<◌, Bool, true, false, refl, ap, ap₂, sym, ◌∙◌, subst, arith, Option}
+use Rattle.std.proofs.Common.{Some, None, is_some, not, ◌==◌, List, [], ◌∷◌, All, ◌||◌, if◌then◌else◌, true≢false, unwrap_or}
 use Rattle.std.proofs.lemmas.Grind.{common_steps}
 use Rattle.std.proofs.lemmas.List.Sums.{sum_by-cons}
 use Rattle.npos_base.specs.declared.account.AccountId.{AccountId}

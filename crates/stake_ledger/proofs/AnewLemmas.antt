@@ -1,5 +1,6 @@
 -- Books are made anew from their rows.
-use Rattle.std.proofs.Common.{◌≡◌, ◌∙◌, ℕ, suc, ◌+◌, ◌<◌, ◌≤◌, Bool, true, false, cond, not, nat_eq, nat_lt, nat_le, List, [], ◌∷◌, length, map, Option, Some, None, unwrap_or, is_some, IfSome, All, refl, ap, sym, subst, arith, true≢false, sum_by}
+use Rattle.std.proofs.Common.{◌≡◌, ◌∙◌, ℕ, suc, ◌+◌, ◌<◌, ◌≤◌, Bool, true, false, cond, not, nat_eq, nat_lt, nat_le, List, [], ◌∷◌, length}
+use Rattle.std.proofs.Common.{map, Option, Some, None, unwrap_or, is_some, IfSome, All, refl, ap, sym, subst, arith, true≢false, sum_by}
 use Rattle.std.specs.BTreeMap.{is_at}
 use Rattle.std.specs.List.{AllByRecursion}
 use Rattle.std.specs.List.Sorted.{IsStrictlySortedBy}

@@ -122,3 +122,6 @@ first_within left (c ∷ later) x some is below =
 pub first_past : (left : ℕ) (x : Chunk) (later : List Chunk) → x.value ≤ left → without_first (left - x.value) later ≡ without_first left (x ∷ later)
 first_past left x later past =
     let all : nat_lt left x.value ≡ false = grind (arith, common_steps, past) in rw all refl
+
+-- by these `chunks` goes on
+pub ruleset chunk_steps = (joined, put_last, nonempty, room_to_join, room_to_put, no_room)

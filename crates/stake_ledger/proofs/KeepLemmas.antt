@@ -76,7 +76,9 @@ more_none : (ledger : Ledger) → record ledger { burned = ledger.burned + 0 } �
 more_none ledger = let same : ledger.burned + 0 ≡ ledger.burned = omega arith in ap (λ n. record ledger { burned = n }) same
 
 -- a call that burns nothing changes the account's row alone
-pub called_is : (who : AccountId) (call : RowCall) (ledger : Ledger) → record (changed who (row_after call) ledger) { burned = ledger.burned + burned_by call (row_at ledger who) } ≡ called who call ledger
+pub called_is : (who : AccountId) (call : RowCall) (ledger : Ledger)
+    → record (changed who (row_after call) ledger) { burned = ledger.burned + burned_by call (row_at ledger who) }
+    ≡ called who call ledger
 called_is who (Burn value) ledger = refl
 called_is who (Bond value minimum) ledger = more_none (changed who (row_after (Bond value minimum)) ledger)
 called_is who (BondExtra value) ledger = more_none (changed who (row_after (BondExtra value)) ledger)
@@ -201,7 +203,15 @@ kept_gained who value genesis minted ledger totals kept is within =
     let ordered = kept.balanced.distinct in
     record {
       balanced = balanced_gained who value genesis minted ledger kept.balanced is within;
-      running = totals_same (record totals { free = totals.free + value; minted = minted; issuance = totals.issuance + value }) (totals_of (record (changed who (gained value) ledger) { genesis = genesis; minted = minted }))
+      running = totals_same (record totals {
+        free = totals.free + value;
+        minted = minted;
+        issuance =
+            totals.issuance + value;
+      }) (totals_of (record (changed who (gained value) ledger) {
+        genesis = genesis;
+        minted = minted;
+      }))
           (omega (arith, total-changed (λ row. row.free) refl who (gained value) ledger ordered, ap (λ (t : Totals). t.free) kept.running))
           (omega (arith, total-changed (λ row. row.active) refl who (gained value) ledger ordered, ap (λ (t : Totals). t.active) kept.running))
           (omega (arith, total-changed (λ row. chunk_sum row.chunks) refl who (gained value) ledger ordered, ap (λ (t : Totals). t.unlocking) kept.running))

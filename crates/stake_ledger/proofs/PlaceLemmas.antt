@@ -1,5 +1,6 @@
 -- Accounts keep their places, and rows that stand at the places are rows by account.
-use Rattle.std.proofs.Common.{◌≡◌, ◌≢◌, ◌∙◌, ℕ, suc, ◌+◌, ◌<◌, Bool, true, false, cond, List, [], ◌∷◌, ◌++◌, length, get_or, slice_set, Option, Some, None, option_map, unwrap_or, is_some, OnSome, refl, ap, ap₂, sym, subst, arith, true≢false}
+use Rattle.std.proofs.Common.{◌≡◌, ◌≢◌, ◌∙◌, ℕ, suc, ◌+◌, ◌<◌, Bool, true, false, cond, List, [], ◌∷◌, ◌++◌, length, get_or, slice_set}
+use Rattle.std.proofs.Common.{Option, Some, None, option_map, unwrap_or, is_some, OnSome, refl, ap, ap₂, sym, subst, arith, true≢false}
 use Rattle.std.specs.BTreeMap.{insert_entry, is_at}
 use Rattle.std.specs.Map.{keys_of, lookup}
 use Rattle.std.specs.List.Sorted.{IsStrictlySortedBy}
@@ -55,7 +56,8 @@ row_placed rows places who place there = lookup_placed (is_at (account_cmp who))
 pub row_unplaced : (rows : List Row) (places : List (AccountId × ℕ)) (who : AccountId) → place_in places who ≡ None → row_of_entries who (rows_placed rows places) ≡ None
 row_unplaced rows places who nowhere = lookup_placed (is_at (account_cmp who)) rows places ∙ ap (option_map (λ p. get_or rows p empty_row)) nowhere
 
-pub row_in_placed : (rows : List Row) (places : List (AccountId × ℕ)) (who : AccountId) (place : ℕ) → place_in places who ≡ Some place → row_in (rows_placed rows places) who ≡ get_or rows place empty_row
+pub row_in_placed : (rows : List Row) (places : List (AccountId × ℕ)) (who : AccountId) (place : ℕ)
+    → place_in places who ≡ Some place → row_in (rows_placed rows places) who ≡ get_or rows place empty_row
 row_in_placed rows places who place there = ap (λ o. unwrap_or o empty_row) (row_placed rows places who place there)
 
 pub row_in_unplaced : (rows : List Row) (places : List (AccountId × ℕ)) (who : AccountId) → place_in places who ≡ None → row_in (rows_placed rows places) who ≡ empty_row
@@ -74,7 +76,8 @@ set_there : (rows : List Row) (places : List (AccountId × ℕ)) (who : AccountI
 set_there rows [] who place row ordered alone there within = absurd (not_none place (sym there))
 set_there rows (first ∷ later) who place row ordered alone there within =
     at (account_cmp who first.0) refl there
-    (λ found. set_there rows later who place row (sorted_tail account_cmp first.0 (keys_of later) ordered) (λ other here. alone other (place_behind first later other place ordered here)) found within) where
+    (λ found. set_there rows later who place row (sorted_tail account_cmp first.0 (keys_of later) ordered)
+    (λ other here. alone other (place_behind first later other place ordered here)) found within) where
       rest : IsStrictlySortedBy account_cmp (keys_of later)
       rest = sorted_tail account_cmp first.0 (keys_of later) ordered
 
@@ -93,7 +96,8 @@ set_there rows (first ∷ later) who place row ordered alone there within =
       at : (r : Ordering) → account_cmp who first.0 ≡ r → cond (is_eq r) (Some first.1) (place_in later who) ≡ Some place
           → (place_in later who ≡ Some place → rows_placed (slice_set rows place row) later ≡ insert_entry account_cmp (rows_placed rows later) who row)
           → (first.0, get_or (slice_set rows place row) first.1 empty_row) ∷ rows_placed (slice_set rows place row) later
-          ≡ match_ordering r ((who, row) ∷ rows_placed rows (first ∷ later)) ((first.0, row) ∷ rows_placed rows later) ((first.0, get_or rows first.1 empty_row) ∷ insert_entry account_cmp (rows_placed rows later) who row)
+          ≡ match_ordering r ((who, row) ∷ rows_placed rows (first ∷ later)) ((first.0, row) ∷ rows_placed rows later)
+          ((first.0, get_or rows first.1 empty_row) ∷ insert_entry account_cmp (rows_placed rows later) who row)
       at Less is found more =
           absurd (not_none place (sym found ∙ lookup-none (is_at (account_cmp who)) later (none_below_head account_total who first later ordered is).1))
       at Equal is found more =
@@ -112,12 +116,14 @@ row_changed rows places who place row placed there =
     set_there rows places who place row placed.ordered (λ other here. placed.apart who other place there here) there (placed.within who place there)
 
 -- the row that stands at the place of an account is its row
-pub row_found : (rows : List Row) (places : List (AccountId × ℕ)) (entries : List (AccountId × Row)) (who : AccountId) (place : ℕ) (row : Row) → ArePlaced rows places → rows_placed rows places ≡ entries
+pub row_found : (rows : List Row) (places : List (AccountId × ℕ)) (entries : List (AccountId × Row)) (who : AccountId)
+    (place : ℕ) (row : Row) → ArePlaced rows places → rows_placed rows places ≡ entries
     → place_in places who ≡ Some place → row ≡ get_or rows place row → row ≡ row_in entries who
 row_found rows places entries who place row placed view there is =
     get_or_read rows place row (placed.within who place there) is empty_row ∙ sym (row_in_placed rows places who place there) ∙ ap (λ es. row_in es who) view
 
-pub row_found_there : (rows : List Row) (places : List (AccountId × ℕ)) (entries : List (AccountId × Row)) (who : AccountId) (place : ℕ) (row : Row) → ArePlaced rows places → rows_placed rows places ≡ entries
+pub row_found_there : (rows : List Row) (places : List (AccountId × ℕ)) (entries : List (AccountId × Row))
+    (who : AccountId) (place : ℕ) (row : Row) → ArePlaced rows places → rows_placed rows places ≡ entries
     → place_in places who ≡ Some place → row ≡ get_or rows place row → row_of_entries who entries ≡ Some row
 row_found_there rows places entries who place row placed view there is =
     ap (row_of_entries who) (sym view) ∙ row_placed rows places who place there ∙ ap Some (sym (get_or_read rows place row (placed.within who place there) is empty_row))
@@ -127,7 +133,9 @@ pub row_missing : (rows : List Row) (places : List (AccountId × ℕ)) (entries 
 row_missing rows places entries who view nowhere = ap (row_of_entries who) (sym view) ∙ row_unplaced rows places who nowhere
 
 -- what becomes of that row becomes of the account's row
-pub row_becomes : (rows : List Row) (places : List (AccountId × ℕ)) (entries : List (AccountId × Row)) (who : AccountId) (place : ℕ) (row new : Row) (change : Row → Row) → ArePlaced rows places → rows_placed rows places ≡ entries
+pub row_becomes : (rows : List Row) (places : List (AccountId × ℕ)) (entries : List (AccountId × Row))
+    (who : AccountId) (place : ℕ) (row new : Row) (change : Row → Row) → ArePlaced rows places
+    → rows_placed rows places ≡ entries
     → place_in places who ≡ Some place → row ≡ get_or rows place row → new ≡ change row → rows_placed (slice_set rows place new) places ≡ with_row who change entries
 row_becomes rows places entries who place row new change placed view there is becomes =
     row_changed rows places who place new placed there
@@ -168,7 +176,8 @@ open_there rows (first ∷ later) who row ordered within =
 
       at : (r : Ordering) → rows_placed (rows ++ row ∷ []) (insert_entry account_cmp later who (length rows)) ≡ insert_entry account_cmp (rows_placed rows later) who row
           → rows_placed (rows ++ row ∷ []) (match_ordering r ((who, length rows) ∷ first ∷ later) ((first.0, length rows) ∷ later) (first ∷ insert_entry account_cmp later who (length rows)))
-          ≡ match_ordering r ((who, row) ∷ rows_placed rows (first ∷ later)) ((first.0, row) ∷ rows_placed rows later) ((first.0, get_or rows first.1 empty_row) ∷ insert_entry account_cmp (rows_placed rows later) who row)
+          ≡ match_ordering r ((who, row) ∷ rows_placed rows (first ∷ later)) ((first.0, row) ∷ rows_placed rows later)
+          ((first.0, get_or rows first.1 empty_row) ∷ insert_entry account_cmp (rows_placed rows later) who row)
       at Less more = ap₂ (λ r rows. (who, r) ∷ rows) here (ap₂ (λ r rows. (first.0, r) ∷ rows) (kept first.0 first.1 (place_first first later)) behind)
       at Equal more = ap₂ (λ r rows. (first.0, r) ∷ rows) here behind
       at Greater more = ap₂ (λ r rows. (first.0, r) ∷ rows) (kept first.0 first.1 (place_first first later)) more
@@ -187,7 +196,9 @@ placed_opened rows places who row placed nowhere = record {
       (λ same is. omega (arith, is, placed.count, longer)) (λ differ before. omega (arith, placed.within other place before, longer));
   apart = λ one other place there here. put_cases places who one (length places) place there (other ≡ one)
       (λ same is. put_cases places who other (length places) place here (other ≡ one) (λ also _. also ∙ sym same) (λ differ before. absurd (past other place before is)))
-      (λ differ before. put_cases places who other (length places) place here (other ≡ one) (λ also is. absurd (past one place before is)) (λ _ before_too. placed.apart one other place before before_too));
+      (λ differ before. put_cases places who other (length places) place here (other
+      ≡ one) (λ also is. absurd (past one place before is)) (λ _ before_too. placed.apart one other place before
+      before_too));
 } where
   longer : length (rows ++ row ∷ []) ≡ length rows + 1
   longer = length-append rows (row ∷ [])

@@ -44,7 +44,8 @@ released_with P amount release [] here all = All-cons (λ x. P x.release) (recor
 released_with P amount release (c ∷ []) here all = at (c.release == release) where
   at : (b : Bool) → Released P (if b then record c { value = c.value + amount } ∷ [] else c ∷ with_chunk amount release [])
   at true = All-cons (λ x. P x.release) (record c { value = c.value + amount }) [] (head_of (λ x. P x.release) c [] all) (All-nil _)
-  at false = All-cons (λ x. P x.release) c (with_chunk amount release []) (head_of (λ x. P x.release) c [] all) (All-cons (λ x. P x.release) (record { value = amount; release = release }) [] here (All-nil _))
+  at false = All-cons (λ x. P x.release) c (with_chunk amount release []) (head_of (λ x. P x.release) c [] all)
+      (All-cons (λ x. P x.release) (record { value = amount; release = release }) [] here (All-nil _))
 released_with P amount release (c ∷ d ∷ more) here all =
     All-cons (λ x. P x.release) c (with_chunk amount release (d ∷ more)) (head_of (λ x. P x.release) c (d ∷ more) all)
     (released_with P amount release (d ∷ more) here (All-tail (λ x. P x.release) c (d ∷ more) all))

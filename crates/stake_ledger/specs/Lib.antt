@@ -12,3 +12,4 @@ pub mod RowCalls
 pub mod BookRows
 pub mod Releases
 pub mod Laws
+pub mod Limits

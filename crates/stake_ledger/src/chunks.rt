@@ -88,7 +88,7 @@ impl Chunks {
 
     /// Joins the amount to the last chunk where that has the same release, else puts a new chunk
     /// last.
-    #[tactic(auto, using(crate::proofs::ChunkLemmas::joined, crate::proofs::ChunkLemmas::put_last, crate::proofs::ChunkLemmas::nonempty, crate::proofs::ChunkLemmas::room_to_join, crate::proofs::ChunkLemmas::room_to_put, crate::proofs::ChunkLemmas::no_room))]
+    #[tactic(auto, using(crate::proofs::ChunkLemmas::chunk_steps))]
     pub fn add(&mut self, amount: u64, release: u32) -> Result<(), LedgerRefusal>
         requires sum { chunk_sum self.old + amount < 2 ^ 64 }
         requires few { length self.old ≤ MOST_CHUNKS }

@@ -17,7 +17,7 @@ mod totals;
 
 pub use book::{Book, Loss};
 pub use book_row::{BookRow, first_bad_row, is_bad_row, is_bad_sum};
-pub use chunks::Chunk;
+pub use chunks::{Chunk, MOST_CHUNKS};
 pub use refusal::LedgerRefusal;
 pub use rows_fault::RowsFault;
 pub use totals::Totals;

@@ -1,5 +1,6 @@
 -- The members, after one of them is put in, changed or taken out.
-use Rattle.std.proofs.Common.{◌≡◌, ◌≢◌, ◌∙◌, ℕ, ◌+◌, ◌-◌, ◌^◌, ◌<◌, ◌≤◌, Bool, true, false, cond, not, ◌&&◌, nat_eq, nat_lt, if◌then◌else◌, List, [], ◌∷◌, refl, ap, sym, subst, arith, Option, Some, None, unwrap_or, option_map, is_some, Result, Ok, Err, sum_by, true≢false}
+use Rattle.std.proofs.Common.{◌≡◌, ◌≢◌, ◌∙◌, ℕ, ◌+◌, ◌-◌, ◌^◌, ◌<◌, ◌≤◌, Bool, true, false, cond, not, ◌&&◌, nat_eq, nat_lt, if◌then◌else◌, List, []}
+use Rattle.std.proofs.Common.{◌∷◌, refl, ap, sym, subst, arith, Option, Some, None, unwrap_or, option_map, is_some, Result, Ok, Err, sum_by, true≢false}
 use Rattle.std.specs.BTreeMap.{insert_entry, is_at}
 use Rattle.std.specs.Cmp.{IsTotalOrder}
 use Rattle.std.specs.List.{AllByRecursion}
@@ -248,7 +249,9 @@ pub summed_left : (who : AccountId) (less release : ℕ) (members : List (Accoun
 summed_left who less release members points staying summed within =
     let whole = part_within (λ m. m.staying) refl who members in
     summed-with_member who (left less release (member_at members who)) members points staying points (staying - less) summed
-    (omega (arith, within, leaving-with_leave less release (member_at members who).leaves)) (omega (arith, within, whole, summed.staying_are)) (omega (arith, summed.points_fit, summed.points_are)) (omega arith)
+    (omega (arith, within, leaving-with_leave less release (member_at members who).leaves))
+    (omega (arith, within, whole, summed.staying_are)) (omega (arith, summed.points_fit, summed.points_are))
+    (omega arith)
 
 pub due_within : (who : AccountId) (era : ℕ) (members : List (AccountId × Member)) (points staying : ℕ) → AreSummed members points staying
     → leaving (due_leaves era (member_at members who).leaves) ≤ points
@@ -266,9 +269,11 @@ summed_redeemed who era members points staying summed =
 pub summed_claimed : (who : AccountId) (members : List (AccountId × Member)) (points staying : ℕ) → AreSummed members points staying
     → AreSummed (changed who claimed members) points staying
 summed_claimed who members points staying summed =
-    summed-with_member who (claimed (member_at members who)) members points staying points staying summed (omega arith) (omega arith) (omega (arith, summed.points_fit, summed.points_are)) (omega arith)
+    summed-with_member who (claimed (member_at members who)) members points staying points staying summed
+    (omega arith) (omega arith) (omega (arith, summed.points_fit, summed.points_are)) (omega arith)
 
-pub settled_with : (who : AccountId) (change : Member → Member) (old new : Member) (members : List (AccountId × Member)) → IsStrictlySortedBy account_cmp (keys_of members) → member_of members who ≡ Some old
+pub settled_with : (who : AccountId) (change : Member → Member) (old new : Member) (members : List (AccountId
+    × Member)) → IsStrictlySortedBy account_cmp (keys_of members) → member_of members who ≡ Some old
     → new ≡ change old → (done : Bool) → done ≡ has_nothing new
     → cond done (remove_entry (is_at (account_cmp who)) (set_value (is_at (account_cmp who)) members new)) (set_value (is_at (account_cmp who)) members new) ≡ changed who change members
 settled_with who change old new members ordered found is done nothing =
@@ -324,7 +329,8 @@ module _ (who : AccountId) (member : Member) (members : List (AccountId × Membe
   -- what the member answers is the answer of the members
   pub leave_found : (points release : ℕ) (new : Member) (result : Result (Unit {0}) Stop) → IsStrictlySortedBy account_cmp (keys_of members)
       → Meets stops.NoMemory (option_map stops.Refused (points_refusal points release member)) (left points release member) member new result
-      → Meets stops.NoMemory (option_map stops.Refused (parting_refusal members who points release)) (changed who (left points release) members) members (set_value (is_at (account_cmp who)) members new) result
+      → Meets stops.NoMemory (option_map stops.Refused (parting_refusal members who points release))
+      (changed who (left points release) members) members (set_value (is_at (account_cmp who)) members new) result
   leave_found points release new (Ok done) ordered meets = record {
     ok = (
       ap (option_map stops.Refused) (parting_is points release) ∙ meets.ok.0,
@@ -347,9 +353,12 @@ module _ (who : AccountId) (member : Member) (members : List (AccountId × Membe
     unchanged = ap (set_value (is_at (account_cmp who)) members) same ∙ set_value_same (is_at (account_cmp who)) members member found;
   }
 
-  pub settled_found : {T : Type 0} (change : Member → Member) (due : Option PoolRefusal) (new : Member) (value : T) → IsStrictlySortedBy account_cmp (keys_of members) → due ≡ None → new ≡ change member
+  pub settled_found : {T : Type 0} (change : Member → Member) (due : Option PoolRefusal) (new : Member) (value : T)
+      → IsStrictlySortedBy account_cmp (keys_of members) → due ≡ None → new ≡ change member
       → (done : Bool) → done ≡ has_nothing new
-      → MeetsAlways due (changed who change members) members (cond done (remove_entry (is_at (account_cmp who)) (set_value (is_at (account_cmp who)) members new)) (set_value (is_at (account_cmp who)) members new)) (Ok value)
+      → MeetsAlways due (changed who change members) members
+      (cond done (remove_entry (is_at (account_cmp who)) (set_value (is_at (account_cmp who)) members new))
+      (set_value (is_at (account_cmp who)) members new)) (Ok value)
   settled_found change due new value ordered none is done nothing = record {
     ok = (none, settled_with who change member new members ordered found is done nothing);
     refused = tt;
@@ -357,7 +366,8 @@ module _ (who : AccountId) (member : Member) (members : List (AccountId × Membe
   }
 
 -- a claim keeps the sums, and so does one that is refused
-pub summed_claim : {T : Type 0} (who : AccountId) (members new : List (AccountId × Member)) (points staying : ℕ) (due : Option PoolRefusal) (result : Result T PoolRefusal) → AreSummed members points staying
+pub summed_claim : {T : Type 0} (who : AccountId) (members new : List (AccountId × Member)) (points staying : ℕ)
+    (due : Option PoolRefusal) (result : Result T PoolRefusal) → AreSummed members points staying
     → MeetsAlways due (changed who claimed members) members new result → AreSummed new points staying
 summed_claim who members new points staying due (Ok value) summed meets =
     subst (λ (es : List (AccountId × Member)). AreSummed es points staying) (sym meets.ok.1) (summed_claimed who members points staying summed)

@@ -1,5 +1,6 @@
 -- What each kind of item does to the figures of a pool, and that the pool stays sound.
-use Rattle.std.proofs.Common.{◌≡◌, ◌≢◌, ◌∙◌, ℕ, ◌+◌, ◌-◌, ◌*◌, ◌/◌, ◌^◌, ◌<◌, ◌≤◌, Bool, true, false, not, nat_eq, nat_lt, nat_le, ◌&&◌, if◌then◌else◌, List, length, refl, ap, sym, subst, arith, Option, Some, None, is_some, true≢false}
+use Rattle.std.proofs.Common.{◌≡◌, ◌≢◌, ◌∙◌, ℕ, ◌+◌, ◌-◌, ◌*◌, ◌/◌, ◌^◌, ◌<◌, ◌≤◌, Bool, true, false, not, nat_eq, nat_lt, nat_le}
+use Rattle.std.proofs.Common.{◌&&◌, if◌then◌else◌, List, length, refl, ap, sym, subst, arith, Option, Some, None, is_some, true≢false}
 use Rattle.std.specs.Option.{option_or}
 use Rattle.std.proofs.lemmas.Grind.{common_steps}
 use Rattle.npos_base.specs.declared.account.AccountId.{AccountId}
@@ -22,7 +23,8 @@ use Rattle.stake_pools.specs.Members as members
 use Rattle.stake_pools.specs.Members.{points_of, member_of, member_at, total, all_points, all_staying, all_credits, joined, left, redeemed, rewarded, all_rewarded, claimed}
 use Rattle.stake_pools.specs.Moves.{raised, lowered, invested, paid_out, burned}
 use Rattle.stake_pools.specs.Chain.{active_of, pot_of, all_points_of, worth_of}
-use Rattle.stake_pools.specs.Rules.{ItemRule, rule_of, is_member, payment_refusal, member_refusal, points_for, entry_refusal, join_rule, release_of, leave_rule, due_points, redeem_rule, reward_rule, credit_of, claim_rule, slash_of, slash_rule, next_era_rule}
+use Rattle.stake_pools.specs.Rules.{ItemRule, rule_of, is_member, payment_refusal, member_refusal, points_for, entry_refusal, join_rule, release_of}
+use Rattle.stake_pools.specs.Rules.{leave_rule, due_points, redeem_rule, reward_rule, credit_of, claim_rule, slash_of, slash_rule, next_era_rule}
 use Rattle.stake_pools.specs.Step.{outcome_by, item_outcome}
 use Rattle.stake_pools.specs.Sound.{IsSoundPool}
 use Rattle.stake_pools.proofs.Quotients.{no_fewer, part_within, payout_within}
@@ -132,7 +134,8 @@ pub entry_points_some : (chain : PoolChain) (who : AccountId) (value : ℕ) → 
 entry_points_some chain who value sound none =
     let q : ℕ = all_points_of chain in
     let a : ℕ = active_of chain in
-    let all = passed (not (is_member chain who) && nat_le 4096 (length_of chain)) (nat_lt 0 q && nat_eq a 0) (nat_le (2 ^ 64) (q + points_for chain value)) TooManyMembers PoolWiped TooManyPoints None none in
+    let all = passed (not (is_member chain who) && nat_le 4096 (length_of chain)) (nat_lt 0 q && nat_eq a 0)
+    (nat_le (2 ^ 64) (q + points_for chain value)) TooManyMembers PoolWiped TooManyPoints None none in
     at (nat_eq q 0) refl (priced q a all.1) where
       length_of : PoolChain → ℕ
       length_of c = length c.members

@@ -14,3 +14,4 @@ pub mod Life
 pub mod Laws
 pub mod Kept
 pub mod Opening
+pub mod Limits

@@ -1,7 +1,8 @@
 -- The numbers of the reasons for which an item is refused.
 use Rattle.std.specs.Prelude.{ℕ}
 use Rattle.stake_pools.specs.declared.refusal.PoolRefusal.{PoolRefusal}
-use Rattle.stake_pools.specs.declared.refusal.PoolRefusal.TheVariants.{LowFunds, ZeroValue, SameAccount, NotRoot, NotMember, LowPoints, NotDue, TooManyMembers, TooManyLeaves, PoolWiped, TooManyPoints, NoStayer, NothingDue, LastEra}
+use Rattle.stake_pools.specs.declared.refusal.PoolRefusal.TheVariants.{LowFunds, ZeroValue, SameAccount, NotRoot, NotMember, LowPoints, NotDue}
+use Rattle.stake_pools.specs.declared.refusal.PoolRefusal.TheVariants.{TooManyMembers, TooManyLeaves, PoolWiped, TooManyPoints, NoStayer, NothingDue, LastEra}
 
 abbrev pub refusal_number : PoolRefusal → ℕ
 refusal_number LowFunds = 1

@@ -2,6 +2,7 @@
 //! are the laws.
 ghost use Rattle.stake_ledger.specs.Ledger.{IsBalanced};
 ghost use Rattle.stake_pools.specs.Laws.{PoolStartLaw, KeptLaw, WorthLaw, JoinLaw, RedeemLaw, UndilutedLaw, PaidLaw};
+ghost use Rattle.stake_pools.specs.Limits.{AreTheLimits};
 
 use crate::Pool;
 
@@ -41,4 +42,9 @@ pub fn nobody_is_diluted()
 /// Who redeems is paid no more than the part of the active stake that the points are of all points.
 pub fn a_payment_is_within_its_part()
     ensures { PaidLaw }
+{}
+
+/// The limits that the code names are these numbers.
+pub fn the_limits_are_these()
+    ensures { AreTheLimits }
 {}

@@ -40,7 +40,7 @@ fn endow(
 }
 
 /// Opens the endowments in order, up to the first fault.
-#[tactic(auto, using(crate::proofs::EndowLemmas::fault_ahead, crate::proofs::EndowLemmas::opened_more, crate::proofs::EndowLemmas::all_opened, crate::proofs::EndowLemmas::none_opened))]
+#[tactic(auto, using(crate::proofs::EndowLemmas::openings))]
 fn endow_all(
     book: &mut Book,
     pool: AccountId,

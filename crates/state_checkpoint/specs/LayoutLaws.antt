@@ -21,7 +21,9 @@ use Rattle.state_rules.specs.declared.state.RoleKind.TheVariants.{Nominator, Val
 use Rattle.state_rules.specs.declared.state.State.{State}
 use Rattle.block_wire.specs.declared.limits.TheConstants.{MOST_NAMED}
 use Rattle.state_checkpoint.specs.declared.limits.TheConstants.{MOST_CHUNKS, MOST_MEMBERS, MOST_BACKERS, MOST_TARGETS, MOST_VOTERS, MOST_EDGES, MOST_SLASHES, MOST_LINES}
-use Rattle.state_checkpoint.specs.Layout.{chunk_form, row_form, kinds, kind_choice, kind_form, role_form, backer_form, member_form, era_form, round_form, queued_form, waiting_form, slash_form, head_form, runs_form, waits_form, tail_form, Parts, parts_form, states, state_choice, state_form}
+use Rattle.state_checkpoint.specs.Layout.{chunk_form, row_form, kinds, kind_choice, kind_form, role_form, backer_form}
+use Rattle.state_checkpoint.specs.Layout.{member_form, era_form, round_form, queued_form, waiting_form, slash_form, head_form}
+use Rattle.state_checkpoint.specs.Layout.{runs_form, waits_form, tail_form, Parts, parts_form, states, state_choice, state_form}
 
 -- ## What accounts have, and what they do
 

@@ -9,4 +9,4 @@ mod limits;
 mod roles;
 mod state;
 
-pub use state::{read_state, write_state};
+pub use state::{StateLayout, read_state, write_state};

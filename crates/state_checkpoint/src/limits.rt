@@ -5,7 +5,7 @@ use npos_base::MOST_NOMINATIONS;
 pub(crate) use npos_base::{MOST_QUEUED, MOST_SEATS, MOST_SOLUTION_BYTES};
 
 /// Chunks of one account.
-pub(crate) const MOST_CHUNKS: u32 = 32;
+pub(crate) const MOST_CHUNKS: u32 = stake_ledger::MOST_CHUNKS as u32;
 
 /// Members of one era.
 pub(crate) const MOST_MEMBERS: u32 = MOST_SEATS;
@@ -23,7 +23,7 @@ pub(crate) const MOST_VOTERS: u32 = npos_base::MOST_VOTERS as u32;
 pub(crate) const MOST_EDGES: u32 = MOST_VOTERS * MOST_NOMINATIONS as u32;
 
 /// Slashes that wait.
-pub(crate) const MOST_SLASHES: u32 = 256;
+pub(crate) const MOST_SLASHES: u32 = era_book::MOST_SLASHES as u32;
 
 /// Accounts from which one slash takes.
 pub(crate) const MOST_LINES: u32 = MOST_VOTERS;

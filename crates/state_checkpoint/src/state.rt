@@ -42,6 +42,23 @@ type Runs = (Rows, Roles, Eras);
 // stands behind the next number.
 type Tail = (Round, (Own, Queue), (Waiting, (Own, Slashes)));
 
+/// The layout of a state.
+pub struct StateLayout;
+
+impl Layout<State> for StateLayout {
+    ghost use Rattle.state_checkpoint.specs.Layout.{state_form};
+
+    ghost form = { state_form };
+
+    fn write(state: &State, pen: &mut Pen) -> Result<(), NoMemory> {
+        write_whole(state, pen)
+    }
+
+    fn read(alloc: Global, cursor: &mut Cursor<'_>) -> Result<State, ReadFault> {
+        read_state(alloc, cursor)
+    }
+}
+
 /// The bytes of a state.
 pub fn write_state(alloc: Global, state: &State) -> Result<List<u8>, NoMemory>
     requires { state_form.in_range state.now }

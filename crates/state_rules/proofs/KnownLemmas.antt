@@ -1,5 +1,6 @@
 -- What a binary search among rows by rising account finds.
-use Rattle.std.proofs.Common.{◌≡◌, ◌⊎◌, inl, inr, ℕ, zero, suc, ◌+◌, ◌<◌, ◌≤◌, Bool, true, false, ◌||◌, nat_lt, List, [], ◌∷◌, map, cond, is_some, Some, None, Err, refl, sym, ◌∙◌, ap, subst, arith, length, get_or}
+use Rattle.std.proofs.Common.{◌≡◌, ◌⊎◌, inl, inr, ℕ, zero, suc, ◌+◌, ◌<◌, ◌≤◌, Bool, true, false, ◌||◌, nat_lt, List, []}
+use Rattle.std.proofs.Common.{◌∷◌, map, cond, is_some, Some, None, Err, refl, sym, ◌∙◌, ap, subst, arith, length, get_or}
 use Rattle.std.specs.List.{list_any, AllByRecursion, HoldsAt}
 use Rattle.std.specs.List.Sorted.{IsStrictlySortedBy, IsNonDecreasingBy, IsBinarySearchResult, IsPartitionPoint}
 use Rattle.std.specs.Ordering.{ordering_index, ordering_reverse}

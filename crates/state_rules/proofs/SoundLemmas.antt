@@ -1,5 +1,6 @@
 -- What is not wrong is right, and the other way round.
-use Rattle.std.proofs.Common.{◌≡◌, ℕ, zero, suc, ◌<◌, ◌≤◌, Bool, true, false, not, ◌||◌, if◌then◌else◌, List, [], ◌∷◌, ◌++◌, Option, Some, None, is_some, refl, sym, ◌∙◌, ap, length, take, get_or, arith, nat_le, nat_lt, nat_eq}
+use Rattle.std.proofs.Common.{◌≡◌, ℕ, zero, suc, ◌<◌, ◌≤◌, Bool, true, false, not, ◌||◌, if◌then◌else◌, List, [], ◌∷◌, ◌++◌}
+use Rattle.std.proofs.Common.{Option, Some, None, is_some, refl, sym, ◌∙◌, ap, length, take, get_or, arith, nat_le, nat_lt, nat_eq}
 use Rattle.std.proofs.lemmas.List.{append-nil, append_assoc}
 use Rattle.std.proofs.lemmas.Bool.Decides.{nat_tests}
 use Rattle.std.specs.List.{list_any}
@@ -28,7 +29,8 @@ use Rattle.state_rules.specs.Queue.{is_bad_item, is_bad_count, is_outranking, ou
 use Rattle.state_rules.specs.Waiting.{are_bad_edges, is_bad_committee}
 use Rattle.state_rules.specs.Slashes.{is_bad_slash}
 use Rattle.state_rules.specs.Terms.{is_next_number}
-use Rattle.state_rules.specs.Sound.{EachIs, IsNomination, IsKind, IsSoundRole, AreSoundBackers, IsSoundMember, IsSoundEra, IsSoundTarget, IsSoundRound, IsSoundItem, IsSoundCommittee, IsSoundSlash, IsNextNumber}
+use Rattle.state_rules.specs.Sound.{EachIs, IsNomination, IsKind, IsSoundRole, AreSoundBackers, IsSoundMember, IsSoundEra}
+use Rattle.state_rules.specs.Sound.{IsSoundTarget, IsSoundRound, IsSoundItem, IsSoundCommittee, IsSoundSlash, IsNextNumber}
 
 -- ## Lists none of whose items is bad
 
@@ -217,7 +219,9 @@ round_good rows seats round is =
     (λ before voter. voter_fault (draft_of round.targets before) voter.account voter.stake voter.votes ≡ None) round.voters
     (λ before voter. no_some (voter_fault (draft_of round.targets before) voter.account voter.stake voter.votes)) is.voters_taken) in
     none_of _ (is_refused seats round) (none_of (has_bad (is_bad_target rows) round.targets) _ targets is.voters)
-    (none_of _ (is_some (finish_fault (draft_of round.targets round.voters) seats)) (none_of (has_bad is_refused_target round.targets) (has_bad (is_refused_voter round.targets) round.voters) targets_taken voters_taken)
+    (none_of _ (is_some (finish_fault (draft_of round.targets round.voters) seats))
+    (none_of (has_bad is_refused_target round.targets) (has_bad (is_refused_voter round.targets) round.voters)
+    targets_taken voters_taken)
     (no_some (finish_fault (draft_of round.targets round.voters) seats) is.seated))
 
 -- ## Submissions

@@ -25,7 +25,9 @@ use Rattle.state_rules.specs.Rounds.{is_bad_round}
 use Rattle.state_rules.specs.Queue.{is_bad_item, is_bad_held, waiting_of}
 use Rattle.state_rules.specs.Waiting.{is_bad_committee}
 use Rattle.state_rules.specs.Slashes.{is_bad_slash}
-use Rattle.state_rules.specs.Causes.{at_place, stated, row_cause, sum_cause, role_cause, era_cause, is_bad_open, round_cause, next_submission_cause, queue_cause, held_cause, is_bad_waiting, waiting_cause, first_cause, next_slash_cause, waiting_slash_cause, slash_cause}
+use Rattle.state_rules.specs.Causes.{at_place, stated, row_cause, sum_cause, role_cause, era_cause, is_bad_open}
+use Rattle.state_rules.specs.Causes.{round_cause, next_submission_cause, queue_cause, held_cause, is_bad_waiting}
+use Rattle.state_rules.specs.Causes.{waiting_cause, first_cause, next_slash_cause, waiting_slash_cause, slash_cause}
 use Rattle.state_rules.specs.Sound.{IsSoundRole, IsSoundEra, IsSoundOpen, IsSoundItem, IsSoundWaiting, IsSoundSlash, IsSoundState, HasSoundSlashes}
 use Rattle.state_rules.proofs.CauseLemmas.{neither, none_due}
 use Rattle.state_rules.proofs.RowLemmas.{last_put}

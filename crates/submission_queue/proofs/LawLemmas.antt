@@ -1,5 +1,7 @@
 -- Many offers, and what the rank keeps.
-use Rattle.std.proofs.Common.{◌≡◌, ℕ, zero, suc, ◌+◌, Bool, true, false, cond, not, ◌&&◌, List, [], ◌∷◌, ◌++◌, length, take, get_or, fold, find, filter, All, AllPairs, Contains, Option, Some, None, MatchOption, IsPermutation, IsSortedBy, refl, sym, ◌∙◌, ap, ap₂, subst, true≢false, append_assoc, arith, nat_lt, length-append}
+use Rattle.std.proofs.Common.{◌≡◌, ℕ, zero, suc, ◌+◌, Bool, true, false, cond, not, ◌&&◌, List, [], ◌∷◌, ◌++◌, length, take, get_or}
+use Rattle.std.proofs.Common.{fold, find, filter, All, AllPairs, Contains, Option, Some, None, MatchOption, IsPermutation, IsSortedBy}
+use Rattle.std.proofs.Common.{refl, sym, ◌∙◌, ap, ap₂, subst, true≢false, append_assoc, arith, nat_lt, length-append}
 use Rattle.std.proofs.lemmas.Grind.{common_steps}
 use Rattle.std.proofs.lemmas.Bool.Decides.{nat_tests}
 use Rattle.std.proofs.lemmas.List.{append-nil, take_all}

@@ -1,5 +1,6 @@
 -- Handing a stake out, edge by edge.
-use Rattle.std.proofs.Common.{◌≡◌, ◌≢◌, ℕ, suc, ◌+◌, ◌-◌, ◌<◌, ◌≤◌, min, Bool, true, false, not, ◌||◌, cond, nat_eq, nat_le, List, [], ◌∷◌, ◌++◌, length, take, drop, sum, get_or, set, inl, inr, refl, ap, ap₂, sym, ◌∙◌, arith, append_assoc}
+use Rattle.std.proofs.Common.{◌≡◌, ◌≢◌, ℕ, suc, ◌+◌, ◌-◌, ◌<◌, ◌≤◌, min, Bool, true, false, not, ◌||◌, cond, nat_eq, nat_le, List, []}
+use Rattle.std.proofs.Common.{◌∷◌, ◌++◌, length, take, drop, sum, get_or, set, inl, inr, refl, ap, ap₂, sym, ◌∙◌, arith, append_assoc}
 use Rattle.std.proofs.lemmas.List.{get_or-set_same, get_or-set_other, get_or_default, length-set, length-map, map-append, get_or-map}
 use Rattle.std.proofs.Math.Seq.{drop-cons}
 use Rattle.std.proofs.lemmas.Grind.{take-set_at}

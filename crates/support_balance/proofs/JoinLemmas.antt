@@ -1,5 +1,6 @@
 -- A member's slots join the edges.
-use Rattle.std.proofs.Common.{◌≡◌, ◌≢◌, ℕ, zero, suc, ◌+◌, ◌-◌, ◌^◌, ◌<◌, ◌≤◌, true, false, ◌&&◌, ◌||◌, nat_eq, List, [], ◌∷◌, ◌++◌, length, take, drop, get_or, All, inl, inr, refl, ap, ap₂, sym, subst, ◌∙◌, arith}
+use Rattle.std.proofs.Common.{◌≡◌, ◌≢◌, ℕ, zero, suc, ◌+◌, ◌-◌, ◌^◌, ◌<◌, ◌≤◌, true, false, ◌&&◌, ◌||◌, nat_eq, List, []}
+use Rattle.std.proofs.Common.{◌∷◌, ◌++◌, length, take, drop, get_or, All, inl, inr, refl, ap, ap₂, sym, subst, ◌∙◌, arith}
 use Rattle.std.specs.List.{AllPairs}
 use Rattle.std.proofs.lemmas.List.{get_or-drop, get_or-take, length-drop, length-take-le, take-append-drop, take_all, get_or_default}
 use Rattle.std.proofs.Math.Seq.{take-append-add}
@@ -204,7 +205,9 @@ pub row_joined : (snapshot : Snapshot) (target : ℕ) (edges : List Edge) → Al
     → IsJoining snapshot target edges (voter + 1) place ((joined ++ take (place - done) (drop done edges)) ++ slot_of voter target ∷ [])
     × All (λ (e : Edge). e.voter < voter + 1) ((joined ++ take (place - done) (drop done edges)) ++ slot_of voter target ∷ [])
 row_joined snapshot target edges up fits voter done joined so fresh place ahead within before next votes in_range below = (
-  put snapshot target edges up fits voter place (joined ++ take (place - done) (drop done edges)) (copied snapshot target edges up fits voter done joined so place ahead within) votes in_range in_front behind_slot,
+  put snapshot target edges up fits voter place (joined ++ take (place - done) (drop done edges))
+      (copied snapshot target edges up fits voter done joined so place ahead within) votes in_range in_front
+      behind_slot,
   All-append (λ (e : Edge). e.voter < voter + 1) (joined ++ take (place - done) (drop done edges)) (slot_of voter target ∷ [])
       (λ k d h. voter_below (get_or (joined ++ take (place - done) (drop done edges)) k d) (slot_of voter target) (in_front k d h))
       (All-cons (λ (e : Edge). e.voter < voter + 1) (slot_of voter target) [] (omega arith) (All-nil (λ (e : Edge). e.voter < voter + 1))),

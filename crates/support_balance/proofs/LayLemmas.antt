@@ -1,5 +1,6 @@
 -- Laying edges along slots.
-use Rattle.std.proofs.Common.{◌≡◌, ℕ, zero, suc, ◌+◌, ◌^◌, ◌<◌, ◌≤◌, Bool, true, false, nat_eq, List, [], ◌∷◌, ◌++◌, length, take, drop, map, get_or, All, inl, inr, refl, ap, ap₂, sym, subst, ◌∙◌, arith, append-nil}
+use Rattle.std.proofs.Common.{◌≡◌, ℕ, zero, suc, ◌+◌, ◌^◌, ◌<◌, ◌≤◌, Bool, true, false, nat_eq, List, [], ◌∷◌, ◌++◌, length}
+use Rattle.std.proofs.Common.{take, drop, map, get_or, All, inl, inr, refl, ap, ap₂, sym, subst, ◌∙◌, arith, append-nil}
 use Rattle.std.specs.List.{AllPairs}
 use Rattle.std.proofs.Math.Seq.{drop-cons}
 use Rattle.std.proofs.lemmas.List.{map-append, get_or-drop, length-drop, drop_all, take_all}
@@ -90,14 +91,17 @@ next_ahead slot rest edges at rising order ahead other k d a h = elim (or_cases 
         ]
         | inr same ↦
             let e : k ≡ at = omega (arith, a, same) in
-            absurd (true≢false (sym (same_pair_true (get_or edges at d) slot (ap (λ n. (get_or edges n d).voter) (sym e) ∙ sym v) (ap (λ n. (get_or edges n d).target) (sym e) ∙ sym t)) ∙ other d in_range))
+            absurd (true≢false (sym (same_pair_true (get_or edges at d) slot (ap (λ n. (get_or edges n d).voter)
+            (sym e) ∙ sym v) (ap (λ n. (get_or edges n d).target) (sym e) ∙ sym t)) ∙ other d in_range))
       ]
 ]
 
 pub alike_push : (xs ys : List Edge) (x y : Edge) → AreAlike xs ys → y.voter ≡ x.voter → y.target ≡ x.target → AreAlike (xs ++ x ∷ []) (ys ++ y ∷ [])
-alike_push xs ys x y alike v t = alike_from (xs ++ x ∷ []) (ys ++ y ∷ []) (pushed (λ (e : Edge). e.voter) (voters_alike xs ys alike) v) (pushed (λ (e : Edge). e.target) (targets_alike xs ys alike) t) where
-  pushed : (f : Edge → ℕ) → map f ys ≡ map f xs → f y ≡ f x → map f (ys ++ y ∷ []) ≡ map f (xs ++ x ∷ [])
-  pushed f same last = map-append f ys (y ∷ []) ∙ ap₂ (λ ns n. ns ++ n ∷ []) same last ∙ sym (map-append f xs (x ∷ []))
+alike_push xs ys x y alike v t = alike_from (xs ++ x ∷ []) (ys ++ y ∷ [])
+    (pushed (λ (e : Edge). e.voter) (voters_alike xs ys alike) v)
+    (pushed (λ (e : Edge). e.target) (targets_alike xs ys alike) t) where
+      pushed : (f : Edge → ℕ) → map f ys ≡ map f xs → f y ≡ f x → map f (ys ++ y ∷ []) ≡ map f (xs ++ x ∷ [])
+      pushed f same last = map-append f ys (y ∷ []) ∙ ap₂ (λ ns n. ns ++ n ∷ []) same last ∙ sym (map-append f xs (x ∷ []))
 
 pub given_push : (edges : List Edge) (edge : Edge) (voter target : ℕ) → given (edges ++ edge ∷ []) voter target ≡ given edges voter target + pair_weight voter target edge
 given_push edges edge voter target = given_weight (edges ++ edge ∷ []) voter target ∙ sum_by_push (pair_weight voter target) edges edge

@@ -38,7 +38,16 @@ filled_volume h a (x ∷ xs) e = elim (cases_lt h x) [
   | inr l ↦
       let within : a ≤ length (x ∷ low h xs) = rw (low_some h x xs l) at e in
       let more : h * length (x ∷ low h xs) ≡ h * length (low h xs) + h = mul-suc h (length (low h xs)) in
-      rw (filled_some h a x xs l, low_some h x xs l) (omega (arith, l, within, filled_volume h (a - min a 1) xs (omega (arith, within)), more, longer x (low h xs), longer (h - x + min a 1) (filled h (a - min a 1) xs)))
+      rw (filled_some h a x xs l, low_some h x xs l) (omega (
+        arith,
+        l,
+        within,
+        filled_volume h (a - min a 1) xs
+            (omega (arith, within)),
+        more,
+        longer x (low h xs),
+        longer (h - x + min a 1) (filled h (a - min a 1) xs),
+      ))
 ]
 
 pub filled_whole : (stake h a : ℕ) (xs : List ℕ) → IsLevel stake xs h a → sum (filled h a xs) ≡ stake

@@ -2,7 +2,8 @@
 use Rattle.std.proofs.Common.{◌≡◌, ℕ, ◌+◌, ◌-◌, ◌<◌, ◌≤◌, List, [], ◌∷◌, ◌++◌, length, take, drop, set, get_or, All, inl, inr, refl, ap, ap₂, sym, ◌∙◌, arith, append_assoc}
 use Rattle.std.specs.List.{copy_within}
 use Rattle.std.proofs.Math.Seq.{take-add}
-use Rattle.std.proofs.lemmas.List.{drop-drop, drop-take, drop-set, drop_at, drop_more, get_or-drop, get_or_default, length-append, length-drop, length-set, length-take-le, take-append-drop, take-append-le, take-set-le, take-take}
+use Rattle.std.proofs.lemmas.List.{drop-drop, drop-take, drop-set, drop_at, drop_more, get_or-drop, get_or_default, length-append}
+use Rattle.std.proofs.lemmas.List.{length-drop, length-set, length-take-le, take-append-drop, take-append-le, take-set-le, take-take}
 use Rattle.std.proofs.lemmas.List.Edits.{length-paste}
 use Rattle.std.proofs.lemmas.List.Elements.{All-push}
 use Rattle.std.proofs.lemmas.List.Quantifiers.{all_pairs_push}

@@ -1,7 +1,8 @@
 -- A turn does not raise the sum of squares. With L the least support of a member that the voter backs, each member that
 -- falls ends at L or above, and each that rises at L + 1 or below. So a unit that moves leaves a square that is no lower
 -- than the one it joins.
-use Rattle.std.proofs.Common.{◌≡◌, ℕ, zero, suc, ◌+◌, ◌*◌, ◌<◌, ◌≤◌, ◌⊎◌, Bool, true, false, cond, ◌&&◌, nat_eq, List, [], ◌∷◌, length, sum_by, get_or, All, inl, inr, refl, ap, sym, subst, ◌-◌, ◌∙◌, arith}
+use Rattle.std.proofs.Common.{◌≡◌, ℕ, zero, suc, ◌+◌, ◌*◌, ◌<◌, ◌≤◌, ◌⊎◌, Bool, true, false, cond, ◌&&◌, nat_eq, List}
+use Rattle.std.proofs.Common.{[], ◌∷◌, length, sum_by, get_or, All, inl, inr, refl, ap, sym, subst, ◌-◌, ◌∙◌, arith}
 use Rattle.std.specs.List.{IsDistinct}
 use Rattle.std.proofs.Math.Nat.{mul-add, mul-suc, suc-mul}
 use Rattle.std.proofs.lemmas.List.Sums.{sum_by-cons, get_or-le-sum_by}

@@ -1,5 +1,7 @@
 -- Digits in hexadecimal.
-use Rattle.std.proofs.Common.{◌≡◌, ℕ, zero, suc, ◌+◌, ◌-◌, ◌*◌, ◌/◌, ◌%◌, ◌<◌, ◌≤◌, nat_lt, length, take, drop, get_or, length-append, length-take-le, take_at, ◌∙◌, sym, Bool, true, ◌&&◌, T, eqb, List, [], ◌∷◌, ◌++◌, slice_index, refl, ap, inl, inr, arith, eq-zero-or-pos, eqb→eq}
+use Rattle.std.proofs.Common.{◌≡◌, ℕ, zero, suc, ◌+◌, ◌-◌, ◌*◌, ◌/◌, ◌%◌, ◌<◌, ◌≤◌, nat_lt, length, take, drop}
+use Rattle.std.proofs.Common.{get_or, length-append, length-take-le, take_at, ◌∙◌, sym, Bool, true, ◌&&◌, T, eqb}
+use Rattle.std.proofs.Common.{List, [], ◌∷◌, ◌++◌, slice_index, refl, ap, inl, inr, arith, eq-zero-or-pos, eqb→eq}
 use Rattle.std.specs.Int.{w64, to_le_bytes}
 use Rattle.std.proofs.lemmas.Grind.{common_steps}
 use Rattle.std.proofs.lemmas.List.{append_assoc, drop_more}

@@ -1,5 +1,6 @@
 -- The lines of calls in a table.
-use Rattle.std.proofs.Common.{◌≡◌, ℕ, zero, suc, ◌+◌, ◌-◌, ◌*◌, ◌<◌, ◌≤◌, Bool, true, false, ◌&&◌, T, eqb, List, [], ◌∷◌, ◌++◌, slice_range, flat_map, take, drop, refl, sym, ap, ap₂, drop-drop, inl, inr, arith, eq-zero-or-pos, eqb→eq, ◌∙◌}
+use Rattle.std.proofs.Common.{◌≡◌, ℕ, zero, suc, ◌+◌, ◌-◌, ◌*◌, ◌<◌, ◌≤◌, Bool, true, false, ◌&&◌, T, eqb, List, [], ◌∷◌, ◌++◌, slice_range}
+use Rattle.std.proofs.Common.{flat_map, take, drop, refl, sym, ap, ap₂, drop-drop, inl, inr, arith, eq-zero-or-pos, eqb→eq, ◌∙◌}
 use Rattle.std.specs.Fmt.{digits}
 use Rattle.told_lines.specs.Texts.{ok_line}
 use Rattle.told_lines.specs.declared.whole.TheConstants.{LINES}
@@ -90,7 +91,9 @@ counted (suc count) first =
     ap (λ l. first ∷ l) (counted count (first + 1) ∙ ap (λ n. range_with_len (first + 1) count ++ n ∷ []) same)
 
 -- one line more
-pub run_more : (old : List ℕ) (first index : ℕ) → first ≤ index → (old ++ flat_map ok_line (range_with_len first (index - first))) ++ ok_line index ≡ old ++ flat_map ok_line (range_with_len first (index + 1 - first))
+pub run_more : (old : List ℕ) (first index : ℕ) → first ≤ index
+    → (old ++ flat_map ok_line (range_with_len first (index - first))) ++ ok_line index ≡ old
+    ++ flat_map ok_line (range_with_len first (index + 1 - first))
 run_more old first index above =
     let here : index ≡ first + (index - first) = omega (arith, above) in
     let on : suc (index - first) ≡ index + 1 - first = omega (arith, above) in

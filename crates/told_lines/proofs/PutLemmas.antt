@@ -1,5 +1,6 @@
 -- What a line holds once a part of it was written over.
-use Rattle.std.proofs.Common.{◌≡◌, ◌-◌, ◌+◌, ◌≤◌, ℕ, List, [], ◌++◌, take, drop, length, arith, ap, ap₂, length-append, length-take, length-drop, length-take-le, take_at, drop_at, drop-drop, append-nil, ◌∙◌}
+use Rattle.std.proofs.Common.{◌≡◌, ◌-◌, ◌+◌, ◌≤◌, ℕ, List, [], ◌++◌, take, drop, length, arith, ap, ap₂, length-append}
+use Rattle.std.proofs.Common.{length-take, length-drop, length-take-le, take_at, drop_at, drop-drop, append-nil, ◌∙◌}
 use Rattle.std.proofs.lemmas.List.{drop_all}
 use borrow.Rule.Slice.PartMut.{put_mid}
 

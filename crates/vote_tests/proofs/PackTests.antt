@@ -60,14 +60,19 @@ packable stakes committee edges e =
       few_voters = grind (arith, nat_tests, a.0);
       voters_in_range = all_from (λ (edge : Edge). edge.voter < length stakes) (λ edge. nat_lt edge.voter (length stakes)) (λ edge e. grind (arith, nat_tests, e)) edges b.0;
       pairs_distinct = distinct_from edges c.0;
-      to_members = all_from (λ (edge : Edge). list_any (λ member. nat_eq member edge.target) committee ≡ true) (λ edge. list_any (λ member. nat_eq member edge.target) committee) (λ edge e. e) edges d.0;
+      to_members = all_from (λ (edge : Edge). list_any (λ member. nat_eq member edge.target) committee
+          ≡ true) (λ edge. list_any (λ member. nat_eq member edge.target) committee) (λ edge e. e) edges d.0;
       above = all_from (λ (edge : Edge). 0 < edge.amount) (λ edge. nat_lt 0 edge.amount) (λ edge e. grind (arith, nat_tests, e)) edges f.0;
       few_edges = λ voter. omega (arith, few, short_filter (λ (edge : Edge). nat_eq edge.voter voter) edges);
-      within = λ voter h. within_at voter h (all_from (λ (voter : ℕ). sum_by (λ edge. edge.amount) (edges_from edges voter) ≤ stake_at stakes voter) (has_stake stakes edges) (λ voter e. grind (arith, nat_tests, e)) (range_with_len 0 (length stakes)) g.1);
+      within = λ voter h. within_at voter h (all_from (λ (voter : ℕ). sum_by (λ edge. edge.amount)
+          (edges_from edges voter) ≤ stake_at stakes voter) (has_stake stakes edges)
+          (λ voter e. grind (arith, nat_tests, e)) (range_with_len 0 (length stakes)) g.1);
     } where
       within_at : (voter : ℕ) → voter < length stakes → All (λ (voter : ℕ). sum_by (λ edge. edge.amount) (edges_from edges voter) ≤ stake_at stakes voter) (range_with_len 0 (length stakes))
           → sum_by (λ edge. edge.amount) (edges_from edges voter) ≤ stake_at stakes voter
       within_at voter h all =
           let at : get_or (range_with_len 0 (length stakes)) voter 0 ≡ voter = get_or-range_with_len 0 (length stakes) voter 0 h ∙ zero-add voter in
           subst (λ (n : ℕ). sum_by (λ edge. edge.amount) (edges_from edges n) ≤ stake_at stakes n) at
-          (All-get_or (λ (voter : ℕ). sum_by (λ edge. edge.amount) (edges_from edges voter) ≤ stake_at stakes voter) (range_with_len 0 (length stakes)) voter 0 (omega (arith, h, length-range_with_len 0 (length stakes))) all)
+          (All-get_or (λ (voter : ℕ). sum_by (λ edge. edge.amount) (edges_from edges voter) ≤ stake_at stakes voter)
+          (range_with_len 0 (length stakes)) voter 0 (omega (arith, h, length-range_with_len 0 (length stakes)))
+          all)

@@ -1,5 +1,6 @@
 -- Whether a mark stands twice, by the classes of the marks behind it.
-use Rattle.std.proofs.Common.{arith, ◌≡◌, ◌≢◌, ◌∙◌, ◌+◌, ◌||◌, ◌⊎◌, inl, inr, ap, subst, sym, ◌%◌, ℕ, zero, suc, ◌<◌, ◌≤◌, nat_eq, eqb, Bool, true, false, List, [], ◌∷◌, length, drop, slice_index_or, slice_set, All, refl, get_or-set_other}
+use Rattle.std.proofs.Common.{arith, ◌≡◌, ◌≢◌, ◌∙◌, ◌+◌, ◌||◌, ◌⊎◌, inl, inr, ap, subst, sym, ◌%◌, ℕ, zero, suc, ◌<◌, ◌≤◌, nat_eq, eqb}
+use Rattle.std.proofs.Common.{Bool, true, false, List, [], ◌∷◌, length, drop, slice_index_or, slice_set, All, refl, get_or-set_other}
 use Rattle.std.specs.List.{list_any}
 use Rattle.std.proofs.Math.Seq.{drop-cons}
 use Rattle.std.proofs.lemmas.Bool.Decides.{eqb_tells}
@@ -13,7 +14,8 @@ abbrev pub AreMet : List ℕ → ℕ → List Bool → Type 0
 AreMet marks i is_met = (k d : ℕ) → i ≤ k → k < length marks → slice_index_or is_met (slice_index_or marks k d % 256) false ≡ true
 
 -- a mark whose class is not met is none of those from i on
-pub unmet_absent : (marks : List ℕ) (i mark : ℕ) (is_met : List Bool) → AreMet marks i is_met → slice_index_or is_met (mark % 256) false ≡ false → list_any (λ other. nat_eq other mark) (drop i marks) ≡ false
+pub unmet_absent : (marks : List ℕ) (i mark : ℕ) (is_met : List Bool) → AreMet marks i is_met
+    → slice_index_or is_met (mark % 256) false ≡ false → list_any (λ other. nat_eq other mark) (drop i marks) ≡ false
 unmet_absent marks i mark is_met met unmet = list_any_none (λ other. nat_eq other mark) (drop i marks) each where
   differs : (other : ℕ) → slice_index_or is_met (other % 256) false ≡ true → nat_eq other mark ≡ false
   differs other seen = grind arith
@@ -24,7 +26,10 @@ unmet_absent marks i mark is_met met unmet = list_any_none (λ other. nat_eq oth
 -- the class of the mark in front of them is met, too
 pub met_more : (marks : List ℕ) (i j : ℕ) (is_met : List Bool) → i ≡ j + 1 → length is_met ≡ 256 → AreMet marks i is_met → AreMet marks j (slice_set is_met (slice_index_or marks j 0 % 256) true)
 met_more marks i j is_met next whole met k d from inside = by_class (eqb_tells (slice_index_or marks k d % 256) (slice_index_or marks j 0 % 256)) where
-  by_class : ((eqb (slice_index_or marks k d % 256) (slice_index_or marks j 0 % 256) ≡ true) × (slice_index_or marks k d % 256 ≡ slice_index_or marks j 0 % 256)) ⊎ ((eqb (slice_index_or marks k d % 256) (slice_index_or marks j 0 % 256) ≡ false) × (slice_index_or marks k d % 256 ≢ slice_index_or marks j 0 % 256))
+  by_class : ((eqb (slice_index_or marks k d % 256) (slice_index_or marks j 0 % 256) ≡ true)
+      × (slice_index_or marks k d % 256 ≡ slice_index_or marks j 0 % 256))
+      ⊎ ((eqb (slice_index_or marks k d % 256) (slice_index_or marks j 0 % 256) ≡ false)
+      × (slice_index_or marks k d % 256 ≢ slice_index_or marks j 0 % 256))
       → slice_index_or (slice_set is_met (slice_index_or marks j 0 % 256) true) (slice_index_or marks k d % 256) false ≡ true
   by_class (inl (_, same)) = get_or-set_at is_met (slice_index_or marks j 0 % 256) (slice_index_or marks k d % 256) true false same (grind arith)
   by_class (inr (_, other)) = get_or-set_other is_met (slice_index_or marks j 0 % 256) (slice_index_or marks k d % 256) true false other ∙ met k d (behind (eqb_tells k j)) inside where
@@ -33,7 +38,9 @@ met_more marks i j is_met next whole met k d from inside = by_class (eqb_tells (
     behind (inr (_, apart)) = omega (arith, next, from, apart)
 
 -- a mark in front of those behind it
-repeat_front : (marks : List ℕ) (j : ℕ) → j < length marks → has_repeated_mark (drop j marks) ≡ (list_any (λ other. nat_eq other (slice_index_or marks j 0)) (drop (j + 1) marks) || has_repeated_mark (drop (j + 1) marks))
+repeat_front : (marks : List ℕ) (j : ℕ) → j < length marks → has_repeated_mark (drop j marks)
+    ≡ (list_any (λ other. nat_eq other (slice_index_or marks j 0)) (drop (j + 1) marks) || has_repeated_mark
+    (drop (j + 1) marks))
 repeat_front marks j inside = let suc_j : j + 1 ≡ suc j = omega arith in rw suc_j (rw (drop-cons marks j 0 inside) refl)
 
 -- what repeats at the end of a list repeats in it
@@ -47,5 +54,7 @@ pub repeats_here : (marks : List ℕ) (j : ℕ) → j < length marks → list_an
 repeats_here marks j inside again = repeat_behind marks j (repeat_front marks j inside ∙ (rw again refl))
 
 -- one that does not stand again leaves what repeats behind it
-pub repeats_not : (marks : List ℕ) (i j : ℕ) → i ≡ j + 1 → j < length marks → list_any (λ other. nat_eq other (slice_index_or marks j 0)) (drop (j + 1) marks) ≡ false → has_repeated_mark (drop i marks) ≡ false → has_repeated_mark (drop j marks) ≡ false
+pub repeats_not : (marks : List ℕ) (i j : ℕ) → i ≡ j + 1 → j < length marks
+    → list_any (λ other. nat_eq other (slice_index_or marks j 0)) (drop (j + 1) marks) ≡ false
+    → has_repeated_mark (drop i marks) ≡ false → has_repeated_mark (drop j marks) ≡ false
 repeats_not marks i j next inside once behind = repeat_front marks j inside ∙ (rw once (subst (λ n. has_repeated_mark (drop n marks) ≡ false) next behind))

@@ -1,5 +1,7 @@
 -- Which accounts the bags hold, and what the walk says of each, after one bag changes.
-use Rattle.std.proofs.Common.{◌≡◌, ◌≢◌, ℕ, zero, suc, ◌+◌, ◌<◌, ◌≤◌, Bool, true, false, not, ◌||◌, nat_eq, cond, if◌then◌else◌, List, [], ◌∷◌, ◌++◌, length, get_or, refl, ap, sym, ◌∙◌, subst, arith, Option, Some, None, true≢false, add-zero, zero-add, replicate, ◌⊎◌, inl, inr}
+use Rattle.std.proofs.Common.{◌≡◌, ◌≢◌, ℕ, zero, suc, ◌+◌, ◌<◌, ◌≤◌, Bool, true, false, not, ◌||◌, nat_eq, cond}
+use Rattle.std.proofs.Common.{if◌then◌else◌, List, [], ◌∷◌, ◌++◌, length, get_or, refl, ap, sym, ◌∙◌, subst, arith}
+use Rattle.std.proofs.Common.{Option, Some, None, true≢false, add-zero, zero-add, replicate, ◌⊎◌, inl, inr}
 use Rattle.std.proofs.Math.Nat.{eq-or-lt_of_le}
 use Rattle.std.specs.List.{slice_set}
 use Rattle.std.proofs.lemmas.List.{append-nil}
@@ -84,7 +86,9 @@ before_other (entry ∷ order) who number lighter other differ = at (same_accoun
       → in_bag other (if b then (who, number) ∷ entry ∷ order else entry ∷ placed_before order (who, number) lighter) ≡ in_bag other (entry ∷ order)
   at true rest = rw (number_test number other (λ e. differ (sym e))) refl
   at false rest = at_number (nat_eq entry.1 other) where
-    at_number : (c : Bool) → cond c (entry ∷ in_bag other (placed_before order (who, number) lighter)) (in_bag other (placed_before order (who, number) lighter)) ≡ cond c (entry ∷ in_bag other order) (in_bag other order)
+    at_number : (c : Bool) → cond c (entry ∷ in_bag other (placed_before order (who, number) lighter))
+        (in_bag other (placed_before order (who, number) lighter))
+        ≡ cond c (entry ∷ in_bag other order) (in_bag other order)
     at_number true = ap (λ zs. entry ∷ zs) rest
     at_number false = rest
 
@@ -94,7 +98,8 @@ before_in_bag [] who number lighter only = rw (number_same number) refl
 before_in_bag (entry ∷ order) who number lighter only = at (same_account entry.0 lighter) refl (nat_eq entry.1 number) refl (before_in_bag order who number lighter only.1) where
   at : (b : Bool) → same_account entry.0 lighter ≡ b → (c : Bool) → nat_eq entry.1 number ≡ c
       → in_bag number (placed_before order (who, number) lighter) ≡ placed_before (in_bag number order) (who, number) lighter
-      → in_bag number (if b then (who, number) ∷ entry ∷ order else entry ∷ placed_before order (who, number) lighter) ≡ placed_before (cond c (entry ∷ in_bag number order) (in_bag number order)) (who, number) lighter
+      → in_bag number (if b then (who, number) ∷ entry ∷ order else entry ∷ placed_before order (who, number) lighter)
+      ≡ placed_before (cond c (entry ∷ in_bag number order) (in_bag number order)) (who, number) lighter
   at true e true f rest = rw (number_same number, f, e) refl
   at true e false f rest = absurd (true≢false (sym (number_same number) ∙ ap (λ n. nat_eq n number) (sym (only.0 e)) ∙ f))
   at false e true f rest = rw (f, e) (ap (λ zs. entry ∷ zs) rest)
@@ -128,7 +133,9 @@ noted_set home now number zero (old ∷ bags) bag others here l =
         apart e h = omega (arith, e, h)
 noted_set home now number (suc place) (old ∷ bags) bag others here l = (
   (λ who. l.0 who ∙ sym (others who number (λ e. far e))),
-  noted_set home now (number + 1) place bags bag (λ who other differ. others who other (λ e. differ (e ∙ sym (shifted number place)))) (λ who. here who ∙ ap (λ n. is_in (now who) n) (sym (shifted number place))) l.1,
+  noted_set home now (number + 1) place bags bag (λ who other differ. others who other
+      (λ e. differ (e ∙ sym (shifted number place)))) (λ who. here who
+      ∙ ap (λ n. is_in (now who) n) (sym (shifted number place))) l.1,
 ) where
   shifted : (n p : ℕ) → n + 1 + p ≡ n + suc p
   shifted n p = omega arith
@@ -165,7 +172,8 @@ holds_without_it (account ∷ bag) who = at (same_account account who) refl (hol
 holds_without_other : (bag : List AccountId) (who q : AccountId) → same_account q who ≡ false → holds (without bag who) q ≡ holds bag q
 holds_without_other [] who q differ = refl
 holds_without_other (account ∷ bag) who q differ = at (same_account account who) refl (holds_without_other bag who q differ) where
-  at : (b : Bool) → same_account account who ≡ b → holds (without bag who) q ≡ holds bag q → holds (cond (not b) (account ∷ without bag who) (without bag who)) q ≡ (same_account account q || holds bag q)
+  at : (b : Bool) → same_account account who ≡ b → holds (without bag who) q ≡ holds bag q
+      → holds (cond (not b) (account ∷ without bag who) (without bag who)) q ≡ (same_account account q || holds bag q)
   at true e rest = let tie : account ≡ who = same_exact account who e in
       let apart : same_account account q ≡ false = ap (λ z. same_account z q) tie ∙ same_turned q who differ in rw apart rest
   at false e rest = ap (λ b. same_account account q || b) rest
@@ -177,7 +185,9 @@ pub noted_join : (home now : AccountId → Option ℕ) (place : ℕ) (bags : Lis
 noted_join home now place bags bag who anew absent held l = noted_set home now 0 place bags (bag ++ who ∷ []) others here l where
   others : (q : AccountId) (other : ℕ) → other ≢ 0 + place → is_in (now q) other ≡ is_in (home q) other
   others q other differ = by_same q who
-      (λ e. ap (λ z. is_in (now z) other) e ∙ ap (λ o. is_in o other) anew.here ∙ number_test place other (λ f. differ (sym f ∙ sym (zero-add place))) ∙ sym (ap (λ z. is_in (home z) other) e ∙ ap (λ o. is_in o other) absent))
+      (λ e. ap (λ z. is_in (now z) other) e ∙ ap (λ o. is_in o other) anew.here
+      ∙ number_test place other (λ f. differ (sym f ∙ sym (zero-add place)))
+      ∙ sym (ap (λ z. is_in (home z) other) e ∙ ap (λ o. is_in o other) absent))
       (λ e. ap (λ o. is_in o other) (anew.others q e))
 
   here : (q : AccountId) → holds (bag ++ who ∷ []) q ≡ is_in (now q) (0 + place)
@@ -200,7 +210,9 @@ pub noted_leave : (home now : AccountId → Option ℕ) (place : ℕ) (bags : Li
 noted_leave home now place bags bag who anew there held l = noted_set home now 0 place bags (without bag who) others here l where
   others : (q : AccountId) (other : ℕ) → other ≢ 0 + place → is_in (now q) other ≡ is_in (home q) other
   others q other differ = by_same q who
-      (λ e. ap (λ z. is_in (now z) other) e ∙ ap (λ o. is_in o other) anew.here ∙ sym (ap (λ z. is_in (home z) other) e ∙ ap (λ o. is_in o other) there ∙ number_test place other (λ f. differ (sym f ∙ sym (zero-add place)))))
+      (λ e. ap (λ z. is_in (now z) other) e ∙ ap (λ o. is_in o other) anew.here
+      ∙ sym (ap (λ z. is_in (home z) other) e ∙ ap (λ o. is_in o other) there
+      ∙ number_test place other (λ f. differ (sym f ∙ sym (zero-add place)))))
       (λ e. ap (λ o. is_in o other) (anew.others q e))
 
   here : (q : AccountId) → holds (without bag who) q ≡ is_in (now q) (0 + place)
@@ -248,7 +260,11 @@ noted_before home place bags bag who lighter there held l = noted_set home home 
 -- an account stands only in the bag that is noted for it
 only_numbered : (who : AccountId) (number place : ℕ) (bag : List AccountId) → (holds bag who ≡ true → number ≡ place) → OnlyIn who place (numbered number bag)
 only_numbered who number place [] h = tt
-only_numbered who number place (account ∷ bag) h = ((λ e. h (ap (λ b. b || holds bag who) e)), only_numbered who number place bag (λ e. h (ap (λ b. same_account account who || b) e ∙ or_true (same_account account who)))) where
+only_numbered who number place (account ∷ bag) h = (
+  (λ e. h (ap (λ b. b || holds bag who) e)),
+  only_numbered who number place bag (λ e. h (ap (λ b. same_account account who || b) e
+      ∙ or_true (same_account account who))),
+) where
   or_true : (b : Bool) → (b || true) ≡ true
   or_true true = refl
   or_true false = refl
@@ -257,7 +273,8 @@ only_append : (who : AccountId) (place : ℕ) (xs ys : Order) → OnlyIn who pla
 only_append who place [] ys p q = q
 only_append who place (x ∷ xs) ys p q = (p.0, only_append who place xs ys p.1 q)
 
-pub only_walk : (home : AccountId → Option ℕ) (who : AccountId) (place number : ℕ) (bags : List (List AccountId)) → home who ≡ Some place → AreNoted home number bags → OnlyIn who place (walk_from number bags)
+pub only_walk : (home : AccountId → Option ℕ) (who : AccountId) (place number : ℕ) (bags : List (List AccountId))
+    → home who ≡ Some place → AreNoted home number bags → OnlyIn who place (walk_from number bags)
 only_walk home who place number [] there l = tt
 only_walk home who place number (bag ∷ bags) there l =
     only_append who place (walk_from (number + 1) bags) (numbered number bag) (only_walk home who place (number + 1) bags there l.1)
@@ -275,25 +292,31 @@ number_of_numbered who number (account ∷ bag) = at (same_account account who) 
 number_of_first : (who : AccountId) (number : ℕ) (xs ys : Order) → number_of xs who ≡ Some number → number_of (xs ++ ys) who ≡ Some number
 number_of_first who number [] ys e = absurd (cc)
 number_of_first who number (x ∷ xs) ys e = at (same_account x.0 who) e (number_of_first who number xs ys) where
-  at : (b : Bool) → (if b then Some x.1 else number_of xs who) ≡ Some number → (number_of xs who ≡ Some number → number_of (xs ++ ys) who ≡ Some number) → (if b then Some x.1 else number_of (xs ++ ys) who) ≡ Some number
+  at : (b : Bool) → (if b then Some x.1 else number_of xs who) ≡ Some number
+      → (number_of xs who ≡ Some number → number_of (xs ++ ys) who ≡ Some number)
+      → (if b then Some x.1 else number_of (xs ++ ys) who) ≡ Some number
   at true e rest = e
   at false e rest = rest e
 
 number_of_second : (who : AccountId) (xs ys : Order) → number_of xs who ≡ None → number_of (xs ++ ys) who ≡ number_of ys who
 number_of_second who [] ys e = refl
 number_of_second who (x ∷ xs) ys e = at (same_account x.0 who) e (number_of_second who xs ys) where
-  at : (b : Bool) → (if b then Some x.1 else number_of xs who) ≡ None → (number_of xs who ≡ None → number_of (xs ++ ys) who ≡ number_of ys who) → (if b then Some x.1 else number_of (xs ++ ys) who) ≡ number_of ys who
+  at : (b : Bool) → (if b then Some x.1 else number_of xs who) ≡ None
+      → (number_of xs who ≡ None → number_of (xs ++ ys) who ≡ number_of ys who)
+      → (if b then Some x.1 else number_of (xs ++ ys) who) ≡ number_of ys who
   at true e rest = absurd (cc)
   at false e rest = rest e
 
-pub number_none : (home : AccountId → Option ℕ) (who : AccountId) (number : ℕ) (bags : List (List AccountId)) → ((other : ℕ) → number ≤ other → is_in (home who) other ≡ false) → AreNoted home number bags
+pub number_none : (home : AccountId → Option ℕ) (who : AccountId) (number : ℕ) (bags : List (List AccountId))
+    → ((other : ℕ) → number ≤ other → is_in (home who) other ≡ false) → AreNoted home number bags
     → number_of (walk_from number bags) who ≡ None
 number_none home who number [] far l = refl
 number_none home who number (bag ∷ bags) far l =
     number_of_second who (walk_from (number + 1) bags) (numbered number bag) (number_none home who (number + 1) bags (λ other h. far other (omega (arith, h))) l.1)
     ∙ number_of_numbered who number bag ∙ rw (l.0 who ∙ far number (omega arith)) refl
 
-pub number_some : (home : AccountId → Option ℕ) (who : AccountId) (number place : ℕ) (bags : List (List AccountId)) → home who ≡ Some place → AreNoted home number bags → number ≤ place → place < number + length bags
+pub number_some : (home : AccountId → Option ℕ) (who : AccountId) (number place : ℕ) (bags : List (List AccountId))
+    → home who ≡ Some place → AreNoted home number bags → number ≤ place → place < number + length bags
     → number_of (walk_from number bags) who ≡ Some place
 number_some home who number place [] there l low high = absurd (omega (arith, low, high))
 number_some home who number place (bag ∷ bags) there l low high = at (eq-or-lt_of_le low) (number_some home who (number + 1) place bags there l.1) where

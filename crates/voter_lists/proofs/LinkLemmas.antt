@@ -305,7 +305,9 @@ module _ (next prev : ℕ → ℕ) (heads : ℕ) where
 
 module _ (next prev next' prev' : ℕ → ℕ) (heads : ℕ) where
   -- a chain stays where the links stay on it
-  IsChain-kept : (from : ℕ) (keys : List ℕ) (to : ℕ) → IsChain next prev heads from keys to → ((at : ℕ) → IsOn heads from keys at → next' at ≡ next at) → ((at : ℕ) → IsOn heads to keys at → prev' at ≡ prev at) → IsChain next' prev' heads from keys to
+  IsChain-kept : (from : ℕ) (keys : List ℕ) (to : ℕ) → IsChain next prev heads from keys to
+      → ((at : ℕ) → IsOn heads from keys at → next' at ≡ next at) → ((at : ℕ) → IsOn heads to keys at
+      → prev' at ≡ prev at) → IsChain next' prev' heads from keys to
   IsChain-kept from [] to chain nexts prevs = (nexts from (inl refl) ∙ chain.0, prevs to (inl refl) ∙ chain.1)
   IsChain-kept from (first ∷ rest) to chain nexts prevs = (
     nexts from (inl refl) ∙ chain.0,
@@ -316,7 +318,9 @@ module _ (next prev next' prev' : ℕ → ℕ) (heads : ℕ) where
   )
 
   -- the first key leaves, and the start is joined to what followed it
-  IsChain-skip_first : (from first : ℕ) (rest : List ℕ) (to : ℕ) → IsChain next prev heads (heads + first) rest to → IsApart rest → IsOff heads rest from → IsOff heads rest to → Joins next next' from (next (heads + first)) → Joins prev prev' (next (heads + first)) from → IsChain next' prev' heads from rest to
+  IsChain-skip_first : (from first : ℕ) (rest : List ℕ) (to : ℕ) → IsChain next prev heads (heads + first) rest to
+      → IsApart rest → IsOff heads rest from → IsOff heads rest to → Joins next next' from (next (heads + first))
+      → Joins prev prev' (next (heads + first)) from → IsChain next' prev' heads from rest to
   IsChain-skip_first from first [] to chain apart from_off to_off nexts prevs =
       (nexts.here ∙ chain.0, ap prev' (sym chain.0) ∙ prevs.here)
   IsChain-skip_first from first (second ∷ rest) to chain apart from_off to_off nexts prevs = (
@@ -330,7 +334,11 @@ module _ (next prev next' prev' : ℕ → ℕ) (heads : ℕ) where
   )
 
   -- a key leaves, and its neighbours are joined
-  IsChain-skip : (from : ℕ) (keys : List ℕ) (to key : ℕ) → IsChain next prev heads from keys to → IsApart keys → IsOff heads keys from → IsOff heads keys to → IsIn key keys → Joins next next' (prev (heads + key)) (next (heads + key)) → Joins prev prev' (next (heads + key)) (prev (heads + key)) → IsChain next' prev' heads from (without key keys) to
+  IsChain-skip : (from : ℕ) (keys : List ℕ) (to key : ℕ) → IsChain next prev heads from keys to → IsApart keys
+      → IsOff heads keys from → IsOff heads keys to → IsIn key keys
+      → Joins next next' (prev (heads + key)) (next (heads + key))
+      → Joins prev prev' (next (heads + key)) (prev (heads + key))
+      → IsChain next' prev' heads from (without key keys) to
   IsChain-skip from [] to key chain apart from_off to_off found nexts prevs = absurd found
   IsChain-skip from (first ∷ rest) to key chain apart from_off to_off found nexts prevs =
       elim (cases_eq first key) [
@@ -343,25 +351,37 @@ module _ (next prev next' prev' : ℕ → ℕ) (heads : ℕ) where
             let there : IsIn key rest = elim found [ inl here ↦ absurd (differs here) | inr later ↦ later ] in
             let first_off = IsOff-head heads first rest apart.0 in
             subst (λ ks. IsChain next' prev' heads from ks to) (sym (without_past key first rest differs)) (
-              nexts.others from (off_not_on heads (heads + first) rest from _ (from_off first (inl refl)) (λ k later. from_off k (inr later)) (prev_on next prev heads (heads + first) rest to key chain.2 there)) ∙ chain.0,
-              prevs.others (heads + first) (off_not_on heads to rest (heads + first) _ (λ end. to_off first (inl refl) (sym end)) first_off (next_on next prev heads (heads + first) rest to key chain.2 there)) ∙ chain.1,
+              nexts.others from (off_not_on heads (heads + first) rest from _ (from_off first (inl refl))
+                  (λ k later. from_off k (inr later)) (prev_on next prev heads (heads + first) rest to key chain.2
+                  there)) ∙ chain.0,
+              prevs.others (heads + first) (off_not_on heads to rest (heads + first) _
+                  (λ end. to_off first (inl refl) (sym end)) first_off (next_on next prev heads (heads + first) rest
+                  to key chain.2 there)) ∙ chain.1,
               IsChain-skip (heads + first) rest to key chain.2 apart.1 first_off (λ k later. to_off k (inr later)) there nexts prevs,
             )
       ]
 
   -- a key joins at the end
-  IsChain-push : (from : ℕ) (keys : List ℕ) (to key : ℕ) → IsChain next prev heads from keys to → IsApart keys → IsOff heads keys from → IsOff heads keys to → ¬ IsIn key keys → from ≢ heads + key → Inserts next prev next' prev' (prev to) (heads + key) to → IsChain next' prev' heads from (keys ++ key ∷ []) to
+  IsChain-push : (from : ℕ) (keys : List ℕ) (to key : ℕ) → IsChain next prev heads from keys to → IsApart keys
+      → IsOff heads keys from → IsOff heads keys to → ¬ IsIn key keys → from ≢ heads + key
+      → Inserts next prev next' prev' (prev to) (heads + key) to
+      → IsChain next' prev' heads from (keys ++ key ∷ []) to
   IsChain-push from [] to key chain apart from_off to_off absent other splices =
       (ap next' (sym chain.1) ∙ splices.into, splices.back_out ∙ chain.1, (splices.out, splices.back_into))
   IsChain-push from (first ∷ rest) to key chain apart from_off to_off absent other splices =
       let new : heads + first ≢ heads + key = λ same. absent (inl (omega arith)) in (
-        splices.nexts from (off_not_on heads (heads + first) rest from _ (from_off first (inl refl)) (λ k later. from_off k (inr later)) (prev_end_on next prev heads (heads + first) rest to chain.2)) other ∙ chain.0,
+        splices.nexts from (off_not_on heads (heads + first) rest from _ (from_off first (inl refl))
+            (λ k later. from_off k (inr later)) (prev_end_on next prev heads (heads + first) rest to chain.2)) other
+            ∙ chain.0,
         splices.prevs (heads + first) (λ end. to_off first (inl refl) (sym end)) new ∙ chain.1,
         IsChain-push (heads + first) rest to key chain.2 apart.1 (IsOff-head heads first rest apart.0) (λ k later. to_off k (inr later)) (λ later. absent (inr later)) new splices,
       )
 
   -- a key joins before another
-  IsChain-before : (from : ℕ) (keys : List ℕ) (to key other : ℕ) → IsChain next prev heads from keys to → IsApart keys → IsOff heads keys from → IsOff heads keys to → ¬ IsIn key keys → from ≢ heads + key → to ≢ heads + key → IsIn other keys → Inserts next prev next' prev' (prev (heads + other)) (heads + key) (heads + other) → IsChain next' prev' heads from (before key other keys) to
+  IsChain-before : (from : ℕ) (keys : List ℕ) (to key other : ℕ) → IsChain next prev heads from keys to → IsApart keys
+      → IsOff heads keys from → IsOff heads keys to → ¬ IsIn key keys → from ≢ heads + key → to ≢ heads + key
+      → IsIn other keys → Inserts next prev next' prev' (prev (heads + other)) (heads + key) (heads + other)
+      → IsChain next' prev' heads from (before key other keys) to
   IsChain-before from [] to key other chain apart from_off to_off absent unlike end_unlike found splices = absurd found
   IsChain-before from (first ∷ rest) to key other chain apart from_off to_off absent unlike end_unlike found splices =
       let new : (at : ℕ) → IsIn at (first ∷ rest) → heads + at ≢ heads + key = λ at there same. absent (subst (λ k. IsIn k (first ∷ rest)) (let keys : at ≡ key = omega arith in keys) there) in
@@ -387,9 +407,13 @@ module _ (next prev next' prev' : ℕ → ℕ) (heads : ℕ) where
             let there : IsIn other rest = elim found [ inl it ↦ absurd (differs it) | inr later ↦ later ] in
             let first_off = IsOff-head heads first rest apart.0 in
             subst (λ ks. IsChain next' prev' heads from ks to) (sym (before_past key other first rest differs)) (
-              splices.nexts from (off_not_on heads (heads + first) rest from _ (from_off first (inl refl)) (λ k later. from_off k (inr later)) (prev_on next prev heads (heads + first) rest to other chain.2 there)) unlike ∙ chain.0,
+              splices.nexts from (off_not_on heads (heads + first) rest from _ (from_off first (inl refl))
+                  (λ k later. from_off k (inr later)) (prev_on next prev heads (heads + first) rest to other chain.2
+                  there)) unlike ∙ chain.0,
               splices.prevs (heads + first) (first_off other there) (new first (inl refl)) ∙ chain.1,
-              IsChain-before (heads + first) rest to key other chain.2 apart.1 first_off (λ k later. to_off k (inr later)) (λ later. absent (inr later)) (new first (inl refl)) end_unlike there splices,
+              IsChain-before (heads + first) rest to key other chain.2 apart.1 first_off
+                  (λ k later. to_off k (inr later)) (λ later. absent (inr later)) (new first (inl refl)) end_unlike
+                  there splices,
             )
       ]
 
@@ -397,7 +421,10 @@ module _ (next prev next' prev' : ℕ → ℕ) (heads : ℕ) where
 
   module _ (owner owner' : ℕ → Option ℕ) where
     -- a ring stays where its links and its keys stay
-    pub IsRing-kept : (list : ℕ) (keys : List ℕ) → IsRing next prev heads owner list keys → ((at : ℕ) → IsOn heads list keys at → next' at ≡ next at) → ((at : ℕ) → IsOn heads list keys at → prev' at ≡ prev at) → ((key : ℕ) → owner key ≡ Some list → owner' key ≡ Some list) → ((key : ℕ) → owner' key ≡ Some list → owner key ≡ Some list) → IsRing next' prev' heads owner' list keys
+    pub IsRing-kept : (list : ℕ) (keys : List ℕ) → IsRing next prev heads owner list keys
+        → ((at : ℕ) → IsOn heads list keys at → next' at ≡ next at) → ((at : ℕ) → IsOn heads list keys at
+        → prev' at ≡ prev at) → ((key : ℕ) → owner key ≡ Some list → owner' key ≡ Some list)
+        → ((key : ℕ) → owner' key ≡ Some list → owner key ≡ Some list) → IsRing next' prev' heads owner' list keys
     IsRing-kept list keys ring nexts prevs stay came =
         record {
           chained = IsChain-kept list keys list ring.chained nexts prevs;
@@ -406,7 +433,11 @@ module _ (next prev next' prev' : ℕ → ℕ) (heads : ℕ) where
           listed = λ key owned. ring.listed key (came key owned);
         }
 
-    pub IsRing-skip : (list : ℕ) (keys : List ℕ) (key : ℕ) → list < heads → IsRing next prev heads owner list keys → owner key ≡ Some list → Joins next next' (prev (heads + key)) (next (heads + key)) → Joins prev prev' (next (heads + key)) (prev (heads + key)) → owner' key ≡ None → ((other : ℕ) → other ≢ key → owner' other ≡ owner other) → IsRing next' prev' heads owner' list (without key keys)
+    pub IsRing-skip : (list : ℕ) (keys : List ℕ) (key : ℕ) → list < heads → IsRing next prev heads owner list keys
+        → owner key ≡ Some list → Joins next next' (prev (heads + key)) (next (heads + key))
+        → Joins prev prev' (next (heads + key)) (prev (heads + key)) → owner' key ≡ None
+        → ((other : ℕ) → other ≢ key → owner' other ≡ owner other)
+        → IsRing next' prev' heads owner' list (without key keys)
     IsRing-skip list keys key head ring owned nexts prevs left others =
         let off : IsOff heads keys list = λ k found same. omega arith in
         record {
@@ -418,7 +449,10 @@ module _ (next prev next' prev' : ℕ → ℕ) (heads : ℕ) where
               IsIn-without_kept key other keys (ring.listed other (sym (others other differs) ∙ now)) differs;
         }
 
-    pub IsRing-push : (list : ℕ) (keys : List ℕ) (key : ℕ) → list < heads → IsRing next prev heads owner list keys → owner key ≡ None → Inserts next prev next' prev' (prev list) (heads + key) list → owner' key ≡ Some list → ((other : ℕ) → other ≢ key → owner' other ≡ owner other) → IsRing next' prev' heads owner' list (keys ++ key ∷ [])
+    pub IsRing-push : (list : ℕ) (keys : List ℕ) (key : ℕ) → list < heads → IsRing next prev heads owner list keys
+        → owner key ≡ None → Inserts next prev next' prev' (prev list) (heads + key) list → owner' key ≡ Some list
+        → ((other : ℕ) → other ≢ key → owner' other ≡ owner other)
+        → IsRing next' prev' heads owner' list (keys ++ key ∷ [])
     IsRing-push list keys key head ring free splices joined others =
         let off : IsOff heads keys list = λ k found same. omega arith in
         let absent : ¬ IsIn key keys = λ found. none-some list (sym free ∙ ring.owned key found) in
@@ -437,7 +471,10 @@ module _ (next prev next' prev' : ℕ → ℕ) (heads : ℕ) where
               ];
         }
 
-    pub IsRing-before : (list : ℕ) (keys : List ℕ) (key other : ℕ) → list < heads → IsRing next prev heads owner list keys → owner key ≡ None → owner other ≡ Some list → Inserts next prev next' prev' (prev (heads + other)) (heads + key) (heads + other) → owner' key ≡ Some list → ((k : ℕ) → k ≢ key → owner' k ≡ owner k) → IsRing next' prev' heads owner' list (before key other keys)
+    pub IsRing-before : (list : ℕ) (keys : List ℕ) (key other : ℕ) → list < heads
+        → IsRing next prev heads owner list keys → owner key ≡ None → owner other ≡ Some list
+        → Inserts next prev next' prev' (prev (heads + other)) (heads + key) (heads + other) → owner' key ≡ Some list
+        → ((k : ℕ) → k ≢ key → owner' k ≡ owner k) → IsRing next' prev' heads owner' list (before key other keys)
     IsRing-before list keys key other head ring free linked splices joined others =
         let off : IsOff heads keys list = λ k found same. omega arith in
         let absent : ¬ IsIn key keys = λ found. none-some list (sym free ∙ ring.owned key found) in
@@ -458,7 +495,9 @@ module _ (next prev next' prev' : ℕ → ℕ) (heads : ℕ) where
 
 module _ (next prev : ℕ → ℕ) (heads : ℕ) (owner : ℕ → Option ℕ) where
   -- two rings share no place
-  pub rings_apart : (list other : ℕ) (keys others : List ℕ) (at : ℕ) → list < heads → other < heads → other ≢ list → IsRing next prev heads owner list keys → IsRing next prev heads owner other others → IsOn heads list keys at → IsOn heads other others at → ⊥
+  pub rings_apart : (list other : ℕ) (keys others : List ℕ) (at : ℕ) → list < heads → other < heads → other ≢ list
+      → IsRing next prev heads owner list keys → IsRing next prev heads owner other others → IsOn heads list keys at
+      → IsOn heads other others at → ⊥
   rings_apart list other keys others at head other_head differs ring other_ring on other_on =
       elim on [
         | inl here ↦ elim other_on [ inl also ↦ differs (sym also ∙ here) | inr there ↦ omega (arith, there.2) ]

@@ -1,5 +1,6 @@
 -- The bags as their nodes keep them, and what each change makes of them.
-use Rattle.std.proofs.Common.{◌≡◌, ◌∙◌, ℕ, ◌+◌, ◌<◌, List, [], ◌∷◌, ◌++◌, length, map, take, take_all, get_or, slice_set, slice_get, Option, Some, None, Result, Ok, Err, OnOk, OnErr, IfSome, IfNone, is_some, refl, sym, ap, subst, arith}
+use Rattle.std.proofs.Common.{◌≡◌, ◌∙◌, ℕ, ◌+◌, ◌<◌, List, [], ◌∷◌, ◌++◌, length, map, take, take_all, get_or, slice_set, slice_get}
+use Rattle.std.proofs.Common.{Option, Some, None, Result, Ok, Err, OnOk, OnErr, IfSome, IfNone, is_some, refl, sym, ap, subst, arith}
 use Rattle.std.specs.Option.{option_map}
 use Rattle.std.proofs.lemmas.Option.{none-some}
 use Rattle.npos_base.specs.declared.account.AccountId.{AccountId}
@@ -106,14 +107,19 @@ module _ (thresholds : List ℕ) (nodes : Nodes) (linked : AreLinked thresholds 
       count = becomes.count ∙ linked.count;
     }
 
-    pub linked_moved : (home : ℕ) → home_of nodes who ≡ Some home → number < length (bags_in nodes) → (home ≡ number → ⊥) → Becomes nodes new (moved_bags (bags_in nodes) who home number) who (Some number) → AreLinked thresholds new
+    pub linked_moved : (home : ℕ) → home_of nodes who ≡ Some home → number < length (bags_in nodes)
+        → (home ≡ number → ⊥) → Becomes nodes new (moved_bags (bags_in nodes) who home number) who (Some number)
+        → AreLinked thresholds new
     linked_moved home there lt differ becomes = record {
       homes = moved_homes thresholds (bags_in nodes) (home_of nodes) linked.homes who home number there lt differ (bags_in new) (home_of new) becomes.lists becomes.homes;
       standing = becomes.standing;
       count = becomes.count ∙ linked.count;
     }
 
-    pub linked_before : (lighter : AccountId) → home_of nodes who ≡ Some number → Becomes nodes new (slice_set (bags_in nodes) number (with_before (without (get_or (bags_in nodes) number []) who) who lighter)) who (Some number) → AreLinked thresholds new
+    pub linked_before : (lighter : AccountId) → home_of nodes who ≡ Some number
+        → Becomes nodes new (slice_set (bags_in nodes) number
+        (with_before (without (get_or (bags_in nodes) number []) who) who lighter)) who (Some number)
+        → AreLinked thresholds new
     linked_before lighter there becomes = record {
       homes = homes_alike thresholds (bags_in new) (home_of nodes) (home_of new)
           (λ q. by_same q who (λ e. ap (home_of new) e ∙ becomes.homes.here ∙ sym (ap (home_of nodes) e ∙ there)) (λ differ. becomes.homes.others q differ))

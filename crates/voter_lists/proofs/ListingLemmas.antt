@@ -1,5 +1,6 @@
 -- The walk and the notes after each call on the bags.
-use Rattle.std.proofs.Common.{◌≡◌, ◌≢◌, ℕ, zero, suc, ◌+◌, ◌<◌, ◌≤◌, true, false, nat_eq, List, [], ◌∷◌, ◌++◌, length, get_or, refl, ap, sym, ◌∙◌, subst, Option, Some, None, is_some, true≢false, zero-add, if◌then◌else◌, replicate}
+use Rattle.std.proofs.Common.{◌≡◌, ◌≢◌, ℕ, zero, suc, ◌+◌, ◌<◌, ◌≤◌, true, false, nat_eq, List, [], ◌∷◌, ◌++◌, length, get_or, refl}
+use Rattle.std.proofs.Common.{ap, sym, ◌∙◌, subst, Option, Some, None, is_some, true≢false, zero-add, if◌then◌else◌, replicate}
 use Rattle.std.proofs.lemmas.List.{append-nil}
 use Rattle.std.proofs.Math.ListN.{length-replicate}
 use Rattle.std.specs.List.{slice_set}
@@ -13,7 +14,8 @@ use Rattle.voter_lists.specs.BagRows.{numbered, walk_from, holds, AreNoted, AreH
 use Rattle.voter_lists.specs.Nodes.{moved_bags, NotedAnew}
 use Rattle.npos_base.specs.declared.limits.TheConstants.{MOST_THRESHOLDS}
 use Rattle.npos_base.proofs.NumberTests.{number_same, number_test}
-use Rattle.voter_lists.proofs.HomeLemmas.{by_same, joined_other, joined_here, left_other, left_here, before_other, before_here, only_left, only_walk, noted_at, noted_join, noted_leave, noted_before, number_noted, noted_alike, noted_empty}
+use Rattle.voter_lists.proofs.HomeLemmas.{by_same, joined_other, joined_here, left_other, left_here, before_other, before_here, only_left}
+use Rattle.voter_lists.proofs.HomeLemmas.{only_walk, noted_at, noted_join, noted_leave, noted_before, number_noted, noted_alike, noted_empty}
 use Rattle.voter_lists.proofs.WalkLemmas.{Lists, walk_lists, walk_of_lists, lists_at, lists_set}
 
 module _ (thresholds : List ℕ) (bags : List (List AccountId)) (home : AccountId → Option ℕ) (h : AreHomes thresholds bags home) where
@@ -52,7 +54,9 @@ module _ (thresholds : List ℕ) (bags : List (List AccountId)) (home : AccountI
   walk_set new order number bag is others here =
       ap (walk_from 0) is
       ∙ sym (walk_of_lists order 0 (slice_set bags number bag)
-      (lists_set (walk_from 0 bags) order 0 number bags bag (λ other differ. others other (λ e. differ (e ∙ sym (zero-add number)))) (subst (λ n. in_bag n order ≡ numbered n bag) (sym (zero-add number)) here) (walk_lists 0 bags)))
+      (lists_set (walk_from 0 bags) order 0 number bags bag
+      (λ other differ. others other (λ e. differ (e ∙ sym (zero-add number)))) (subst (λ n. in_bag n order
+      ≡ numbered n bag) (sym (zero-add number)) here) (walk_lists 0 bags)))
       ∙ ap (λ n. from_bag 0 n order) (length-set bags number bag ∙ h.count)
 
   within_anew : (now : AccountId → Option ℕ) (who : AccountId) (noted : Option ℕ) → NotedAnew home now who noted
@@ -182,7 +186,8 @@ module _ (thresholds : List ℕ) (bags : List (List AccountId)) (home : AccountI
       ∙ ap (λ n. from_bag 0 n (joined (left (walk_from 0 bags) who) who number)) (length-set between number (get_or between number [] ++ who ∷ []) ∙ between_count ∙ h.count)
 
 -- the notes taken back
-pub homes_alike : (thresholds : List ℕ) (bags : List (List AccountId)) (home now : AccountId → Option ℕ) → ((who : AccountId) → now who ≡ home who) → AreHomes thresholds bags home → AreHomes thresholds bags now
+pub homes_alike : (thresholds : List ℕ) (bags : List (List AccountId)) (home now : AccountId → Option ℕ)
+    → ((who : AccountId) → now who ≡ home who) → AreHomes thresholds bags home → AreHomes thresholds bags now
 homes_alike thresholds bags home now alike h = record {
   few = h.few;
   rising = h.rising;

@@ -1,5 +1,6 @@
 -- Marks stay right while accounts get places.
-use Rattle.std.proofs.Common.{◌≡◌, ◌∙◌, ℕ, zero, suc, ◌<◌, Bool, true, false, nat_eq, ◌||◌, List, [], ◌∷◌, ◌++◌, length, get_or, slice_get, slice_set, Option, Some, None, IfSome, IfNone, refl, ap, ap₂, sym, subst, true≢false, arith, length-append}
+use Rattle.std.proofs.Common.{◌≡◌, ◌∙◌, ℕ, zero, suc, ◌<◌, Bool, true, false, nat_eq, ◌||◌, List, [], ◌∷◌, ◌++◌, length, get_or, slice_get}
+use Rattle.std.proofs.Common.{slice_set, Option, Some, None, IfSome, IfNone, refl, ap, ap₂, sym, subst, true≢false, arith, length-append}
 use Rattle.std.specs.List.{list_any}
 use Rattle.std.proofs.lemmas.Bool.{or_parts, false_from_ne_true}
 use Rattle.std.proofs.lemmas.List.{get_or-map, length-map, length-set, map-set}
@@ -35,20 +36,25 @@ module _ (accounts : List AccountId) (once : StandOnce accounts) where
         let place : other ≡ mark = once who other mark (there ∙ ap (λ a. Some a) (same_exact account who same)) here in
         true≢false (sym (number_same mark) ∙ ap (λ n. nat_eq n mark) (sym place) ∙ e)))
 
-  head_known : (mark : ℕ) (marks : List ℕ) (target : AccountId) (targets : List AccountId) → AreMarks accounts (mark ∷ marks) (target ∷ targets) → nat_eq mark unknown ≡ false → slice_get accounts mark ≡ Some target
+  head_known : (mark : ℕ) (marks : List ℕ) (target : AccountId) (targets : List AccountId)
+      → AreMarks accounts (mark ∷ marks) (target ∷ targets) → nat_eq mark unknown ≡ false
+      → slice_get accounts mark ≡ Some target
   head_known mark marks target targets are known = are.each 0 mark target refl refl (λ same. true≢false (sym (number_same unknown) ∙ ap (λ n. nat_eq n unknown) (sym same) ∙ known))
 
   later_marks : (mark : ℕ) (marks : List ℕ) (target : AccountId) (targets : List AccountId) → AreMarks accounts (mark ∷ marks) (target ∷ targets) → AreMarks accounts marks targets
   later_marks mark marks target targets are = record { count = omega (arith, are.count); each = λ i other account there named. are.each (suc i) other account there named }
 
-  same_any : (mark : ℕ) (who : AccountId) → slice_get accounts mark ≡ Some who → (marks : List ℕ) (targets : List AccountId) → AreMarks accounts marks targets → list_any (λ m. nat_eq m unknown) marks ≡ false
+  same_any : (mark : ℕ) (who : AccountId) → slice_get accounts mark ≡ Some who
+      → (marks : List ℕ) (targets : List AccountId) → AreMarks accounts marks targets
+      → list_any (λ m. nat_eq m unknown) marks ≡ false
       → list_any (λ other. nat_eq other mark) marks ≡ list_any (λ other. same_account other who) targets
   same_any mark who here [] [] are known = refl
   same_any mark who here [] (target ∷ targets) are known = absurd (omega (arith, are.count))
   same_any mark who here (other ∷ marks) [] are known = absurd (omega (arith, are.count))
   same_any mark who here (other ∷ marks) (target ∷ targets) are known =
       let parts = or_parts (nat_eq other unknown) (list_any (λ m. nat_eq m unknown) marks) known in
-      ap₂ (λ a b. a || b) (known_test mark other who target here (head_known other marks target targets are parts.0)) (same_any mark who here marks targets (later_marks other marks target targets are) parts.1)
+      ap₂ (λ a b. a || b) (known_test mark other who target here (head_known other marks target targets are parts.0))
+      (same_any mark who here marks targets (later_marks other marks target targets are) parts.1)
 
   pub repeat_alike : (marks : List ℕ) (targets : List AccountId) → AreMarks accounts marks targets → RepeatAlike marks targets
   repeat_alike [] [] are known = refl
@@ -143,6 +149,8 @@ nowhere_standing rows accounts who None is = standing_nowhere (standings_in acco
 nowhere_standing rows accounts who (Some place) is = tt
 
 -- a place that was found is one of those that there are
-pub found_within : (accounts : List AccountId) (who : AccountId) (found : Option ℕ) → found ≡ place_in (by_account accounts) who → Stand accounts (by_account accounts) → IfSome found (λ place. place < length accounts)
+pub found_within : (accounts : List AccountId) (who : AccountId) (found : Option ℕ)
+    → found ≡ place_in (by_account accounts) who → Stand accounts (by_account accounts)
+    → IfSome found (λ place. place < length accounts)
 found_within accounts who None is stand = tt
 found_within accounts who (Some place) is stand = slice_get_within accounts place who (stand.standing who place (sym is))

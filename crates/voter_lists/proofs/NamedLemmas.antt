@@ -16,7 +16,9 @@ use Rattle.voter_lists.specs.Roles.{role_in, is_validator_in}
 -- ---- places that name accounts
 
 -- marks are places where all are known
-pub near_named : (accounts : List AccountId) (marks : List ℕ) (targets : List AccountId) → AreMarks accounts marks targets → list_any (λ mark. nat_eq mark unknown) marks ≡ false → AreNamed accounts marks targets
+pub near_named : (accounts : List AccountId) (marks : List ℕ) (targets : List AccountId)
+    → AreMarks accounts marks targets → list_any (λ mark. nat_eq mark unknown) marks ≡ false
+    → AreNamed accounts marks targets
 near_named accounts marks targets are known = record {
   count = are.count;
   each = λ i mark target there named. are.each i mark target there named (known_at marks i mark known there);
@@ -24,10 +26,14 @@ near_named accounts marks targets are known = record {
   known_at : (marks : List ℕ) (i mark : ℕ) → list_any (λ mark. nat_eq mark unknown) marks ≡ false → slice_get marks i ≡ Some mark → mark ≢ unknown
   known_at [] i mark known there same = none-some mark there
   known_at (first ∷ marks) zero mark known there same =
-      true≢false (sym (number_same unknown) ∙ ap (λ n. nat_eq n unknown) (sym same) ∙ ap (λ n. nat_eq n unknown) (sym (same_Some first mark there)) ∙ (or_parts (nat_eq first unknown) (list_any (λ m. nat_eq m unknown) marks) known).0)
+      true≢false (sym (number_same unknown) ∙ ap (λ n. nat_eq n unknown) (sym same)
+      ∙ ap (λ n. nat_eq n unknown) (sym (same_Some first mark there))
+      ∙ (or_parts (nat_eq first unknown) (list_any (λ m. nat_eq m unknown) marks) known).0)
   known_at (first ∷ marks) (suc i) mark known there same = known_at marks i mark (or_parts (nat_eq first unknown) (list_any (λ m. nat_eq m unknown) marks) known).1 there same
 
-later_named : (accounts : List AccountId) (place : ℕ) (places : List ℕ) (target : AccountId) (targets : List AccountId) → AreNamed accounts (place ∷ places) (target ∷ targets) → AreNamed accounts places targets
+later_named : (accounts : List AccountId) (place : ℕ) (places : List ℕ) (target : AccountId)
+    (targets : List AccountId) → AreNamed accounts (place ∷ places) (target ∷ targets)
+    → AreNamed accounts places targets
 later_named accounts place places target targets are = record { count = omega (arith, are.count); each = λ i other account there named. are.each (suc i) other account there named }
 
 -- so they are within, and at them are the targets
@@ -46,7 +52,11 @@ named_targets accounts (place ∷ places) (target ∷ targets) are =
     ap₂ (λ o rest. cons_option o rest) (are.each 0 place target refl refl) (named_targets accounts places targets (later_named accounts place places target targets are))
 
 pub notes_named : (accounts : List AccountId) (places : List ℕ) (targets : List AccountId) → AreNamed accounts places targets → NotesTargets accounts (Naming places) targets
-notes_named accounts places targets are = record { placed = named_within accounts places targets are; standing = ap (λ named. Some (standing.Nominator named)) (named_targets accounts places targets are) }
+notes_named accounts places targets are = record {
+  placed = named_within accounts places targets are;
+  standing =
+      ap (λ named. Some (standing.Nominator named)) (named_targets accounts places targets are);
+}
 
 -- ---- who has a place keeps it
 
@@ -89,7 +99,8 @@ count_at accounts (place ∷ places) within =
     ap (λ o. length (cons_option o (accounts_at accounts places))) there
     ∙ ap suc (count_at accounts places (All-tail (λ place. place < length accounts) place places within))
 
-pub account_at : (accounts : List AccountId) (places : List ℕ) (i place : ℕ) → AreWithin accounts places → slice_get places i ≡ Some place → slice_get (accounts_at accounts places) i ≡ slice_get accounts place
+pub account_at : (accounts : List AccountId) (places : List ℕ) (i place : ℕ) → AreWithin accounts places
+    → slice_get places i ≡ Some place → slice_get (accounts_at accounts places) i ≡ slice_get accounts place
 account_at accounts [] i place within there = absurd (none-some place there)
 account_at accounts (first ∷ places) i place within there =
     at_number i there (λ later is. account_at accounts places later place (All-tail (λ place. place < length accounts) first places within) is) where

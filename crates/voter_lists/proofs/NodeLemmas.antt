@@ -1,5 +1,6 @@
 -- What the bags and the homes are after a node leaves one list for another.
-use Rattle.std.proofs.Common.{◌≡◌, ◌≢◌, ℕ, ◌<◌, ◌≤◌, true, false, List, [], ◌∷◌, ◌++◌, length, map, get_or, slice_get, Option, Some, None, refl, true≢false, sym, ap, ap₂, ◌∙◌, subst, inl, inr, arith, zero-add, replicate, length-set, get_or-set_same, get_or-set_other}
+use Rattle.std.proofs.Common.{◌≡◌, ◌≢◌, ℕ, ◌<◌, ◌≤◌, true, false, List, [], ◌∷◌, ◌++◌, length, map, get_or, slice_get, Option, Some, None, refl}
+use Rattle.std.proofs.Common.{true≢false, sym, ap, ap₂, ◌∙◌, subst, inl, inr, arith, zero-add, replicate, length-set, get_or-set_same, get_or-set_other}
 use Rattle.std.specs.List.{slice_set}
 use Rattle.std.specs.Option.{option_map}
 use Rattle.std.proofs.lemmas.Bool.{cases_eq, cond-true, cond-false, not_from_true, not_from_false}
@@ -150,7 +151,8 @@ module _ (rings : Lists) (accounts : List AccountId) (place_of : AccountId → O
   pub in_some_bag : (place n : ℕ) → list_of rings place ≡ Some n → n < count
   in_some_bag place n linked = omega (arith, stand.fit.known n place linked, stand.lists)
 
-  module _ (new : Lists) (place : ℕ) (fit : IsFit new) (same_count : list_count new ≡ list_count rings) (limit : key_limit new ≡ key_limit rings) (others : (p : ℕ) → p ≢ place → list_of new p ≡ list_of rings p)
+  module _ (new : Lists) (place : ℕ) (fit : IsFit new) (same_count : list_count new ≡ list_count rings)
+      (limit : key_limit new ≡ key_limit rings) (others : (p : ℕ) → p ≢ place → list_of new p ≡ list_of rings p)
       (who : AccountId) (there : place_of who ≡ Some place) where
     owner : account_at accounts place ≡ who
     owner = stand.placed who place there
@@ -179,7 +181,9 @@ module _ (rings : Lists) (accounts : List AccountId) (place_of : AccountId → O
     }
 
     -- one leaves
-    pub node_left : (number : ℕ) → list_of rings place ≡ Some number → list_of new place ≡ None → items new number ≡ keyed.without place (items rings number) → ((n : ℕ) → n ≢ number → items new n ≡ items rings n)
+    pub node_left : (number : ℕ) → list_of rings place ≡ Some number → list_of new place ≡ None
+        → items new number ≡ keyed.without place (items rings number)
+        → ((n : ℕ) → n ≢ number → items new n ≡ items rings n)
         → Moved rings new accounts place_of count (slice_set (bags_of rings (account_at accounts) count) number (without (get_or (bags_of rings (account_at accounts) count) number []) who)) who None
     node_left number linked moved left rest =
         let lt : number < count = in_some_bag place number linked in
@@ -230,7 +234,8 @@ module _ (rings : Lists) (accounts : List AccountId) (place_of : AccountId → O
 
     -- one that is in no bag joins the tail of one
     pub node_joined : (number : ℕ) → number < count → list_of new place ≡ Some number → items new number ≡ items rings number ++ place ∷ [] → ((n : ℕ) → n ≢ number → items new n ≡ items rings n)
-        → Moved rings new accounts place_of count (slice_set (bags_of rings (account_at accounts) count) number (get_or (bags_of rings (account_at accounts) count) number [] ++ who ∷ [])) who (Some number)
+        → Moved rings new accounts place_of count (slice_set (bags_of rings (account_at accounts) count) number
+        (get_or (bags_of rings (account_at accounts) count) number [] ++ who ∷ [])) who (Some number)
     node_joined number lt moved last rest = record {
       standing = still_standing;
       lists = bags_set rings new (account_at accounts) (account_at accounts) count number _ lt
@@ -243,7 +248,9 @@ module _ (rings : Lists) (accounts : List AccountId) (place_of : AccountId → O
     -- one goes before another of its bag
     pub node_before : (lighter : AccountId) (number other : ℕ) → place_of lighter ≡ Some other → list_of rings place ≡ Some number → list_of rings other ≡ Some number
         → list_of new place ≡ Some number → items new number ≡ keyed.before place other (keyed.without place (items rings number)) → ((n : ℕ) → n ≢ number → items new n ≡ items rings n)
-        → Moved rings new accounts place_of count (slice_set (bags_of rings (account_at accounts) count) number (with_before (without (get_or (bags_of rings (account_at accounts) count) number []) who) who lighter)) who (Some number)
+        → Moved rings new accounts place_of count (slice_set (bags_of rings (account_at accounts) count) number
+        (with_before (without (get_or (bags_of rings (account_at accounts) count) number []) who) who lighter))
+        who (Some number)
     node_before lighter number other other_there linked other_linked moved before rest =
         let other_owner : account_at accounts other ≡ lighter = stand.placed lighter other other_there in
         let lt : number < count = in_some_bag place number linked in
@@ -251,7 +258,9 @@ module _ (rings : Lists) (accounts : List AccountId) (place_of : AccountId → O
           standing = still_standing;
           lists = bags_set rings new (account_at accounts) (account_at accounts) count number _ lt
               (ap (map (account_at accounts)) before
-              ∙ accounts_before (account_at accounts) (keyed.without place (items rings number)) place other (λ k found. only_key other number other_linked k (IsIn-without place k (items rings number) found).0)
+              ∙ accounts_before (account_at accounts) (keyed.without place (items rings number)) place other
+              (λ k found. only_key other number other_linked k
+              (IsIn-without place k (items rings number) found).0)
               ∙ ap (λ bag. with_before bag (account_at accounts place) (account_at accounts other)) (accounts_without (account_at accounts) (items rings number) place (only_key place number linked))
               ∙ ap₂ (λ bag q. with_before (without bag q) q (account_at accounts other)) (sym (bag_read rings (account_at accounts) count number lt)) owner
               ∙ ap (with_before (without (get_or (bags_of rings (account_at accounts) count) number []) who) who) other_owner)
@@ -271,7 +280,8 @@ fit_same old new same grows fit = record {
 
 -- one more account has a place, and is in no bag
 module _ (rings new : Lists) (accounts : List AccountId) (who : AccountId) (place_of place_now : AccountId → Option ℕ) (count : ℕ) (stand : Stand rings accounts place_of count)
-    (same : SameLists rings new) (grows : key_limit rings ≤ key_limit new) (room : length accounts < key_limit new) (absent : place_of who ≡ None) (anew : NotedAnew place_of place_now who (Some (length accounts))) where
+    (same : SameLists rings new) (grows : key_limit rings ≤ key_limit new) (room : length accounts < key_limit new)
+    (absent : place_of who ≡ None) (anew : NotedAnew place_of place_now who (Some (length accounts))) where
   kept : (p : ℕ) → p < length accounts → account_at (accounts ++ who ∷ []) p ≡ account_at accounts p
   kept p lt = get_or_append_left accounts (who ∷ []) _ p lt
 
@@ -306,7 +316,8 @@ module _ (rings new : Lists) (accounts : List AccountId) (who : AccountId) (plac
 
   pub homes_grown : (q : AccountId) → list_at new (place_now q) ≡ list_at rings (place_of q)
   homes_grown q = by_same q who
-      (λ one. ap (λ a. list_at new (place_now a)) one ∙ ap (list_at new) anew.here ∙ same.keys (length accounts) ∙ in_none (list_of rings (length accounts)) refl ∙ sym (ap (list_at rings) (ap place_of one ∙ absent)))
+      (λ one. ap (λ a. list_at new (place_now a)) one ∙ ap (list_at new) anew.here ∙ same.keys (length accounts)
+      ∙ in_none (list_of rings (length accounts)) refl ∙ sym (ap (list_at rings) (ap place_of one ∙ absent)))
       (λ differ. ap (list_at new) (anew.others q differ) ∙ home_same rings new (place_of q) (λ p e. same.keys p)) where
         in_none : (o : Option ℕ) → list_of rings (length accounts) ≡ o → o ≡ None
         in_none None e = refl

@@ -1,5 +1,6 @@
 -- Where each account stands once, lists with one walk have the same bag for it.
-use Rattle.std.proofs.Common.{◌≡◌, ℕ, zero, suc, ◌+◌, ◌<◌, ◌≤◌, Bool, true, false, not, nat_eq, nat_lt, cond, List, [], ◌∷◌, ◌++◌, length, All, refl, sym, ap, ◌∙◌, subst, arith, if◌then◌else◌, true≢false, Option, Some, None, is_some}
+use Rattle.std.proofs.Common.{◌≡◌, ℕ, zero, suc, ◌+◌, ◌<◌, ◌≤◌, Bool, true, false, not, nat_eq, nat_lt, cond, List, [], ◌∷◌, ◌++◌}
+use Rattle.std.proofs.Common.{length, All, refl, sym, ap, ◌∙◌, subst, arith, if◌then◌else◌, true≢false, Option, Some, None, is_some}
 use Rattle.std.specs.List.{IsDistinct, AllByRecursion}
 use Rattle.std.proofs.lemmas.Grind.{common_steps}
 use Rattle.std.proofs.lemmas.List.Elements.{All-cons, All-nil, All-tail, All-filter, All-append}
@@ -8,7 +9,8 @@ use Rattle.npos_base.specs.declared.account.AccountId.{AccountId}
 use Rattle.npos_base.specs.Account.{same_account}
 use Rattle.npos_base.proofs.AccountOrder.{same_itself, same_exact, same_turned}
 use Rattle.npos_base.proofs.NumberTests.{number_test, number_tie, number_same}
-use Rattle.voter_lists.specs.Bags.{Order, OnlyIn, in_bag, from_bag, in_walk_order, joined, left, placed_before, number_of, number_at, is_in, is_listed, is_at_home, bag_of, put_in_front, inserted, removed, moved, rebag_refusal, put_in_front_refusal, walk}
+use Rattle.voter_lists.specs.Bags.{Order, OnlyIn, in_bag, from_bag, in_walk_order, joined, left, placed_before, number_of, number_at, is_in}
+use Rattle.voter_lists.specs.Bags.{is_listed, is_at_home, bag_of, put_in_front, inserted, removed, moved, rebag_refusal, put_in_front_refusal, walk}
 use Rattle.voter_lists.specs.OneWalk.{StandsIn, StandsOnce, AreOneList, listing_of, appended, taken_out, appended_anew, put_before}
 use Rattle.voter_lists.proofs.HomeLemmas.{by_same}
 use Rattle.voter_lists.proofs.OneWalkLemmas.{alike, insert_one, remove_one, move_one, front_one}
@@ -318,7 +320,9 @@ module _ (thresholds : List ℕ) where
     pub fronted_once : (score : ℕ) (lighter : AccountId) (lighter_score : ℕ) → put_in_front_refusal (listing_of thresholds list) who score lighter lighter_score ≡ None
         → AreOneList thresholds (put_before list who lighter) (put_in_front (listing_of thresholds arranged) who lighter).order
     fronted_once score lighter lighter_score none = at_who (number_of list who) refl (number_of list lighter) refl where
-      let_stand : (n : ℕ) → number_of list who ≡ Some n → number_of list lighter ≡ Some n → AreOneList thresholds (put_before list who lighter) (put_in_front (listing_of thresholds arranged) who lighter).order
+      let_stand : (n : ℕ) → number_of list who ≡ Some n → number_of list lighter ≡ Some n
+          → AreOneList thresholds (put_before list who lighter) (put_in_front (listing_of thresholds arranged) who
+          lighter).order
       let_stand n here there = record {
         walk = front_one thresholds list arranged who lighter n one.walk (stands_in thresholds list who n one.list_once here)
             (stands_in thresholds arranged who n one.arranged_once (sym (same_number thresholds list arranged one who) ∙ here))

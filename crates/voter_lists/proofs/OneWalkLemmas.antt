@@ -73,13 +73,17 @@ module _ (thresholds : List ℕ) where
   left_alike : (a b : Order) (who : AccountId) (k : ℕ) → in_bag k a ≡ in_bag k b → in_bag k (left a who) ≡ in_bag k (left b who)
   left_alike a b who k same = left_in_bag who k a ∙ ap (λ xs. left xs who) same ∙ sym (left_in_bag who k b)
 
-  pub insert_one : (list arranged : Order) (who : AccountId) (score : ℕ) → IsOneWalk thresholds list arranged → IsOneWalk thresholds (appended thresholds list who score) (inserted (listing_of thresholds arranged) who score).order
+  pub insert_one : (list arranged : Order) (who : AccountId) (score : ℕ) → IsOneWalk thresholds list arranged
+      → IsOneWalk thresholds (appended thresholds list who score) (inserted (listing_of thresholds arranged) who
+      score).order
   insert_one list arranged who score one = one_walk _ _ (λ k lt. joined_alike list arranged who (bag_of thresholds score) k (alike list arranged one k lt))
 
   pub remove_one : (list arranged : Order) (who : AccountId) → IsOneWalk thresholds list arranged → IsOneWalk thresholds (taken_out list who) (removed (listing_of thresholds arranged) who).order
   remove_one list arranged who one = one_walk _ _ (λ k lt. left_alike list arranged who k (alike list arranged one k lt))
 
-  pub move_one : (list arranged : Order) (who : AccountId) (score : ℕ) → IsOneWalk thresholds list arranged → IsOneWalk thresholds (appended_anew thresholds list who score) (moved (listing_of thresholds arranged) who score).order
+  pub move_one : (list arranged : Order) (who : AccountId) (score : ℕ) → IsOneWalk thresholds list arranged
+      → IsOneWalk thresholds (appended_anew thresholds list who score)
+      (moved (listing_of thresholds arranged) who score).order
   move_one list arranged who score one =
       one_walk _ _ (λ k lt. joined_alike (left list who) (left arranged who) who (bag_of thresholds score) k (left_alike list arranged who k (alike list arranged one k lt)))
 

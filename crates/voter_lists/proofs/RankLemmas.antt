@@ -33,7 +33,8 @@ module _ (who : AccountId) where
     lower less j d before = let le : j ≤ middle = omega (arith, before) in by_gap (eq-or-lt_of_le le) where
       by_gap : (j ≡ middle) ⊎ (j < middle) → account_cmp (get_or xs j d) who ≡ Less
       by_gap (inl same) = ap (λ n. account_cmp (get_or xs n d) who) same ∙ ap (λ y. account_cmp y who) (here d) ∙ less
-      by_gap (inr apart) = account_total.trans (get_or xs j d) x who (sym (ap (account_cmp (get_or xs j d)) (here d)) ∙ Less-from_sorted account_cmp xs j middle d rising apart (slice_get_within xs middle x there)) less
+      by_gap (inr apart) = account_total.trans (get_or xs j d) x who (sym (ap (account_cmp (get_or xs j d)) (here d))
+          ∙ Less-from_sorted account_cmp xs j middle d rising apart (slice_get_within xs middle x there)) less
 
     pub higher : account_cmp x who ≡ Greater → (j : ℕ) (d : AccountId) → middle ≤ j → j < length xs → account_cmp (get_or xs j d) who ≡ Greater
     higher greater j d behind below = by_gap (eq-or-lt_of_le behind) where

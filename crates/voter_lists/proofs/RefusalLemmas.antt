@@ -18,12 +18,14 @@ module _ (listing : Listing) (who lighter : AccountId) (score lighter_score : �
   pub front_apart : (n m : ℕ) → number_of listing.order who ≡ Some n → number_of listing.order lighter ≡ Some m → n ≢ m → put_in_front_refusal listing who score lighter lighter_score ≡ Some OtherBag
   front_apart n m e f apart = rw (e, f, number_test n m apart) refl
 
-  pub front_light : (n m : ℕ) → number_of listing.order who ≡ Some n → number_of listing.order lighter ≡ Some m → n ≡ m → score ≤ lighter_score → put_in_front_refusal listing who score lighter lighter_score ≡ Some NotHeavier
+  pub front_light : (n m : ℕ) → number_of listing.order who ≡ Some n → number_of listing.order lighter ≡ Some m
+      → n ≡ m → score ≤ lighter_score → put_in_front_refusal listing who score lighter lighter_score ≡ Some NotHeavier
   front_light n m e f same light =
       let tied : nat_eq n m ≡ true = ap (λ k. nat_eq k m) same ∙ number_same m in
       let test : nat_le score lighter_score ≡ true = grind (arith, nat_tests) in rw (e, f, tied, test) refl
 
-  pub front_free : (n m : ℕ) → number_of listing.order who ≡ Some n → number_of listing.order lighter ≡ Some m → n ≡ m → lighter_score < score → put_in_front_refusal listing who score lighter lighter_score ≡ None
+  pub front_free : (n m : ℕ) → number_of listing.order who ≡ Some n → number_of listing.order lighter ≡ Some m → n ≡ m
+      → lighter_score < score → put_in_front_refusal listing who score lighter lighter_score ≡ None
   front_free n m e f same heavy =
       let tied : nat_eq n m ≡ true = ap (λ k. nat_eq k m) same ∙ number_same m in
       let test : nat_le score lighter_score ≡ false = grind (arith, nat_tests) in rw (e, f, tied, test) refl

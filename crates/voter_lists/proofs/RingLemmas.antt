@@ -1,5 +1,7 @@
 -- From the links of `Lists` to what a contract sees.
-use Rattle.std.proofs.Common.{◌≡◌, ◌≢◌, ◌⊎◌, ℕ, zero, suc, ◌+◌, ◌-◌, ◌<◌, ◌≤◌, List, [], ◌∷◌, ◌++◌, length, get_or, set, replicate, take, take_all, append-nil, Bool, true, false, slice_get, Option, Some, None, IfSome, cond, count_by, refl, sym, ap, ◌∙◌, subst, inl, inr, arith, eq-eqb, ne_eqb, length-set, get_or-set_same, get_or-set_other}
+use Rattle.std.proofs.Common.{◌≡◌, ◌≢◌, ◌⊎◌, ℕ, zero, suc, ◌+◌, ◌-◌, ◌<◌, ◌≤◌, List, [], ◌∷◌, ◌++◌, length, get_or, set, replicate}
+use Rattle.std.proofs.Common.{take, take_all, append-nil, Bool, true, false, slice_get, Option, Some, None, IfSome, cond, count_by}
+use Rattle.std.proofs.Common.{refl, sym, ap, ◌∙◌, subst, inl, inr, arith, eq-eqb, ne_eqb, length-set, get_or-set_same, get_or-set_other}
 use Rattle.std.proofs.lemmas.Bool.{cases_eq, cases_lt, cond-true, cond-false}
 use Rattle.std.proofs.lemmas.List.{get_or_past, get_or_push, get_or_read, get_or_append_left, get_or-append_right, length_push, length-append, length-replicate}
 use Rattle.std.proofs.lemmas.List.FromFn.{length-map-range_with_len, get_or-map-range_with_len}
@@ -9,7 +11,8 @@ use Rattle.std.proofs.lemmas.Option.{none-some, same_Some}
 use Rattle.voter_lists.specs.declared.rings.Link.{Link}
 use Rattle.voter_lists.specs.Rings.{items, list_count, without, before, after, IsIn, IsApart, IsEmpty, IsFit, SameLists}
 use Rattle.voter_lists.specs.Links.{no_link, next_of, prev_of, Skips, Splices, is_list, walk, IsChain, IsRing, keys_of, lists_of, AreWellLinked}
-use Rattle.voter_lists.proofs.LinkLemmas.{length-without, length-walk, IsOn, walk_chain, prev_end_on, prev_on, next_on, IsRing-kept, IsRing-skip, IsRing-push, IsRing-before, length-before, next_after, rings_apart, free_not_on}
+use Rattle.voter_lists.proofs.LinkLemmas.{length-without, length-walk, IsOn, walk_chain, prev_end_on, prev_on, next_on, IsRing-kept}
+use Rattle.voter_lists.proofs.LinkLemmas.{IsRing-skip, IsRing-push, IsRing-before, length-before, next_after, rings_apart, free_not_on}
 
 -- a key with a list has room
 pub owned_within : (owners : List (Option ℕ)) (key list : ℕ) → get_or owners key None ≡ Some list → key < length owners
@@ -26,12 +29,16 @@ is_list_other : (list other : ℕ) → other ≢ list → ◌≡◌ {A = ℕ} (c
 is_list_other list other differs = cond-false _ _ _ (ne_eqb list other (λ same. differs (sym same)))
 
 -- how the count of a list's keys follows a write to one key
-count-set : (owners : List (Option ℕ)) (key list : ℕ) (old new : Option ℕ) → key < length owners → get_or owners key None ≡ old → count_by (is_list list) (set owners key new) + cond (is_list list old) 1 0 ≡ count_by (is_list list) owners + cond (is_list list new) 1 0
+count-set : (owners : List (Option ℕ)) (key list : ℕ) (old new : Option ℕ) → key < length owners
+    → get_or owners key None ≡ old → count_by (is_list list) (set owners key new) + cond (is_list list old) 1 0
+    ≡ count_by (is_list list) owners + cond (is_list list new) 1 0
 count-set owners key list old new within read =
     rw (← read) (sum_by-set (λ o. cond (is_list list o) 1 0) owners key new None within)
 
 -- the first key of a chain that closes at a head
-first_of_ring : (next prev : ℕ → ℕ) (heads list : ℕ) (keys : List ℕ) → list < heads → IsChain next prev heads list keys list → ((next list ≡ list) × (keys ≡ [])) ⊎ ((heads ≤ next list) × (slice_get keys 0 ≡ Some (next list - heads)) × IsIn (next list - heads) keys)
+first_of_ring : (next prev : ℕ → ℕ) (heads list : ℕ) (keys : List ℕ) → list < heads
+    → IsChain next prev heads list keys list → ((next list ≡ list) × (keys ≡ []))
+    ⊎ ((heads ≤ next list) × (slice_get keys 0 ≡ Some (next list - heads)) × IsIn (next list - heads) keys)
 first_of_ring next prev heads list [] head chain = inl (chain.0, refl)
 first_of_ring next prev heads list (first ∷ rest) head chain =
     let key : first ≡ next list - heads = omega (arith, chain.0) in
@@ -116,7 +123,9 @@ module _ (links : List Link) (owners : List (Option ℕ)) (heads : ℕ) where
     next_read list link head read = ap (λ (l : Link). l.next) (get_or_read links list link (head_within list head).1 read no_link)
 
     -- a head that leads to itself has no key
-    pub front_none : (list : ℕ) (link : Link) → list < list_count (lists_of links owners heads) → link ≡ get_or links list link → link.next ≡ list → (None ≡ slice_get (items (lists_of links owners heads) list) 0) × IsEmpty (lists_of links owners heads) list
+    pub front_none : (list : ℕ) (link : Link) → list < list_count (lists_of links owners heads)
+        → link ≡ get_or links list link → link.next ≡ list
+        → (None ≡ slice_get (items (lists_of links owners heads) list) 0) × IsEmpty (lists_of links owners heads) list
     front_none list link counted read itself =
         let head = (head_within list counted).0 in
         let self = sym (next_read list link counted read) ∙ itself in
@@ -127,7 +136,10 @@ module _ (links : List Link) (owners : List (Option ℕ)) (heads : ℕ) where
         ]
 
     -- a head that leads elsewhere leads to the first key
-    pub front_some : (list : ℕ) (link : Link) → list < list_count (lists_of links owners heads) → link ≡ get_or links list link → link.next ≢ list → (heads ≤ link.next) × (Some (link.next - heads) ≡ slice_get (items (lists_of links owners heads) list) 0) × (get_or owners (link.next - heads) None ≡ Some list)
+    pub front_some : (list : ℕ) (link : Link) → list < list_count (lists_of links owners heads)
+        → link ≡ get_or links list link → link.next ≢ list
+        → (heads ≤ link.next) × (Some (link.next - heads) ≡ slice_get (items (lists_of links owners heads) list) 0)
+        × (get_or owners (link.next - heads) None ≡ Some list)
     front_some list link counted read other =
         let head = (head_within list counted).0 in
         let next = next_read list link counted read in
@@ -160,10 +172,14 @@ pub record Changes (links new_links : List Link) (owners new_owners : List (Opti
 
 module _ (links new_links : List Link) (owners new_owners : List (Option ℕ)) (heads : ℕ) where
   -- a list whose ring and count stay keeps its keys
-  pub ring_kept : (list : ℕ) → IsRing (next_of new_links) (prev_of new_links) heads (λ key. get_or new_owners key None) list (keys_of links owners heads list) → count_by (is_list list) new_owners ≡ count_by (is_list list) owners → keys_of new_links new_owners heads list ≡ keys_of links owners heads list
+  pub ring_kept : (list : ℕ) → IsRing (next_of new_links) (prev_of new_links) heads
+      (λ key. get_or new_owners key None) list (keys_of links owners heads list) → count_by (is_list list) new_owners
+      ≡ count_by (is_list list) owners → keys_of new_links new_owners heads list ≡ keys_of links owners heads list
   ring_kept list ring count = keys_of_ring new_links new_owners heads list _ ring.chained (count ∙ sym (length-keys_of links owners heads list))
 
-  pub items_kept : (list : ℕ) → (list < heads → keys_of new_links new_owners heads list ≡ keys_of links owners heads list) → items (lists_of new_links new_owners heads) list ≡ items (lists_of links owners heads) list
+  pub items_kept : (list : ℕ) → (list < heads → keys_of new_links new_owners heads list
+      ≡ keys_of links owners heads list) → items (lists_of new_links new_owners heads) list
+      ≡ items (lists_of links owners heads) list
   items_kept list kept =
       elim (cases_lt list heads) [
         | inl head ↦ items-lists_of new_links new_owners heads list head ∙ kept head ∙ sym (items-lists_of links owners heads list head)
@@ -171,7 +187,13 @@ module _ (links new_links : List Link) (owners new_owners : List (Option ℕ)) (
       ]
 
   -- one ring is new and the others stay
-  Changes-from_rings : (list : ℕ) (keys : List ℕ) → list < heads → heads + length new_owners ≤ length new_links → heads ≤ 256 → ((key owner : ℕ) → get_or new_owners key None ≡ Some owner → owner < heads) → IsRing (next_of new_links) (prev_of new_links) heads (λ key. get_or new_owners key None) list keys → count_by (is_list list) new_owners ≡ length keys → ((other : ℕ) → other < heads → other ≢ list → IsRing (next_of new_links) (prev_of new_links) heads (λ key. get_or new_owners key None) other (keys_of links owners heads other)) → ((other : ℕ) → other ≢ list → count_by (is_list other) new_owners ≡ count_by (is_list other) owners) → Changes links new_links owners new_owners heads list keys
+  Changes-from_rings : (list : ℕ) (keys : List ℕ) → list < heads → heads + length new_owners ≤ length new_links
+      → heads ≤ 256 → ((key owner : ℕ) → get_or new_owners key None ≡ Some owner → owner < heads)
+      → IsRing (next_of new_links) (prev_of new_links) heads (λ key. get_or new_owners key None) list keys
+      → count_by (is_list list) new_owners ≡ length keys → ((other : ℕ) → other < heads → other ≢ list
+      → IsRing (next_of new_links) (prev_of new_links) heads (λ key. get_or new_owners key None) other
+      (keys_of links owners heads other)) → ((other : ℕ) → other ≢ list → count_by (is_list other) new_owners
+      ≡ count_by (is_list other) owners) → Changes links new_links owners new_owners heads list keys
   Changes-from_rings list keys head sized few known ring count rings counts =
       let Ring : ℕ → List ℕ → Type 0 = IsRing (next_of new_links) (prev_of new_links) heads (λ key. get_or new_owners key None) in
       let found = keys_of_ring new_links new_owners heads list keys ring.chained count in
@@ -191,7 +213,9 @@ module _ (links new_links : List Link) (owners new_owners : List (Option ℕ)) (
       }
 
 module _ (links new_links : List Link) (owners : List (Option ℕ)) (heads list key : ℕ) (sound : AreWellLinked links owners heads) (sized : length new_links ≡ length links) where
-  pub Changes-skip : get_or owners key None ≡ Some list → Skips links new_links (heads + key) → Changes links new_links owners (set owners key None) heads list (without key (items (lists_of links owners heads) list))
+  pub Changes-skip : get_or owners key None ≡ Some list → Skips links new_links (heads + key)
+      → Changes links new_links owners (set owners key None) heads list
+      (without key (items (lists_of links owners heads) list))
   Changes-skip owned skips =
       let head = sound.known key list owned in
       let within = owned_within owners key list owned in
@@ -249,14 +273,19 @@ module _ (links new_links : List Link) (owners : List (Option ℕ)) (heads list 
       (λ k now. sym (others k (λ same. differs (same_Some other list (sym now ∙ ap (λ j. get_or (set owners key (Some list)) j None) same ∙ joined)))) ∙ now))
       (λ other differs. omega (arith, count-set owners key other None (Some list) within free, is_list_other list other differs))
 
-  pub Changes-splice : list < heads → key < length owners → get_or owners key None ≡ None → Splices links new_links (heads + key) list → Changes links new_links owners (set owners key (Some list)) heads list (items (lists_of links owners heads) list ++ key ∷ [])
+  pub Changes-splice : list < heads → key < length owners → get_or owners key None ≡ None
+      → Splices links new_links (heads + key) list → Changes links new_links owners (set owners key (Some list)) heads
+      list (items (lists_of links owners heads) list ++ key ∷ [])
   Changes-splice head within free splices =
       rw (items-lists_of links owners heads list head)
       (Changes-join list (keys_of links owners heads list ++ key ∷ []) head within free splices (last_on links owners heads sound list head) (inl refl)
       (length_push (keys_of links owners heads list) key)
       (IsRing-push _ _ _ _ heads _ _ list _ key head (sound.rings list head) free splices))
 
-  pub Changes-before : (other : ℕ) → get_or owners other None ≡ Some list → key < length owners → get_or owners key None ≡ None → Splices links new_links (heads + key) (heads + other) → Changes links new_links owners (set owners key (Some list)) heads list (before key other (items (lists_of links owners heads) list))
+  pub Changes-before : (other : ℕ) → get_or owners other None ≡ Some list → key < length owners
+      → get_or owners key None ≡ None → Splices links new_links (heads + key) (heads + other)
+      → Changes links new_links owners (set owners key (Some list)) heads list
+      (before key other (items (lists_of links owners heads) list))
   Changes-before other linked within free splices =
       let head = sound.known other list linked in
       let ring = sound.rings list head in
@@ -310,7 +339,10 @@ module _ (links new_links : List Link) (owners : List (Option ℕ)) (heads list 
       ]
 
 -- one more head that leads to itself
-pub closed_push : (links : List Link) (head : ℕ) → length links ≡ head → ((list : ℕ) → list < head → (next_of links list ≡ list) × (prev_of links list ≡ list)) → (list : ℕ) → list < head + 1 → (next_of (links ++ record { prev = head; next = head } ∷ []) list ≡ list) × (prev_of (links ++ record { prev = head; next = head } ∷ []) list ≡ list)
+pub closed_push : (links : List Link) (head : ℕ) → length links ≡ head
+    → ((list : ℕ) → list < head → (next_of links list ≡ list) × (prev_of links list ≡ list)) → (list : ℕ)
+    → list < head + 1 → (next_of (links ++ record { prev = head; next = head } ∷ []) list ≡ list)
+    × (prev_of (links ++ record { prev = head; next = head } ∷ []) list ≡ list)
 closed_push links head sized closed list below =
     let link : Link = record { prev = head; next = head } in
     elim (cases_eq list head) [
@@ -363,13 +395,17 @@ get_or-append_defaults xs count at d =
     ]
 
 -- a resize that grows adds copies of its value, or nothing where it fails
-pub grown_by : {X : Type 0} (ok : Bool) (old new : List X) (len count : ℕ) (d : X) → len ≡ length old → len ≤ count → new ≡ cond ok (take count old ++ replicate (count - len) d) old → (more : ℕ) × (new ≡ old ++ replicate more d) × (len + more ≤ count)
+pub grown_by : {X : Type 0} (ok : Bool) (old new : List X) (len count : ℕ) (d : X) → len ≡ length old → len ≤ count
+    → new ≡ cond ok (take count old ++ replicate (count - len) d) old → (more : ℕ) × (new ≡ old ++ replicate more d)
+    × (len + more ≤ count)
 grown_by true old new len count d is_len below resized =
     (count - len, resized ∙ ap (λ xs. xs ++ replicate (count - len) d) (take_all count old (omega arith)), omega arith)
 grown_by false old new len count d is_len below resized = (0, resized ∙ sym (append-nil old), omega arith)
 
 -- room for more keys changes no list
-module _ (links new_links : List Link) (owners : List (Option ℕ)) (heads more : ℕ) (sound : AreWellLinked links owners heads) (sized : heads + length owners + more ≤ length new_links) (kept : (at : ℕ) → at < heads + length owners → get_or new_links at no_link ≡ get_or links at no_link) where
+module _ (links new_links : List Link) (owners : List (Option ℕ)) (heads more : ℕ)
+    (sound : AreWellLinked links owners heads) (sized : heads + length owners + more ≤ length new_links)
+    (kept : (at : ℕ) → at < heads + length owners → get_or new_links at no_link ≡ get_or links at no_link) where
   ring_grown : (list : ℕ) → list < heads → IsRing (next_of new_links) (prev_of new_links) heads (λ key. get_or (owners ++ replicate more None) key None) list (keys_of links owners heads list)
   ring_grown list head =
       let ring = sound.rings list head in

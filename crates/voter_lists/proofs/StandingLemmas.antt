@@ -1,5 +1,6 @@
 -- Standings that stand at places are standings by account.
-use Rattle.std.proofs.Common.{◌≡◌, ◌∙◌, ℕ, suc, ◌<◌, ◌≤◌, Bool, true, false, cond, List, [], ◌∷◌, ◌++◌, length, get_or, slice_get, slice_set, Option, Some, None, is_some, refl, ap, ap₂, sym, subst, arith, true≢false, get_or-set_same, get_or-set_other}
+use Rattle.std.proofs.Common.{◌≡◌, ◌∙◌, ℕ, suc, ◌<◌, ◌≤◌, Bool, true, false, cond, List, [], ◌∷◌, ◌++◌, length, get_or, slice_get, slice_set}
+use Rattle.std.proofs.Common.{Option, Some, None, is_some, refl, ap, ap₂, sym, subst, arith, true≢false, get_or-set_same, get_or-set_other}
 use Rattle.std.specs.BTreeMap.{insert_entry, is_at}
 use Rattle.std.specs.List.{AllByRecursion}
 use Rattle.std.specs.List.Sorted.{IsStrictlySortedBy}
@@ -52,18 +53,22 @@ few_placed standings (first ∷ later) = at (get_or standings first.1 None) (few
   at (Some standing) few = omega (arith, few)
 
 -- accounts that have a standing are in order
-placed_all : (P : AccountId → Type 0) (standings : List (Option Standing)) (places : List (AccountId × ℕ)) → AllByRecursion P (keys_of places) → AllByRecursion P (keys_of (standings_placed standings places))
+placed_all : (P : AccountId → Type 0) (standings : List (Option Standing)) (places : List (AccountId × ℕ))
+    → AllByRecursion P (keys_of places) → AllByRecursion P (keys_of (standings_placed standings places))
 placed_all P standings [] all = all
 placed_all P standings (first ∷ later) all = at (get_or standings first.1 None) (placed_all P standings later all.1) where
   at : (o : Option Standing) → AllByRecursion P (keys_of (standings_placed standings later)) → AllByRecursion P (keys_of (with_some first.0 o (standings_placed standings later)))
   at None rest = rest
   at (Some standing) rest = (all.0, rest)
 
-pub placed_ordered : (standings : List (Option Standing)) (places : List (AccountId × ℕ)) → IsStrictlySortedBy account_cmp (keys_of places) → IsStrictlySortedBy account_cmp (keys_of (standings_placed standings places))
+pub placed_ordered : (standings : List (Option Standing)) (places : List (AccountId × ℕ))
+    → IsStrictlySortedBy account_cmp (keys_of places) → IsStrictlySortedBy account_cmp
+    (keys_of (standings_placed standings places))
 unfolding IsStrictlySortedBy
 placed_ordered standings [] ordered = ordered
 placed_ordered standings (first ∷ later) ordered = at (get_or standings first.1 None) (placed_ordered standings later ordered.1) where
-  at : (o : Option Standing) → IsStrictlySortedBy account_cmp (keys_of (standings_placed standings later)) → IsStrictlySortedBy account_cmp (keys_of (with_some first.0 o (standings_placed standings later)))
+  at : (o : Option Standing) → IsStrictlySortedBy account_cmp (keys_of (standings_placed standings later))
+      → IsStrictlySortedBy account_cmp (keys_of (with_some first.0 o (standings_placed standings later)))
   at None rest = rest
   at (Some standing) rest = (placed_all (λ y. account_cmp first.0 y ≡ Less) standings later ordered.0, rest)
 
@@ -84,15 +89,20 @@ left_ordered test (role ∷ roles) ordered = at (test role.0) (left_ordered test
   at false rest = (left_all (λ y. account_cmp role.0 y ≡ Less) test roles ordered.0, rest)
 
 -- who leaves has no standing, and the others keep theirs
-pub standing_left : (roles : RoleList) (who q : AccountId) → IsStrictlySortedBy account_cmp (keys_of roles) → standing_of (without_role roles who) q ≡ cond (is_eq (account_cmp who q)) None (standing_of roles q)
+pub standing_left : (roles : RoleList) (who q : AccountId) → IsStrictlySortedBy account_cmp (keys_of roles)
+    → standing_of (without_role roles who) q ≡ cond (is_eq (account_cmp who q)) None (standing_of roles q)
 standing_left roles who q ordered =
-    lookup-remove_entry (eq_by_cmp_equiv account_total) (is_at (account_cmp who)) (λ x y e. ap (λ z. is_eq (account_cmp z y)) (tied who x e)) q roles (IsDistinct-from_sorted account_cmp (keys_of roles) ordered)
+    lookup-remove_entry (eq_by_cmp_equiv account_total) (is_at (account_cmp who))
+    (λ x y e. ap (λ z. is_eq (account_cmp z y)) (tied who x e)) q roles (IsDistinct-from_sorted account_cmp
+    (keys_of roles) ordered)
 
 -- who has no standing leaves nothing
 pub left_absent : (roles : RoleList) (who : AccountId) → is_some (standing_of roles who) ≡ false → without_role roles who ≡ roles
 left_absent [] who none = refl
 left_absent (role ∷ roles) who none = at (is_eq (account_cmp who role.0)) none (left_absent roles who) where
-  at : (b : Bool) → is_some (cond b (Some role.1) (standing_of roles who)) ≡ false → (is_some (standing_of roles who) ≡ false → without_role roles who ≡ roles) → cond b roles (role ∷ without_role roles who) ≡ role ∷ roles
+  at : (b : Bool) → is_some (cond b (Some role.1) (standing_of roles who)) ≡ false
+      → (is_some (standing_of roles who) ≡ false → without_role roles who ≡ roles)
+      → cond b roles (role ∷ without_role roles who) ≡ role ∷ roles
   at true e rest = absurd (true≢false e)
   at false e rest = ap (λ rs. role ∷ rs) (rest e)
 
@@ -107,10 +117,14 @@ by_test {P} q who one other = at (is_eq (account_cmp q who)) refl where
 at_head : (role : AccountId × Standing) (roles : RoleList) → standing_of (role ∷ roles) role.0 ≡ Some role.1
 at_head role roles = rw (tied_itself account_total role.0) refl
 
-below : (role other : AccountId × Standing) (roles : RoleList) → IsStrictlySortedBy account_cmp (keys_of (role ∷ roles)) → account_cmp other.0 role.0 ≡ Less → standing_of (role ∷ roles) other.0 ≡ Some other.1 → ⊥
+below : (role other : AccountId × Standing) (roles : RoleList)
+    → IsStrictlySortedBy account_cmp (keys_of (role ∷ roles)) → account_cmp other.0 role.0 ≡ Less
+    → standing_of (role ∷ roles) other.0 ≡ Some other.1 → ⊥
 below role other roles ordered is there = none-some other.1 (sym (lookup-none (is_at (account_cmp other.0)) (role ∷ roles) (none_below_head account_total other.0 role roles ordered is)) ∙ there)
 
-same_roles : (roles others : RoleList) → IsStrictlySortedBy account_cmp (keys_of roles) → IsStrictlySortedBy account_cmp (keys_of others) → ((q : AccountId) → standing_of roles q ≡ standing_of others q) → roles ≡ others
+same_roles : (roles others : RoleList) → IsStrictlySortedBy account_cmp (keys_of roles)
+    → IsStrictlySortedBy account_cmp (keys_of others) → ((q : AccountId) → standing_of roles q ≡ standing_of others q)
+    → roles ≡ others
 same_roles [] [] ordered also same = refl
 same_roles [] (other ∷ others) ordered also same = absurd (none-some other.1 (same other.0 ∙ at_head other others))
 same_roles (role ∷ roles) [] ordered also same = absurd (none-some role.1 (sym (same role.0) ∙ at_head role roles))
@@ -132,13 +146,17 @@ same_roles (role ∷ roles) (other ∷ others) ordered also same =
           ap₂ (λ (r : AccountId × Standing) rs. r ∷ rs) (ap₂ (λ account standing. (account, standing)) one (values one)) (rest (tails one))
       at Greater is rest = absurd (below role other roles ordered (account_total.antisymm other.0 role.0 ∙ ap ordering_reverse is) (same other.0 ∙ at_head other others))
 
-module _ (standings now : List (Option Standing)) (places places_now : List (AccountId × ℕ)) (who : AccountId) (ordered : IsStrictlySortedBy account_cmp (keys_of places)) (ordered_now : IsStrictlySortedBy account_cmp (keys_of places_now))
+module _ (standings now : List (Option Standing)) (places places_now : List (AccountId × ℕ)) (who : AccountId)
+    (ordered : IsStrictlySortedBy account_cmp (keys_of places)) (ordered_now : IsStrictlySortedBy account_cmp
+    (keys_of places_now))
     (others : (q : AccountId) → is_eq (account_cmp q who) ≡ false → at_place now (place_in places_now q) ≡ at_place standings (place_in places q)) where
   -- an account takes a standing
   pub placed_with : (standing : Standing) → at_place now (place_in places_now who) ≡ Some standing → standings_placed now places_now ≡ with_standing (standings_placed standings places) who standing
   placed_with standing here =
       let roles = standings_placed standings places in
-      same_roles (standings_placed now places_now) (insert_entry account_cmp roles who standing) (placed_ordered now places_now ordered_now) (sorted_put account_total who standing roles (placed_ordered standings places ordered))
+      same_roles (standings_placed now places_now) (insert_entry account_cmp roles who standing)
+      (placed_ordered now places_now ordered_now) (sorted_put account_total who standing roles
+      (placed_ordered standings places ordered))
       (λ q. by_test q who
       (λ one. subst (λ a. standing_of (standings_placed now places_now) a ≡ standing_of (insert_entry account_cmp roles who standing) a) (sym one)
       (standing_placed now places_now who ordered_now ∙ here ∙ sym (lookup_put account_total who standing roles)))
@@ -158,11 +176,15 @@ module _ (standings now : List (Option Standing)) (places places_now : List (Acc
       ∙ sym (standing_left roles who q rise ∙ rw (account_apart who q (λ e. true≢false (sym (ap is_eq (ap (account_cmp q) e ∙ tied_itself account_total q)) ∙ apart))) refl)))
 
 -- a standing changes at the place of its account
-module _ (standings : List (Option Standing)) (accounts : List AccountId) (who : AccountId) (place : ℕ) (stand : Stand accounts (by_account accounts)) (beside : length standings ≡ length accounts) (there : place_in (by_account accounts) who ≡ Some place) where
+module _ (standings : List (Option Standing)) (accounts : List AccountId) (who : AccountId) (place : ℕ)
+    (stand : Stand accounts (by_account accounts)) (beside : length standings ≡ length accounts)
+    (there : place_in (by_account accounts) who ≡ Some place) where
   pub place_within : place < length standings
   place_within = omega (arith, beside, slice_get_within accounts place who (stand.standing who place there))
 
-  set_others : (o : Option Standing) (q : AccountId) → is_eq (account_cmp q who) ≡ false → at_place (slice_set standings place o) (place_in (by_account accounts) q) ≡ at_place standings (place_in (by_account accounts) q)
+  set_others : (o : Option Standing) (q : AccountId) → is_eq (account_cmp q who) ≡ false
+      → at_place (slice_set standings place o) (place_in (by_account accounts) q)
+      ≡ at_place standings (place_in (by_account accounts) q)
   set_others o q apart = at (place_in (by_account accounts) q) refl where
     at : (p : Option ℕ) → place_in (by_account accounts) q ≡ p → at_place (slice_set standings place o) p ≡ at_place standings p
     at None e = refl
@@ -173,11 +195,15 @@ module _ (standings : List (Option Standing)) (accounts : List AccountId) (who :
   set_here : (o : Option Standing) → at_place (slice_set standings place o) (place_in (by_account accounts) who) ≡ o
   set_here o = ap (at_place (slice_set standings place o)) there ∙ get_or-set_same standings place o None place_within
 
-  pub placed_set : (standing : Standing) → standings_placed (slice_set standings place (Some standing)) (by_account accounts) ≡ with_standing (standings_placed standings (by_account accounts)) who standing
-  placed_set standing = placed_with standings (slice_set standings place (Some standing)) (by_account accounts) (by_account accounts) who (by_account_ordered accounts) (by_account_ordered accounts) (set_others (Some standing)) standing (set_here (Some standing))
+  pub placed_set : (standing : Standing) → standings_placed (slice_set standings place (Some standing))
+      (by_account accounts) ≡ with_standing (standings_placed standings (by_account accounts)) who standing
+  placed_set standing = placed_with standings (slice_set standings place (Some standing)) (by_account accounts)
+      (by_account accounts) who (by_account_ordered accounts) (by_account_ordered accounts)
+      (set_others (Some standing)) standing (set_here (Some standing))
 
   pub placed_unset : standings_placed (slice_set standings place None) (by_account accounts) ≡ without_role (standings_placed standings (by_account accounts)) who
-  placed_unset = placed_without standings (slice_set standings place None) (by_account accounts) (by_account accounts) who (by_account_ordered accounts) (by_account_ordered accounts) (set_others None) (set_here None)
+  placed_unset = placed_without standings (slice_set standings place None) (by_account accounts) (by_account accounts)
+      who (by_account_ordered accounts) (by_account_ordered accounts) (set_others None) (set_here None)
 
   pub standing_there : standing_of (standings_placed standings (by_account accounts)) who ≡ get_or standings place None
   standing_there = standing_placed standings (by_account accounts) who (by_account_ordered accounts) ∙ ap (at_place standings) there
@@ -188,7 +214,8 @@ module _ (standings : List (Option Standing)) (accounts : List AccountId) (who :
   standing_nowhere = standing_placed standings (by_account accounts) who (by_account_ordered accounts) ∙ ap (at_place standings) absent
 
   pub placed_absent : standings_placed standings (by_account accounts) ≡ without_role (standings_placed standings (by_account accounts)) who
-  placed_absent = placed_without standings standings (by_account accounts) (by_account accounts) who (by_account_ordered accounts) (by_account_ordered accounts) (λ q apart. refl) (ap (at_place standings) absent)
+  placed_absent = placed_without standings standings (by_account accounts) (by_account accounts) who
+      (by_account_ordered accounts) (by_account_ordered accounts) (λ q apart. refl) (ap (at_place standings) absent)
 
   -- an account that gets a place has no standing for that
   pub placed_more : Stand accounts (by_account accounts) → length standings ≡ length accounts
@@ -200,7 +227,9 @@ module _ (standings : List (Option Standing)) (accounts : List AccountId) (who :
       let here : at_place longer (place_in (by_account now) who) ≡ None =
       ap (at_place longer) (place_last accounts who) ∙ ap (λ n. get_or longer n None) seam ∙ get_or-append_seam standings None [] None in
       let others : (q : AccountId) → is_eq (account_cmp q who) ≡ false → at_place longer (place_in (by_account now) q) ≡ at_place standings (place_in (by_account accounts) q) =
-      λ q apart. ap (λ places. at_place longer (place_in places q)) (by_account_more accounts who) ∙ ap (at_place longer) (lookup_other account_total who (length accounts) q (by_account accounts) apart) ∙ kept q in
+      λ q apart. ap (λ places. at_place longer (place_in places q)) (by_account_more accounts who)
+      ∙ ap (at_place longer) (lookup_other account_total who (length accounts) q (by_account accounts) apart)
+      ∙ kept q in
       placed_without standings longer (by_account accounts) (by_account now) who (by_account_ordered accounts) (by_account_ordered now) others here
       ∙ left_absent (standings_placed standings (by_account accounts)) who (ap is_some standing_nowhere) where
         kept : (q : AccountId) → at_place (standings ++ None ∷ []) (place_in (by_account accounts) q) ≡ at_place standings (place_in (by_account accounts) q)

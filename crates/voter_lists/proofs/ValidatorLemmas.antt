@@ -32,14 +32,18 @@ module _ (who : AccountId) where
   first : (rows : RoleList) → AllByRecursion (λ y. account_cmp who y ≡ Less) (keys_of rows) → insert_key account_cmp (validators_of rows) who ≡ who ∷ validators_of rows
   first [] all = refl
   first (row ∷ rows) all = at (is_validator_standing row.1) (first rows all.1) where
-    at : (b : Bool) → insert_key account_cmp (validators_of rows) who ≡ who ∷ validators_of rows → insert_key account_cmp (if b then row.0 ∷ validators_of rows else validators_of rows) who ≡ who ∷ (if b then row.0 ∷ validators_of rows else validators_of rows)
+    at : (b : Bool) → insert_key account_cmp (validators_of rows) who ≡ who ∷ validators_of rows
+        → insert_key account_cmp (if b then row.0 ∷ validators_of rows else validators_of rows) who
+        ≡ who ∷ (if b then row.0 ∷ validators_of rows else validators_of rows)
     at true rest = rw all.0 refl
     at false rest = rest
 
   absent : (rows : RoleList) → AllByRecursion (λ y. account_cmp who y ≡ Less) (keys_of rows) → remove_key (is_at (account_cmp who)) (validators_of rows) ≡ validators_of rows
   absent [] all = refl
   absent (row ∷ rows) all = at (is_validator_standing row.1) (absent rows all.1) where
-    at : (b : Bool) → remove_key (is_at (account_cmp who)) (validators_of rows) ≡ validators_of rows → remove_key (is_at (account_cmp who)) (if b then row.0 ∷ validators_of rows else validators_of rows) ≡ (if b then row.0 ∷ validators_of rows else validators_of rows)
+    at : (b : Bool) → remove_key (is_at (account_cmp who)) (validators_of rows) ≡ validators_of rows
+        → remove_key (is_at (account_cmp who)) (if b then row.0 ∷ validators_of rows else validators_of rows)
+        ≡ (if b then row.0 ∷ validators_of rows else validators_of rows)
     at true rest = rw all.0 (ap (λ vs. row.0 ∷ vs) rest)
     at false rest = rest
 
@@ -65,7 +69,9 @@ module _ (who : AccountId) where
       at true = rw is (ap (λ vs. row.0 ∷ vs) rest)
       at false = rest
 
-    pub validators_with : (rows : RoleList) → IsStrictlySortedBy account_cmp (keys_of rows) → validators_of (insert_entry account_cmp rows who (Validator commission)) ≡ insert_key account_cmp (validators_of rows) who
+    pub validators_with : (rows : RoleList) → IsStrictlySortedBy account_cmp (keys_of rows)
+        → validators_of (insert_entry account_cmp rows who (Validator commission))
+        ≡ insert_key account_cmp (validators_of rows) who
     unfolding IsStrictlySortedBy
     validators_with [] s = refl
     validators_with (row ∷ rows) s = validating_at row rows (account_cmp who row.0) refl s (validators_with rows s.1)
@@ -80,7 +86,8 @@ module _ (who : AccountId) where
     counted_at row rows Less is s rest valid = absurd (true≢false (sym valid ∙ ap is_validator_in (unlisted rows (all_below row.0 (keys_of rows) is s.0))))
     counted_at row rows Equal is s rest valid = rw valid refl
     counted_at row rows Greater is s rest valid = at (is_validator_standing row.1) where
-      at : (b : Bool) → length (if b then row.0 ∷ validators_of (insert_entry account_cmp rows who (Validator commission)) else validators_of (insert_entry account_cmp rows who (Validator commission)))
+      at : (b : Bool) → length (if b then row.0 ∷ validators_of (insert_entry account_cmp rows who
+          (Validator commission)) else validators_of (insert_entry account_cmp rows who (Validator commission)))
           ≡ length (if b then row.0 ∷ validators_of rows else validators_of rows)
       at true = ap suc (rest valid)
       at false = rest valid
@@ -127,7 +134,9 @@ module _ (who : AccountId) where
       at true = rw is (ap (λ vs. row.0 ∷ vs) rest)
       at false = rest
 
-    pub validators_without : (rows : RoleList) → IsStrictlySortedBy account_cmp (keys_of rows) → validators_of (insert_entry account_cmp rows who (Nominator targets)) ≡ remove_key (is_at (account_cmp who)) (validators_of rows)
+    pub validators_without : (rows : RoleList) → IsStrictlySortedBy account_cmp (keys_of rows)
+        → validators_of (insert_entry account_cmp rows who (Nominator targets))
+        ≡ remove_key (is_at (account_cmp who)) (validators_of rows)
     unfolding IsStrictlySortedBy
     validators_without [] s = refl
     validators_without (row ∷ rows) s = nominating_at row rows (account_cmp who row.0) refl s (validators_without rows s.1)
@@ -152,7 +161,9 @@ module _ (who : AccountId) where
     at true = rw is (ap (λ vs. row.0 ∷ vs) rest)
     at false = rest
 
-  pub validators_left : (rows : RoleList) → IsStrictlySortedBy account_cmp (keys_of rows) → validators_of (remove_entry (is_at (account_cmp who)) rows) ≡ remove_key (is_at (account_cmp who)) (validators_of rows)
+  pub validators_left : (rows : RoleList) → IsStrictlySortedBy account_cmp (keys_of rows)
+      → validators_of (remove_entry (is_at (account_cmp who)) rows)
+      ≡ remove_key (is_at (account_cmp who)) (validators_of rows)
   unfolding IsStrictlySortedBy
   validators_left [] s = refl
   validators_left (row ∷ rows) s = leaving_at row rows (account_cmp who row.0) refl s (validators_left rows s.1)

@@ -1,5 +1,7 @@
 -- The lists of the bags and the one list of the walk.
-use Rattle.std.proofs.Common.{◌≡◌, ◌≢◌, ℕ, zero, suc, ◌+◌, ◌<◌, ◌≤◌, Bool, true, false, ◌||◌, nat_eq, if◌then◌else◌, List, [], ◌∷◌, ◌++◌, length, get_or, refl, ap, ap₂, sym, ◌∙◌, subst, append_assoc, arith, Option, Some, None, true≢false, add-zero, slice_get, is_some, take, zero-add}
+use Rattle.std.proofs.Common.{◌≡◌, ◌≢◌, ℕ, zero, suc, ◌+◌, ◌<◌, ◌≤◌, Bool, true, false, ◌||◌, nat_eq, if◌then◌else◌}
+use Rattle.std.proofs.Common.{List, [], ◌∷◌, ◌++◌, length, get_or, refl, ap, ap₂, sym, ◌∙◌, subst, append_assoc}
+use Rattle.std.proofs.Common.{arith, Option, Some, None, true≢false, add-zero, slice_get, is_some, take, zero-add}
 use Rattle.npos_base.proofs.NumberTests.{number_test, number_same}
 use Rattle.voter_lists.proofs.HomeLemmas.{noted_at}
 use Rattle.std.specs.List.{slice_set}
@@ -34,7 +36,8 @@ in_bag_below below number (bag ∷ bags) h =
       below_not e h = omega (arith, e, h)
 
 -- more entries of a lower bag change no bag
-lists_more : (order : Order) (number lower : ℕ) (accounts : List AccountId) (bags : List (List AccountId)) → lower < number → Lists order number bags → Lists (order ++ numbered lower accounts) number bags
+lists_more : (order : Order) (number lower : ℕ) (accounts : List AccountId) (bags : List (List AccountId))
+    → lower < number → Lists order number bags → Lists (order ++ numbered lower accounts) number bags
 lists_more order number lower accounts [] h l = tt
 lists_more order number lower accounts (bag ∷ bags) h l = (
   filter-append (λ entry. nat_eq entry.1 number) order (numbered lower accounts)
@@ -56,7 +59,9 @@ walk_of_lists order number [] l = refl
 walk_of_lists order number (bag ∷ bags) l = ap₂ (λ xs ys. xs ++ ys) (walk_of_lists order (number + 1) bags l.1) l.0
 
 -- one bag of them
-pub lists_at : (order : Order) (number place : ℕ) (bags : List (List AccountId)) (d : List AccountId) → place < length bags → Lists order number bags → in_bag (number + place) order ≡ numbered (number + place) (get_or bags place d)
+pub lists_at : (order : Order) (number place : ℕ) (bags : List (List AccountId)) (d : List AccountId)
+    → place < length bags → Lists order number bags → in_bag (number + place) order
+    ≡ numbered (number + place) (get_or bags place d)
 lists_at order number place [] d h l = absurd (omega (arith, h))
 lists_at order number zero (bag ∷ bags) d h l = rw (add-zero number) l.0
 lists_at order number (suc place) (bag ∷ bags) d h l =
@@ -78,7 +83,9 @@ lists_set order new number zero (old ∷ bags) bag others here l =
         apart e h = omega (arith, e, h)
 lists_set order new number (suc place) (old ∷ bags) bag others here l = (
   others number (λ e. far e) ∙ l.0,
-  lists_set order new (number + 1) place bags bag (λ other differ. others other (λ e. differ (e ∙ sym (shifted number place)))) (subst (λ n. in_bag n new ≡ numbered n bag) (sym (shifted number place)) here) l.1,
+  lists_set order new (number + 1) place bags bag (λ other differ. others other
+      (λ e. differ (e ∙ sym (shifted number place)))) (subst (λ n. in_bag n new ≡ numbered n bag)
+      (sym (shifted number place)) here) l.1,
 ) where
   shifted : (n p : ℕ) → n + 1 + p ≡ n + suc p
   shifted n p = omega arith
@@ -115,7 +122,9 @@ holds_append (x ∷ xs) ys who = at (same_account x who) (holds_append xs ys who
   at true rest = refl
   at false rest = rest
 
-pub falling_apart : (home : AccountId → Option ℕ) (who : AccountId) (number : ℕ) (bags : List (List AccountId)) → ((other : ℕ) → number ≤ other → is_in (home who) other ≡ false) → AreNoted home number bags → holds (falling bags) who ≡ false
+pub falling_apart : (home : AccountId → Option ℕ) (who : AccountId) (number : ℕ) (bags : List (List AccountId))
+    → ((other : ℕ) → number ≤ other → is_in (home who) other ≡ false) → AreNoted home number bags
+    → holds (falling bags) who ≡ false
 falling_apart home who number [] far l = refl
 falling_apart home who number (bag ∷ bags) far l =
     holds_append (falling bags) bag who ∙ rw (falling_apart home who (number + 1) bags (λ other h. far other (omega (arith, h))) l.1, l.0 who ∙ far number (omega arith)) refl
@@ -135,7 +144,9 @@ or_first next later = if is_some next then next else slice_get later 0
 after_past : (xs ys : List AccountId) (who : AccountId) → holds xs who ≡ false → account_after (xs ++ ys) who ≡ account_after ys who
 after_past [] ys who e = refl
 after_past (x ∷ xs) ys who e = at (same_account x who) e (after_past xs ys who) where
-  at : (b : Bool) → (b || holds xs who) ≡ false → (holds xs who ≡ false → account_after (xs ++ ys) who ≡ account_after ys who) → (if b then slice_get (xs ++ ys) 0 else account_after (xs ++ ys) who) ≡ account_after ys who
+  at : (b : Bool) → (b || holds xs who) ≡ false → (holds xs who ≡ false → account_after (xs ++ ys) who
+      ≡ account_after ys who) → (if b then slice_get (xs ++ ys) 0 else account_after (xs ++ ys) who)
+      ≡ account_after ys who
   at true e rest = absurd (true≢false e)
   at false e rest = rest e
 
@@ -156,7 +167,8 @@ or_first_more None [] ys = refl
 or_first_more None (x ∷ xs) ys = refl
 or_first_more (Some next) xs ys = refl
 
-after_falling : (home : AccountId → Option ℕ) (who : AccountId) (number place : ℕ) (bags : List (List AccountId)) (d : List AccountId) → home who ≡ Some (number + place) → AreNoted home number bags → place < length bags
+after_falling : (home : AccountId → Option ℕ) (who : AccountId) (number place : ℕ) (bags : List (List AccountId))
+    (d : List AccountId) → home who ≡ Some (number + place) → AreNoted home number bags → place < length bags
     → account_after (falling bags) who ≡ or_first (account_after (get_or bags place d) who) (falling (take place bags))
 after_falling home who number place [] d there l h = absurd (omega (arith, h))
 after_falling home who number zero (bag ∷ bags) d there l h =

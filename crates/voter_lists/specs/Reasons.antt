@@ -1,7 +1,8 @@
 -- The numbers of the reasons for which the roles and the bags refuse. Want of memory is none of them.
 use Rattle.std.specs.Prelude.{◌≡◌, ℕ, Option, Some, None, refl}
 use Rattle.voter_lists.specs.declared.refusal.ListRefusal.{ListRefusal}
-use Rattle.voter_lists.specs.declared.refusal.ListRefusal.TheVariants.{NoTargets, TooManyTargets, RepeatedTarget, NotValidator, TooManyValidators, BadFraction, NotListed, SameBag, OtherBag, NotHeavier, NoMemory}
+use Rattle.voter_lists.specs.declared.refusal.ListRefusal.TheVariants.{NoTargets, TooManyTargets, RepeatedTarget, NotValidator, TooManyValidators}
+use Rattle.voter_lists.specs.declared.refusal.ListRefusal.TheVariants.{BadFraction, NotListed, SameBag, OtherBag, NotHeavier, NoMemory}
 
 abbrev pub reason_number : ListRefusal → Option ℕ
 reason_number NoTargets = Some 10

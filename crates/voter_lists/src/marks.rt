@@ -44,7 +44,7 @@ impl Model for Marks {
 impl Marks {
     /// The first of these marks, as many as `count` says. It takes no memory.
     fn few(count: usize, marks: [u32; FEW]) -> Marks
-        requires { count ≤ FEW }
+        requires { count ≤ length marks }
         ensures { result ≡ take count marks }
     {
         Marks {
@@ -69,13 +69,14 @@ impl Marks {
         ensures { result.now ≡ self.now }
     {
         match &self.held {
-            Held::Few { count, marks } => &marks[..*count as usize],
+            Held::Few { count, marks } => &marks.as_slice()[..*count as usize],
             Held::Many(marks) => marks.as_slice(),
         }
     }
 }
 
-/// The marks of these accounts. Each is found once.
+/// The marks of these accounts. Each is found once. Those of few take no memory and are not guessed,
+/// since the mark of an account that is not known is beyond all places.
 pub(crate) fn marks_of(
     alloc: Global,
     places: &Places,
@@ -83,22 +84,12 @@ pub(crate) fn marks_of(
 ) -> Result<Marks, NoMemory>
     ensures { IfOk result (λ marks. AreMarks places.now marks accounts.now) }
 {
-    if accounts.len() <= FEW {
-        Ok(few_marks(places, accounts))
-    } else {
-        many_marks(alloc, places, accounts)
+    if accounts.len() > FEW {
+        return many_marks(alloc, places, accounts);
     }
-}
-
-/// The marks of few accounts. It takes no memory and guesses nothing, since the mark of an account
-/// that is not known is beyond all places.
-fn few_marks(places: &Places, accounts: &[AccountId]) -> Marks
-    requires { length accounts.now ≤ FEW }
-    ensures { AreMarks places.now result accounts.now }
-{
     let mut marks = [UNKNOWN; FEW];
     put_marks(places, accounts, &mut marks[..accounts.len()]);
-    Marks::few(accounts.len(), marks)
+    Ok(Marks::few(accounts.len(), marks))
 }
 
 /// The marks of any number of accounts. Where they may stand is guessed for all before the first is

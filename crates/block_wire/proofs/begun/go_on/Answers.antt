@@ -36,7 +36,8 @@ returns-in-Err-read-clause-steps c =
     let same : begun_bytes begun ++ c.split_at.result.1.now ≡ front_bytes c.args.begun ++ c.args.bytes.now = ap (λ (s : List ℕ). begun_bytes begun ++ s) (search rules) ∙ sym further.whole in
     let grows : begun_size c.args.begun ≤ more.size = search rules in
     let is : IsBegun more (record { at = c.args.at; rest = begun_bytes begun ++ c.split_at.result.1.now }) = search rules in
-    let cut : Reads next_form (record { at = c.args.at; rest = begun_bytes begun ++ c.split_at.result.1.now }) (Err fault) (record { at = c.args.at; rest = begun_bytes begun ++ c.split_at.result.1.now }) = search rules in
+    let cut : Reads next_form (record { at = c.args.at; rest = begun_bytes begun ++ c.split_at.result.1.now })
+    (Err fault) (record { at = c.args.at; rest = begun_bytes begun ++ c.split_at.result.1.now }) = search rules in
     let all_is = subst (λ (s : List ℕ). IsBegun more (record { at = c.args.at; rest = s })) same is in
     let all = is_further c.args.begun more c.args.at c.args.bytes.now c.requires.begun all_is grows in
     let taken : more.size - begun_size c.args.begun ≡ more.size - c.size_of-before.result = ap (λ (n : ℕ). more.size - n) (sym c.size_of-before.ensures) in (

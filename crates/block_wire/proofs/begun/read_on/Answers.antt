@@ -11,7 +11,8 @@ pub items-preserved : goal.items-preserved
 items-preserved g c =
     let read : IsRead g.T.Wire.form c.items.cursor c.in_ok-item.item c.read.new.cursor = search rules in
     record {
-      on = on_more g.T.Wire.form c.args.items.now.items c.items.items.items c.push.new.self.items c.args.cursor.now c.items.cursor c.read.new.cursor c.in_ok-item.item c.items.invariant.on read c.in_ok-push.ensures.items;
+      on = on_more g.T.Wire.form c.args.items.now.items c.items.items.items c.push.new.self.items c.args.cursor.now
+          c.items.cursor c.read.new.cursor c.in_ok-item.item c.items.invariant.on read c.in_ok-push.ensures.items;
       few = omega (arith, c.items-test.true, c.in_ok-push.ensures.len);
       forward = omega (arith, c.items.invariant.forward, read.at_is);
     }

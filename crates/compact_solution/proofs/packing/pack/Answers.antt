@@ -5,7 +5,7 @@ use Rattle.compact_solution.specs.Solution.{groups_form}
 use Rattle.compact_solution.specs.Choosing.{AllKeptFit}
 use Rattle.compact_solution.proofs.FitLemmas.{all_fit, many_kept, few_kept, kept_fit, packed_fits}
 use Rattle.compact_solution.proofs.GroupLemmas.{in_form}
-use Rattle.npos_base.specs.declared.limits.TheConstants.{MOST_NOMINATIONS}
+use Rattle.compact_solution.specs.declared.entry.TheConstants.{WIDE_GROUPS}
 use Rattle.compact_solution.proofs.packing.pack.Goals as goal
 
 pub keep-requires-clause-fit : goal.keep-requires-clause-fit
@@ -14,7 +14,7 @@ keep-requires-clause-fit c = all_fit c.args.stakes.now c.args.committee.now c.ar
 pub groups_for-requires : goal.groups_for-requires
 groups_for-requires c =
     let kept : c.as_slice-lists.result.now ≡ kept_of c.args.stakes.now c.args.edges.now = search rules in
-    subst (λ lists. All (λ own. length own ≤ MOST_NOMINATIONS) lists) (sym kept) (few_kept c.args.stakes.now c.args.committee.now c.args.edges.now c.requires)
+    subst (λ lists. All (λ own. length own ≤ WIDE_GROUPS) lists) (sym kept) (few_kept c.args.stakes.now c.args.committee.now c.args.edges.now c.requires)
 
 pub list_entries-requires-clause-lists : goal.list_entries-requires-clause-lists
 list_entries-requires-clause-lists c =

@@ -11,7 +11,9 @@ use Rattle.compact_solution.proofs.reading.read_singles.Goals as goal
 pub returns-in_err-take_single : goal.returns-in_err-take_single
 returns-in_err-take_single c =
     let p = err_from_is_err_and c.from_residual-in_err-take_single.result c.from_residual-in_err-take_single.ensures.1 in
-    rw (p.1, p.2) (items_err (entry_form 0) c.args.count c.loop.counter c.args.cursor.now c.fork-here.result c.loop.here c.take_single.new.cursor c.loop.entries.items (Wire c.in_err-take_single.field-0.0) c.fork-here.ensures c.loop-test.true c.loop.invariant.read c.in_err-take_single.ensures)
+    rw (p.1, p.2) (items_err (entry_form 0) c.args.count c.loop.counter c.args.cursor.now c.fork-here.result
+    c.loop.here c.take_single.new.cursor c.loop.entries.items (Wire c.in_err-take_single.field-0.0)
+    c.fork-here.ensures c.loop-test.true c.loop.invariant.read c.in_err-take_single.ensures)
 
 pub push_reserved-requires : goal.push_reserved-requires
 push_reserved-requires c =

@@ -15,4 +15,5 @@ returns c =
     let marked : c.write_mark.new.pen ≡ c.args.pen.now ++ mark_before (is_wide c.args.groups.now) =
     c.in_ok-write_mark.ensures ∙ ap (λ wide. c.args.pen.now ++ mark_before wide) (wide_by_count c.args.groups.now) in
     subst (λ (s : List ℕ). Writes s c.args.pen.now c.write_groups.result c.write_groups.new.pen) (solution_spelled c.args.groups.now)
-    (writes_behind (mark_before (is_wide c.args.groups.now)) (row_bytes group_form 0 c.args.groups.now) c.args.pen.now c.write_mark.new.pen c.write_groups.result c.write_groups.new.pen marked c.write_groups.ensures)
+    (writes_behind (mark_before (is_wide c.args.groups.now)) (row_bytes group_form 0 c.args.groups.now) c.args.pen.now
+    c.write_mark.new.pen c.write_groups.result c.write_groups.new.pen marked c.write_groups.ensures)

@@ -13,7 +13,9 @@ check_size-requires c =
     let taken = c.in_ok-take_entries.ensures.taken in
     let new = c.push_members.new.weights.plain in
     let is : new ≡ expanded c.args.snapshot.now c.args.solution.now =
-    weights_are c.args.snapshot.now (entries_of c.args.solution.now) c.take_entries.new.has_entry c.take_entries.new.stamps c.take_entries.new.weights new taken c.push_members.ensures.members c.push_members.ensures.edges in
+    weights_are c.args.snapshot.now (entries_of c.args.solution.now) c.take_entries.new.has_entry
+    c.take_entries.new.stamps c.take_entries.new.weights new taken c.push_members.ensures.members
+    c.push_members.ensures.edges in
     omega (arith, ap (λ (w : Weights). length w.committee) is, members_few c.args.snapshot.now (entries_of c.args.solution.now))
 
 pub returns-clause-fault : goal.returns-clause-fault
@@ -21,7 +23,9 @@ returns-clause-fault c =
     let snapshot = c.args.snapshot.now in
     let new = c.push_members.new.weights.plain in
     let is : new ≡ expanded snapshot c.args.solution.now =
-    weights_are snapshot (entries_of c.args.solution.now) c.take_entries.new.has_entry c.take_entries.new.stamps c.take_entries.new.weights new c.in_ok-take_entries.ensures.taken c.push_members.ensures.members c.push_members.ensures.edges in
+    weights_are snapshot (entries_of c.args.solution.now) c.take_entries.new.has_entry c.take_entries.new.stamps
+    c.take_entries.new.weights new c.in_ok-take_entries.ensures.taken c.push_members.ensures.members
+    c.push_members.ensures.edges in
     let sound : entries_fault snapshot [] (entries_of c.args.solution.now) ≡ None = c.in_ok-take_entries.ensures.taken.sound in
     c.check_size.ensures
     ∙ (ap (λ (w : Weights). answer_of (size_fault snapshot w)) is
@@ -33,5 +37,7 @@ returns-clause-weights c =
     let snapshot = c.args.snapshot.now in
     let new = c.push_members.new.weights.plain in
     let is : new ≡ expanded snapshot c.args.solution.now =
-    weights_are snapshot (entries_of c.args.solution.now) c.take_entries.new.has_entry c.take_entries.new.stamps c.take_entries.new.weights new c.in_ok-take_entries.ensures.taken c.push_members.ensures.members c.push_members.ensures.edges in
+    weights_are snapshot (entries_of c.args.solution.now) c.take_entries.new.has_entry c.take_entries.new.stamps
+    c.take_entries.new.weights new c.in_ok-take_entries.ensures.taken c.push_members.ensures.members
+    c.push_members.ensures.edges in
     search (rules, is)

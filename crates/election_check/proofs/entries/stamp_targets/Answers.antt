@@ -1,4 +1,5 @@
-use Rattle.std.proofs.Common.{◌≡◌, ◌≢◌, ◌<◌, ◌+◌, ℕ, false, nat_eq, suc, List, [], ◌∷◌, ◌++◌, All, get_or, slice_set, map, take, drop, length, refl, sym, ap, ◌∙◌, subst, inl, inr, length-append, arith}
+use Rattle.std.proofs.Common.{◌≡◌, ◌≢◌, ◌<◌, ◌+◌, ℕ, false, nat_eq, suc, List, [], ◌∷◌, ◌++◌, All, get_or, slice_set}
+use Rattle.std.proofs.Common.{map, take, drop, length, refl, sym, ap, ◌∙◌, subst, inl, inr, length-append, arith}
 use Rattle.std.specs.Prelude.{if◌then◌else◌}
 use Rattle.std.proofs.Math.ListN.{get_or-append}
 use Rattle.std.proofs.Math.Seq.{get_or-append_seam, drop-cons}
@@ -65,7 +66,9 @@ repeat_more shares last i d below new =
     ∙ ap (λ (s : List Share). first_repeat before (listed s ++ last ∷ [])) (sym (drop-cons shares i d below))))
 
 -- where the targets of all shares are in range, that of the next one is
-next_below : (shares items : List Share) (last n i target : ℕ) → items ≡ shares → All (λ target. target < n) (listed shares ++ last ∷ []) → i < length items → target ≡ (get_or items i no_share).target → target < n
+next_below : (shares items : List Share) (last n i target : ℕ) → items ≡ shares
+    → All (λ target. target < n) (listed shares ++ last ∷ []) → i < length items
+    → target ≡ (get_or items i no_share).target → target < n
 next_below shares items last n i target same all below is =
     let fits = subst (λ (s : List Share). All (λ target. target < n) (listed s ++ last ∷ [])) (sym same) all in
     omega (arith, is, listed_below items last n i no_share fits below)
@@ -102,7 +105,9 @@ loop-share-preserved c =
     record {
       items = c.loop-share.invariant.items;
       rest = repeat_more items c.args.entry.now.last i no_share c.loop-share-test.true new ∙ c.loop-share.invariant.rest;
-      stamped = subst (λ (n : ℕ). (target : ℕ) → get_or (slice_set c.loop-share.stamps n c.args.stamp) target 0 ≡ (if has (listed (take (i + 1) items)) target then c.args.stamp else get_or c.args.stamps.now target 0)) (sym at)
+      stamped = subst (λ (n : ℕ). (target : ℕ) → get_or (slice_set c.loop-share.stamps n c.args.stamp) target 0
+          ≡ (if has (listed (take (i + 1) items)) target then c.args.stamp else get_or c.args.stamps.now target 0))
+          (sym at)
           (subst (λ (ts : List ℕ). (n : ℕ) → get_or (slice_set c.loop-share.stamps target c.args.stamp) n 0 ≡ (if has ts n then c.args.stamp else get_or c.args.stamps.now n 0)) (sym more)
           (stamped_more before c.args.stamps.now c.loop-share.stamps c.args.stamp target below c.loop-share.invariant.stamped));
     }
@@ -124,6 +129,8 @@ returns-clause-stamped c =
     let at : c.from-last.result ≡ last = c.from-last.ensures ∙ c.last.ensures in
     let all : take c.loop-share.share-index items ≡ c.args.entry.now.shares = take_all c.loop-share.share-index items c.loop-share-test.false ∙ c.shares-share-items.ensures.shares in
     let below : last < length c.loop-share.stamps = omega (arith, at, bounds-stamps-last-2 c) in
-    subst (λ (n : ℕ). (target : ℕ) → get_or (slice_set c.loop-share.stamps n c.args.stamp) target 0 ≡ (if has (targets_of c.args.entry.now) target then c.args.stamp else get_or c.args.stamps.now target 0)) (sym at)
+    subst (λ (n : ℕ). (target : ℕ) → get_or (slice_set c.loop-share.stamps n c.args.stamp) target 0
+    ≡ (if has (targets_of c.args.entry.now) target then c.args.stamp else get_or c.args.stamps.now target 0))
+    (sym at)
     (subst (λ (s : List Share). (n : ℕ) → get_or (slice_set c.loop-share.stamps last c.args.stamp) n 0 ≡ (if has (listed s ++ last ∷ []) n then c.args.stamp else get_or c.args.stamps.now n 0)) all
     (stamped_more (listed (take c.loop-share.share-index items)) c.args.stamps.now c.loop-share.stamps c.args.stamp last below c.loop-share.invariant.stamped))

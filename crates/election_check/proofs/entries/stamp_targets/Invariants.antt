@@ -10,7 +10,9 @@ use Rattle.election_check.proofs.entries.stamp_targets.Given as goal
 abbrev pub invariant-loop-share : goal.invariant-loop-share
 invariant-loop-share l = record {
   items : l.share-items ≡ l.entry.shares;
-  rest : first_repeat (map (λ (share : Share). share.target) (take l.share-index l.share-items)) (targets_of (record { voter = l.entry.voter; shares = drop l.share-index l.share-items; last = l.entry.last })) ≡ first_repeat [] (targets_of l.entry);
+  rest : first_repeat (map (λ (share : Share). share.target) (take l.share-index l.share-items))
+      (targets_of (record { voter = l.entry.voter; shares = drop l.share-index l.share-items; last = l.entry.last }))
+      ≡ first_repeat [] (targets_of l.entry);
   stamped : (target : ℕ) → slice_index_or l.stamps target 0
       ≡ (if has (map (λ (share : Share). share.target) (take l.share-index l.share-items)) target then l.stamp else slice_index_or l.initial.stamps target 0);
 }

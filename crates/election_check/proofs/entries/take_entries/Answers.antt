@@ -12,5 +12,7 @@ returns-in_err-take_group-clause-fault c =
     let solution = c.args.solution.now in
     let place = c.loop-place.place in
     let below : place < length solution = omega arith in
-    let faulty = an_error (entries_fault c.args.snapshot.now (entries_of (take place solution)) (get_or solution place [])) c.in_err-take_group.field-0.0 (sym c.take_group.ensures.fault ∙ c.in_err-take_group.was) in
+    let faulty = an_error (entries_fault c.args.snapshot.now (entries_of (take place solution))
+    (get_or solution place [])) c.in_err-take_group.field-0.0 (sym c.take_group.ensures.fault
+    ∙ c.in_err-take_group.was) in
     rw (p.1, p.2) (sym (ap answer_of (stops_at_group c.args.snapshot.now solution place c.in_err-take_group.field-0.0 below c.loop-place.invariant.taken.sound faulty)))

@@ -20,7 +20,8 @@ returns-in_err-take_entry-clause-fault c =
     let group_is : get_or c.args.solution.now c.args.place [] ≡ items = sym (this_group c.args.solution.now c.args.place items c.group-entry-items.ensures) in
     let entry = c.entry-item.result in
     let marked = c.loop-entry.invariant.taken.marked entry.voter in
-    let faulty = an_error (entry_fault c.args.snapshot.now (get_or c.loop-entry.has_entry entry.voter false) entry) c.in_err-take_entry.field-0.0 (sym c.take_entry.ensures.fault ∙ c.in_err-take_entry.was) in
+    let faulty = an_error (entry_fault c.args.snapshot.now (get_or c.loop-entry.has_entry entry.voter false) entry)
+    c.in_err-take_entry.field-0.0 (sym c.take_entry.ensures.fault ∙ c.in_err-take_entry.was) in
     let stops = stops_in c.args.snapshot.now before items c.loop-entry.entry-index entry c.in_err-take_entry.field-0.0 c.loop-entry-test.true c.entry-item.is c.loop-entry.invariant.taken.sound
     (ap (λ b. entry_fault c.args.snapshot.now b entry) (sym marked) ∙ faulty) in
     rw (p.1, p.2) (sym (ap (λ group. answer_of (entries_fault c.args.snapshot.now before group)) group_is ∙ ap answer_of stops))

@@ -21,7 +21,9 @@ overflow_sub-left c =
     let h : c.loop-edge.edge-index < length edges = search rules in
     let is : c.pay.result ≡ pay c.threshold-price.result edges (get_or edges c.loop-edge.edge-index none) = search rules in
     rw (c.edges-edge-items.ensures, is)
-    (pay_left c.threshold-price.result c.args.snapshot.now c.args.weights.now.plain.edges c.requires.feasible.follows.voters_in_range c.requires.feasible.within_stakes c.loop-edge.edge-index none h c.loop-edge.left c.loop-edge.invariant.0)
+    (pay_left c.threshold-price.result c.args.snapshot.now c.args.weights.now.plain.edges
+    c.requires.feasible.follows.voters_in_range c.requires.feasible.within_stakes c.loop-edge.edge-index none h
+    c.loop-edge.left c.loop-edge.invariant.0)
 
 pub loop-edge-preserved : goal.loop-edge-preserved
 loop-edge-preserved c =
@@ -29,6 +31,8 @@ loop-edge-preserved c =
     let h : c.loop-edge.edge-index < length edges = search rules in
     let is : c.pay.result ≡ pay c.threshold-price.result edges (get_or edges c.loop-edge.edge-index none) = search rules in (
       rw (c.edges-edge-items.ensures, is)
-          (paid_next c.threshold-price.result c.args.snapshot.now c.args.weights.now.plain.edges c.requires.feasible.follows.voters_in_range c.requires.feasible.within_stakes c.loop-edge.edge-index none h c.loop-edge.left c.loop-edge.invariant.0),
+          (paid_next c.threshold-price.result c.args.snapshot.now c.args.weights.now.plain.edges
+          c.requires.feasible.follows.voters_in_range c.requires.feasible.within_stakes c.loop-edge.edge-index
+          none h c.loop-edge.left c.loop-edge.invariant.0),
       c.loop-edge.invariant.1,
     )

@@ -16,7 +16,9 @@ returns-then-are_by_voter c =
     let up : IsNonDecreasingBy (λ (edge : Edge). edge.voter) c.args.edges.now = c.if-are_by_voter.ensures in
     subst (λ (exposures : List Exposure). IfOk c.seats_of.result (λ seats. members_seen c.args.voters.now seats ≡ members_with exposures))
     (exposures_sorted c.args.targets.now c.args.commissions.now c.args.supports.now c.args.voters.now (length c.args.voters.now) c.args.edges.now c.args.edges.now c.args.members.now
-    (IsPermutation-refl c.args.edges.now) (rises c.args.edges.now up) (voters_within c.args.targets.now c.args.voters.now c.args.edges.now c.requires.elected.edges_within) c.requires.elected.pairs_distinct)
+    (IsPermutation-refl c.args.edges.now) (rises c.args.edges.now up)
+    (voters_within c.args.targets.now c.args.voters.now c.args.edges.now c.requires.elected.edges_within)
+    c.requires.elected.pairs_distinct)
     c.seats_of.ensures
 
 pub seats_of-requires-2-clause-edges : goal.seats_of-requires-2-clause-edges
@@ -37,7 +39,10 @@ returns c =
     (All-permutation (IsWithin c.args.targets.now c.args.voters.now) c.in_ok-sorted.sorted.items _ c.sort_unstable_by_key.ensures.permutation
     (subst (λ edges. All (IsWithin c.args.targets.now c.args.voters.now) edges) (sym same) c.requires.elected.edges_within)) in
     subst (λ (exposures : List Exposure). IfOk c.seats_of-2.result (λ seats. members_seen c.args.voters.now seats ≡ members_with exposures))
-    (exposures_sorted c.args.targets.now c.args.commissions.now c.args.supports.now c.args.voters.now (length c.args.voters.now) c.args.edges.now c.sort_unstable_by_key.new.self.items c.args.members.now
-    (subst (λ edges. IsPermutation edges c.sort_unstable_by_key.new.self.items) same c.sort_unstable_by_key.ensures.permutation) (rises c.sort_unstable_by_key.new.self.items up) within c.requires.elected.pairs_distinct)
+    (exposures_sorted c.args.targets.now c.args.commissions.now c.args.supports.now c.args.voters.now
+    (length c.args.voters.now) c.args.edges.now c.sort_unstable_by_key.new.self.items c.args.members.now
+    (subst (λ edges. IsPermutation edges c.sort_unstable_by_key.new.self.items) same
+    c.sort_unstable_by_key.ensures.permutation) (rises c.sort_unstable_by_key.new.self.items up) within
+    c.requires.elected.pairs_distinct)
     (subst (λ (edges : List Edge). IfOk c.seats_of-2.result (λ seats. members_seen c.args.voters.now seats
     ≡ members_with (map (exposure_of c.args.targets.now c.args.commissions.now c.args.supports.now c.args.voters.now edges) c.args.members.now))) sorted c.seats_of-2.ensures)

@@ -23,7 +23,8 @@ loop-member-preserved c =
     let member : ℕ = get_or members i 0 in
     let place : c.from-place.result ≡ member = grind (arith, common_steps) in
     let taken : c.replace-shares.result ≡ get_or c.loop-member.lists.items member [] = grind (arith, common_steps) in
-    let made : c.seat_at-seat.result ≡ seat_of (account_at targets member) (get_or c.args.commissions.now member 0) (get_or c.args.supports.now member 0) (shares_of targets c.args.voters.now c.args.edges.now member) =
+    let made : c.seat_at-seat.result ≡ seat_of (account_at targets member) (get_or c.args.commissions.now member 0)
+    (get_or c.args.supports.now member 0) (shares_of targets c.args.voters.now c.args.edges.now member) =
     c.seat_at-seat.ensures
     ∙ ap₂ (λ (at : ℕ) (shares : List Share). seat_of (account_at targets at) (get_or c.args.commissions.now at 0) (get_or c.args.supports.now at 0) shares)
     place (taken ∙ before.lists i (omega arith) c.loop-member-test.true) in

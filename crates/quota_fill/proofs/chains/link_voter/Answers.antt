@@ -13,7 +13,8 @@ loop-place-preserved c =
     let within : get_or votes loop.place 0 < length c.args.firsts.now = c.requires.in_range loop.place 0 c.loop-place-test.true in
     let read : get_or loop.firsts (get_or votes loop.place 0) (record { voter = 0; place = 0 }) ≡ get_or loop.firsts (get_or votes loop.place 0) nowhere
     = get_or_default loop.firsts (get_or votes loop.place 0) (record { voter = 0; place = 0 }) nowhere (omega (arith, within, loop.invariant.firsts_size)) in
-    rw (is, read) (linking_more votes c.args.voter c.args.start c.args.firsts.now c.args.nexts.now c.requires.distinct loop.place 0 c.loop-place-test.true loop.firsts loop.nexts within c.requires.room loop.invariant)
+    rw (is, read) (linking_more votes c.args.voter c.args.start c.args.firsts.now c.args.nexts.now c.requires.distinct
+    loop.place 0 c.loop-place-test.true loop.firsts loop.nexts within c.requires.room loop.invariant)
 
 pub returns-clause-here : goal.returns-clause-here
 returns-clause-here c = λ place target at. c.loop-place.invariant.here place target (omega (arith, c.loop-place-test.false, slice_get_within c.args.votes.now place target at)) at

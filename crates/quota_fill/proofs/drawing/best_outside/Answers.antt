@@ -2,7 +2,8 @@ use Rattle.std.proofs.Common.{rules, ◌≡◌, ◌+◌, true, false, nat_lt, So
 use Rattle.seat_race.specs.Picks.{more, first_best}
 use Rattle.seat_race.specs.Tables.{says}
 use Rattle.seat_race.proofs.TableLemmas.{IsBestSoFar, best_next, best_stays}
-use Rattle.quota_fill.proofs.drawing.best_outside.Goals.{then-most-backings+then-not-is_picked-target, else-most-backings, else-most-backings-via-then-most-backings+else-not-is_picked-target, else-most-backings-via-else-most-backings}
+use Rattle.quota_fill.proofs.drawing.best_outside.Goals.{then-most-backings+then-not-is_picked-target, else-most-backings}
+use Rattle.quota_fill.proofs.drawing.best_outside.Goals.{else-most-backings-via-then-most-backings+else-not-is_picked-target, else-most-backings-via-else-most-backings}
 use Rattle.quota_fill.proofs.drawing.best_outside.Goals as goal
 
 pub loop-target-init : goal.loop-target-init

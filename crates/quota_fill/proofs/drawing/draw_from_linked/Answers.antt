@@ -7,13 +7,20 @@ use Rattle.quota_fill.proofs.RoundLemmas.{along_first, along_more, along_ends, d
 use Rattle.quota_fill.proofs.drawing.draw_from_linked.Goals as goal
 
 pub voters-init : goal.voters-init
-voters-init c = along_first c.args.snapshot.now c.args.target c.args.left.now c.args.draws.now.items c.first-link.result c.args.left.now c.args.backings.now c.threshold-due.result (search rules) c.first-link.ensures
+voters-init c = along_first c.args.snapshot.now c.args.target c.args.left.now c.args.draws.now.items
+    c.first-link.result c.args.left.now c.args.backings.now c.threshold-due.result (search rules) c.first-link.ensures
 
 pub bounds-left-voter : goal.bounds-left-voter
 bounds-left-voter c =
     let snapshot = c.args.snapshot.now in
     let at = leads_on snapshot c.args.target c.voters.link c.leads.result c.if-leads.true c.leads.ensures.yes c.voters.invariant.at in
-    omega (arith, c.from-voter.ensures, nominates_in_range snapshot c.voters.link.voter c.args.target (at_nominates snapshot c.args.target c.voters.link at), c.voters.invariant.drawing.tables.left_size)
+    omega (
+      arith,
+      c.from-voter.ensures,
+      nominates_in_range snapshot c.voters.link.voter c.args.target
+          (at_nominates snapshot c.args.target c.voters.link at),
+      c.voters.invariant.drawing.tables.left_size,
+    )
 
 pub next-link-requires-clause-voter : goal.next-link-requires-clause-voter
 next-link-requires-clause-voter c =
@@ -31,7 +38,13 @@ voters-smaller c =
     let snapshot = c.args.snapshot.now in
     let link = c.voters.link in
     let at = leads_on snapshot c.args.target link c.leads.result c.if-leads.true c.leads.ensures.yes c.voters.invariant.at in
-    omega (arith, (c.next-link.ensures c.args.target at).beyond, nominates_in_range snapshot link.voter c.args.target (at_nominates snapshot c.args.target link at), c.threshold-due.ensures.well_formed.voters.voters_few)
+    omega (
+      arith,
+      (c.next-link.ensures c.args.target at).beyond,
+      nominates_in_range snapshot link.voter c.args.target
+          (at_nominates snapshot c.args.target link at),
+      c.threshold-due.ensures.well_formed.voters.voters_few,
+    )
 
 pub voters-preserved : goal.voters-preserved
 voters-preserved c =
@@ -48,10 +61,12 @@ voters-preserved c =
 pub returns-else-leads : goal.returns-else-leads
 returns-else-leads c =
     let loop = c.voters in
-    let ends = along_ends c.args.snapshot.now c.args.target c.args.left.now c.args.draws.now.items loop.link loop.left loop.backings loop.due loop.draws.items loop.invariant (search rules) (c.leads.ensures.no c.if-leads.false) in
+    let ends = along_ends c.args.snapshot.now c.args.target c.args.left.now c.args.draws.now.items loop.link loop.left
+    loop.backings loop.due loop.draws.items loop.invariant (search rules) (c.leads.ensures.no c.if-leads.false) in
     drawn_from_all c.args.snapshot.now c.args.target c.args.left.now c.args.draws.now.items loop.invariant.count loop.left loop.backings loop.due loop.draws.items loop.invariant.drawing ends
 
 pub returns-after-voters : goal.returns-after-voters
 returns-after-voters c =
     let loop = c.voters in
-    drawn_when_paid c.args.snapshot.now c.args.target c.args.left.now c.args.draws.now.items loop.invariant.count loop.left loop.backings loop.due loop.draws.items loop.invariant.drawing (omega (arith, c.voters-test.false))
+    drawn_when_paid c.args.snapshot.now c.args.target c.args.left.now c.args.draws.now.items loop.invariant.count
+    loop.left loop.backings loop.due loop.draws.items loop.invariant.drawing (omega (arith, c.voters-test.false))

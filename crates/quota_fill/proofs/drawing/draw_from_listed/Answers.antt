@@ -14,7 +14,12 @@ bounds-left-voter c =
     let loop = c.loop-voter in
     let h = subst (λ (ns : List ℕ). loop.voter-index < length ns) c.requires.voters c.loop-voter-test.true in
     subst (λ (ns : List ℕ). get_or ns loop.voter-index 0 < length loop.left) (sym c.requires.voters)
-    (omega (arith, giver_in_range c.args.snapshot.now c.args.target c.args.left.now c.args.draws.now.items loop.voter-index 0 h loop.left loop.backings loop.due loop.draws.items loop.invariant, loop.invariant.tables.left_size))
+    (omega (
+      arith,
+      giver_in_range c.args.snapshot.now c.args.target c.args.left.now c.args.draws.now.items
+          loop.voter-index 0 h loop.left loop.backings loop.due loop.draws.items loop.invariant,
+      loop.invariant.tables.left_size,
+    ))
 
 pub loop-voter-preserved : goal.loop-voter-preserved
 loop-voter-preserved c =

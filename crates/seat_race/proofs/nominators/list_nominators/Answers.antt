@@ -14,7 +14,8 @@ note_voter-requires-clause-free c target l t =
     let rooms = c.loop-voter.rooms in
     let below : target < length snapshot.targets = omega (arith, l, c.loop-voter.invariant.2) in
     let size : says rooms.starts.items (target + 1) ≡ says rooms.starts.items target + length (nominators snapshot target)
-    = ap (λ starts. says starts (target + 1)) c.loop-voter.invariant.1 ∙ c.requires.sizes target below ∙ ap (λ starts. says starts target + length (nominators snapshot target)) (sym c.loop-voter.invariant.1) in
+    = ap (λ starts. says starts (target + 1)) c.loop-voter.invariant.1 ∙ c.requires.sizes target below
+    ∙ ap (λ starts. says starts target + length (nominators snapshot target)) (sym c.loop-voter.invariant.1) in
     room_free snapshot target rooms.items.items rooms.starts.items rooms.nexts.items c.loop-voter.invariant.0 l size c.loop-voter.voter (c.loop-voter.invariant.3 target below)
     (ap (λ votes. has votes target) (sym c.votes.ensures.votes) ∙ t)
 
@@ -42,7 +43,8 @@ returns-clause-full c target l =
     let snapshot = c.args.snapshot.now in
     let rooms = c.loop-voter.rooms in
     let size : says rooms.starts.items (target + 1) ≡ says rooms.starts.items target + length (nominators snapshot target)
-    = ap (λ starts. says starts (target + 1)) c.loop-voter.invariant.1 ∙ c.requires.sizes target l ∙ ap (λ starts. says starts target + length (nominators snapshot target)) (sym c.loop-voter.invariant.1) in
+    = ap (λ starts. says starts (target + 1)) c.loop-voter.invariant.1 ∙ c.requires.sizes target l
+    ∙ ap (λ starts. says starts target + length (nominators snapshot target)) (sym c.loop-voter.invariant.1) in
     let all_seen : c.loop-voter.voter ≡ length snapshot.voters = omega (arith, c.loop-voter-test.false, c.loop-voter.auto.voter-end, c.voter_count-voter-end.ensures.count) in
     room_full snapshot target rooms.items.items rooms.starts.items rooms.nexts.items c.loop-voter.invariant.0 (omega (arith, l, c.loop-voter.invariant.2)) size
     (c.loop-voter.invariant.3 target l ∙ ap (nominators_before snapshot target) all_seen)

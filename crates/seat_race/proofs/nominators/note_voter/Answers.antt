@@ -18,7 +18,8 @@ put-requires-clause-free c =
     let below : vote < length c.args.rooms.now.nexts.items = omega (arith, is, c.requires.in_range i 0 c.loop-vote-test.true) in
     let voted : has votes vote ≡ true = list_any_at (λ other. nat_eq other vote) votes i 0 c.loop-vote-test.true (eq-eqb (get_or votes i 0) vote (sym is)) in
     let next : says c.loop-vote.rooms.nexts.items vote ≡ says c.args.rooms.now.nexts.items vote
-    = rw is (not_yet votes c.requires.distinct i 0 c.loop-vote-test.true (λ n. n + 1) 0 c.args.rooms.now.nexts.items c.loop-vote.rooms.nexts.items c.loop-vote.invariant.2 (c.requires.in_range i 0 c.loop-vote-test.true)) in
+    = rw is (not_yet votes c.requires.distinct i 0 c.loop-vote-test.true (λ n. n + 1) 0 c.args.rooms.now.nexts.items
+    c.loop-vote.rooms.nexts.items c.loop-vote.invariant.2 (c.requires.in_range i 0 c.loop-vote-test.true)) in
     omega (arith, next, ap (λ starts. says starts (vote + 1)) c.loop-vote.invariant.1, c.requires.free vote below voted)
 
 -- one room more has the voter, over plain values

@@ -49,7 +49,9 @@ raise_loads-requires-clause-score c =
     let in_range : c.in-Some.field-0.target < length c.args.snapshot.now.targets = search rules in
     let score : c.in-Some.field-0.score ≡ score_after c.args.snapshot.now (reverse c.args.weights.now.plain.committee) c.in-Some.field-0.target
     = c.in-Some.ensures.score
-    ∙ score_found snapshot picks race c.requires.state.after c.deref.result.now c.deref-2.result.now (c.from-seat.result * 1048576) c.deref.ensures.value c.deref-2.ensures.value whole c.in-Some.field-0.target in_range in
+    ∙ score_found snapshot picks race c.requires.state.after c.deref.result.now c.deref-2.result.now
+    (c.from-seat.result * 1048576) c.deref.ensures.value c.deref-2.ensures.value whole c.in-Some.field-0.target
+    in_range in
     omega (arith, score, score_most snapshot picks c.in-Some.field-0.target)
 
 pub raise_loads-requires-clause-none_falls : goal.raise_loads-requires-clause-none_falls
@@ -61,8 +63,12 @@ raise_loads-requires-clause-none_falls c =
     let in_range : c.in-Some.field-0.target < length c.args.snapshot.now.targets = search rules in
     let score : c.in-Some.field-0.score ≡ score_after c.args.snapshot.now (reverse c.args.weights.now.plain.committee) c.in-Some.field-0.target
     = c.in-Some.ensures.score
-    ∙ score_found snapshot picks race c.requires.state.after c.deref.result.now c.deref-2.result.now (c.from-seat.result * 1048576) c.deref.ensures.value c.deref-2.ensures.value whole c.in-Some.field-0.target in_range in
-    let some : next_pick snapshot picks ≡ Some c.in-Some.field-0.target = sym (next_found snapshot picks race c.requires.state.after c.deref.result.now c.deref-2.result.now c.deref-3.result.now (c.from-seat.result * 1048576)
+    ∙ score_found snapshot picks race c.requires.state.after c.deref.result.now c.deref-2.result.now
+    (c.from-seat.result * 1048576) c.deref.ensures.value c.deref-2.ensures.value whole c.in-Some.field-0.target
+    in_range in
+    let some : next_pick snapshot picks ≡ Some c.in-Some.field-0.target =
+    sym (next_found snapshot picks race c.requires.state.after c.deref.result.now c.deref-2.result.now
+    c.deref-3.result.now (c.from-seat.result * 1048576)
     c.deref.ensures.value c.deref-2.ensures.value c.deref-3.ensures.value whole)
     ∙ sym c.in-Some.ensures.lightest in
     let run = subst (AreRun snapshot) (sym c.requires.picks) (are_run snapshot (length c.args.weights.now.plain.committee)) in
@@ -120,8 +126,12 @@ returns c =
     let in_range : c.in-Some.field-0.target < length c.args.snapshot.now.targets = search rules in
     let score : c.in-Some.field-0.score ≡ score_after c.args.snapshot.now (reverse c.args.weights.now.plain.committee) c.in-Some.field-0.target
     = c.in-Some.ensures.score
-    ∙ score_found snapshot picks race c.requires.state.after c.deref.result.now c.deref-2.result.now (c.from-seat.result * 1048576) c.deref.ensures.value c.deref-2.ensures.value whole c.in-Some.field-0.target in_range in
-    let some : next_pick snapshot picks ≡ Some c.in-Some.field-0.target = sym (next_found snapshot picks race c.requires.state.after c.deref.result.now c.deref-2.result.now c.deref-3.result.now (c.from-seat.result * 1048576)
+    ∙ score_found snapshot picks race c.requires.state.after c.deref.result.now c.deref-2.result.now
+    (c.from-seat.result * 1048576) c.deref.ensures.value c.deref-2.ensures.value whole c.in-Some.field-0.target
+    in_range in
+    let some : next_pick snapshot picks ≡ Some c.in-Some.field-0.target =
+    sym (next_found snapshot picks race c.requires.state.after c.deref.result.now c.deref-2.result.now
+    c.deref-3.result.now (c.from-seat.result * 1048576)
     c.deref.ensures.value c.deref-2.ensures.value c.deref-3.ensures.value whole)
     ∙ sym c.in-Some.ensures.lightest in
     let floors_size : length c.lightest_outside-next.new.floors ≡ length race.floors.items = search rules in
@@ -155,11 +165,15 @@ returns c =
       nominators = race.nominators;
     } in
     subst (λ (o : Option ℕ). IsRunning snapshot (cons_option o picks) next c.push_member.new.self c.raise_loads.new.rises.items) (sym some)
-    (running_more snapshot picks race c.args.weights.now c.args.rises.now.items c.requires.state c.in-Some.field-0.target in_range next c.push_member.new.self c.raise_loads.new.rises.items c.in-Some.field-0.score
+    (running_more snapshot picks race c.args.weights.now c.args.rises.now.items c.requires.state
+    c.in-Some.field-0.target in_range next c.push_member.new.self c.raise_loads.new.rises.items
+    c.in-Some.field-0.score
     c.raise_loads.new.loads c.raise_loads.new.lasts c.raise_loads.new.burdens c.lightest_outside-next.new.floors 18446744073709551615 (pick, run) score
     (with_items_is race.loads c.raise_loads.new.loads loads_len) (with_items_is race.lasts c.raise_loads.new.lasts lasts_len) (with_items_is race.burdens c.raise_loads.new.burdens burdens_len)
     loads loads_size lasts lasts_size c.in_ok-raise_loads.ensures.burdens burdens_size
-    (ap (λ ns. set ns c.from-2.result 18446744073709551615) (with_items_is race.floors c.lightest_outside-next.new.floors floors_len) ∙ ap (λ n. set c.lightest_outside-next.new.floors n 18446744073709551615) dropped)
+    (ap (λ ns. set ns c.from-2.result 18446744073709551615)
+    (with_items_is race.floors c.lightest_outside-next.new.floors floors_len)
+    ∙ ap (λ n. set c.lightest_outside-next.new.floors n 18446744073709551615) dropped)
     floors floors_size refl (ap (λ n. set race.is_picked.items n true) marked) refl
     c.push_member.ensures.members c.push_member.ensures.edges c.push_member.ensures.room
     (noted ∙ ap (λ ns. c.args.rises.now.items ++ map (rise_of (says race.loads.items) c.in-Some.field-0.target c.in-Some.field-0.score) ns) voters))

@@ -28,6 +28,7 @@ returns-clause-meets c =
     let found : member_of members c.args.who ≡ Some c.in-Some.member.now = search rules in
     let done : Bool = c.has_nothing-is_done.result in
     let after = c.dismiss.ensures ∙ ap (λ (es : List (AccountId × Member)). cond done (remove_entry (is_at (account_cmp c.args.who)) es) es) put in
-    subst (λ (es : List (AccountId × Member)). MeetsAlways (redeem_refusal members c.args.who c.args.era) (changed c.args.who (redeemed c.args.era) members) members es (Ok c.in_ok-points.points)) (sym after)
+    subst (λ (es : List (AccountId × Member)). MeetsAlways (redeem_refusal members c.args.who c.args.era)
+    (changed c.args.who (redeemed c.args.era) members) members es (Ok c.in_ok-points.points)) (sym after)
     (settled_found c.args.who c.in-Some.member.now members found (redeemed c.args.era) (redeem_refusal members c.args.who c.args.era) c.redeem.new.self c.in_ok-points.points c.get_mut.ensures.ordered
     (redeem_is c.args.who c.in-Some.member.now members found c.args.era ∙ c.in_ok-points.ensures.meets.ok.0) c.in_ok-points.ensures.meets.ok.1 done c.has_nothing-is_done.ensures)

@@ -13,4 +13,5 @@ returns-in_err-write_runs c =
     rw p.1 (second_front _ _ _ c.args.pen.now c.write_head.new.pen c.write_runs.new.pen c.in_ok-write_head.ensures c.in_err-write_runs.ensures)
 
 pub returns : goal.returns
-returns c = third_written _ _ _ c.args.pen.now c.write_head.new.pen c.write_runs.new.pen c.write_tail.result c.write_tail.new.pen c.in_ok-write_head.ensures c.in_ok-write_runs.ensures c.write_tail.ensures
+returns c = third_written _ _ _ c.args.pen.now c.write_head.new.pen c.write_runs.new.pen c.write_tail.result
+    c.write_tail.new.pen c.in_ok-write_head.ensures c.in_ok-write_runs.ensures c.write_tail.ensures

@@ -13,4 +13,5 @@ returns-in_err-write_both_by c =
     rw p.1 (second_front _ _ _ c.args.pen.now c.write.new.pen c.write_both_by.new.pen c.in_ok-write.ensures c.in_err-write_both_by.ensures)
 
 pub returns : goal.returns
-returns c = third_written _ _ _ c.args.pen.now c.write.new.pen c.write_both_by.new.pen c.write_waits.result c.write_waits.new.pen c.in_ok-write.ensures c.in_ok-write_both_by.ensures c.write_waits.ensures
+returns c = third_written _ _ _ c.args.pen.now c.write.new.pen c.write_both_by.new.pen c.write_waits.result
+    c.write_waits.new.pen c.in_ok-write.ensures c.in_ok-write_both_by.ensures c.write_waits.ensures

@@ -11,7 +11,9 @@ lay-requires-clause-edges c =
 pub lay-requires-clause-along : goal.lay-requires-clause-along
 lay-requires-clause-along c =
     let moved : IsPermutation c.args.weights.now.plain.edges c.in_ok-sorted.sorted.items = rw c.edges.ensures at c.in_ok-sorted.ensures.same in
-    rw (c.deref.ensures.value, c.deref-2.ensures.value) (along_sorted c.args.snapshot.now c.target_count-targets.ensures.well_formed c.args.weights.now.plain c.requires.follows c.in_ok-slots.slots.items c.in_ok-slots.ensures
+    rw (c.deref.ensures.value, c.deref-2.ensures.value)
+    (along_sorted c.args.snapshot.now c.target_count-targets.ensures.well_formed c.args.weights.now.plain
+    c.requires.follows c.in_ok-slots.slots.items c.in_ok-slots.ensures
     c.args.is_member.now c.requires.marks c.requires.count c.in_ok-sorted.sorted.items c.in_ok-sorted.ensures.rising moved)
 
 pub supports_of-requires-clause-few : goal.supports_of-requires-clause-few

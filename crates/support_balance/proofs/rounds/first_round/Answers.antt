@@ -14,7 +14,8 @@ loop-voter-init c = (
 )
 
 pub turn-changed-requires : goal.turn-changed-requires
-turn-changed-requires c = row_sound _ _ _ _ _ _ _ _ c.loop-voter.invariant.0 c.row_end-end.result c.row_end-end.ensures.from c.row_end-end.ensures.within c.row_end-end.ensures.own c.row_end-end.ensures.next
+turn-changed-requires c = row_sound _ _ _ _ _ _ _ _ c.loop-voter.invariant.0 c.row_end-end.result
+    c.row_end-end.ensures.from c.row_end-end.ensures.within c.row_end-end.ensures.own c.row_end-end.ensures.next
 
 pub loop-voter-preserved : goal.loop-voter-preserved
 loop-voter-preserved c =
@@ -25,7 +26,8 @@ loop-voter-preserved c =
     c.turn-changed.ensures.changed (rw (sym stake) c.stake.type_inv) (search rules) in
     let noted = spans_noted _ _ _ _ _ _ _ _ turned c.row_end-end.result c.row_end-end.ensures.from c.row_end-end.ensures.within c.row_end-end.ensures.own c.row_end-end.ensures.next
     c.turn-changed.new.row c.turn-changed.new.supports c.turn-changed.result c.turn-changed.ensures.alike c.turn-changed.ensures.moved (rw (sym stake) c.turn-changed.ensures.even)
-    c.turn-changed.ensures.changed (rw (sym stake) c.stake.type_inv) (search rules) c.loop-voter.voter c.loop-voter.spans.items spans refl c.note.new.spans.items c.note.ensures.noted c.note.ensures.left_out in
+    c.turn-changed.ensures.changed (rw (sym stake) c.stake.type_inv) (search rules) c.loop-voter.voter
+    c.loop-voter.spans.items spans refl c.note.new.spans.items c.note.ensures.noted c.note.ensures.left_out in
     (next, noted, omega (arith, few, c.note.ensures.more), c.note.ensures.room ∙ room)
 
 pub returns-clause-round : goal.returns-clause-round

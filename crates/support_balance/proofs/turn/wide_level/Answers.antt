@@ -8,14 +8,18 @@ pub nonzero_div-height : goal.nonzero_div-height
 nonzero_div-height c =
     let xs = bases c.args.supports.now c.args.row.now in
     let first = first_pool c.args.stake xs _ c.pool_within-pool.result.sum c.pool_within-pool.result.count c.pool_within-pool.result.highest
-    (omega (arith, c.requires.some, length-map c.args.row.now (base_of c.args.supports.now))) (bases_small c.args.supports.now c.args.row.now c.requires.row) c.pool_within-pool.ensures.sum c.pool_within-pool.ensures.count c.pool_within-pool.ensures.highest in
+    (omega (arith, c.requires.some, length-map c.args.row.now (base_of c.args.supports.now)))
+    (bases_small c.args.supports.now c.args.row.now c.requires.row) c.pool_within-pool.ensures.sum
+    c.pool_within-pool.ensures.count c.pool_within-pool.ensures.highest in
     omega (arith, first.some)
 
 pub loop-height-init : goal.loop-height-init
 loop-height-init c =
     let xs = bases c.args.supports.now c.args.row.now in
     let first = first_pool c.args.stake xs _ c.pool_within-pool.result.sum c.pool_within-pool.result.count c.pool_within-pool.result.highest
-    (omega (arith, c.requires.some, length-map c.args.row.now (base_of c.args.supports.now))) (bases_small c.args.supports.now c.args.row.now c.requires.row) c.pool_within-pool.ensures.sum c.pool_within-pool.ensures.count c.pool_within-pool.ensures.highest in
+    (omega (arith, c.requires.some, length-map c.args.row.now (base_of c.args.supports.now)))
+    (bases_small c.args.supports.now c.args.row.now c.requires.row) c.pool_within-pool.ensures.sum
+    c.pool_within-pool.ensures.count c.pool_within-pool.ensures.highest in
     (340282366920938463463374607431768211455, rw c.from.ensures first, c.pool_within-pool.ensures.small, omega (arith, c.pool_within-pool.ensures.few, c.requires.row.few))
 
 pub nonzero_div-height-in-loop-height : goal.nonzero_div-height-in-loop-height

@@ -90,5 +90,17 @@ returns-clause-text g c =
     let whole : drop start (put_mid start (account - start) put words) ≡ c.args.words.now ++ rest =
     behind_put start (account - start) put words (omega (arith, within, same))
     ∙ ap₂ (λ l m. l ++ m) c.copy_from_slice.ensures.after (ap (λ n. drop n put) edge ∙ told) in
-    let long : length (c.args.words.now ++ rest) ≤ 94 - start = omega (arith, few, first, c.requires.few, c.told-words, length-append c.args.words.now rest, length-append (account_text c.args.who) (amount_text c.args.amount), length-append (decimal c.args.amount) (10 ∷ []), length-encode_with lower_digits (account_bytes c.args.who)) in
+    let long : length (c.args.words.now ++ rest) ≤ 94 - start = omega (
+      arith,
+      few,
+      first,
+      c.requires.few,
+      c.told-words,
+      length-append c.args.words.now rest,
+      length-append (account_text c.args.who)
+          (amount_text c.args.amount),
+      length-append (decimal c.args.amount) (10 ∷ []),
+      length-encode_with lower_digits
+          (account_bytes c.args.who),
+    ) in
     rw (c.in_ok-extend_from_slice.ensures.items, whole, take_all (94 - start) (c.args.words.now ++ rest) long) refl

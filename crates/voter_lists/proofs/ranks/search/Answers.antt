@@ -29,7 +29,8 @@ loop-low-init c =
 
 pub loop-low-preserved-in-Less : goal.loop-low-preserved-in-Less
 loop-low-preserved-in-Less c =
-    let there = in_middle c.args.standings.now.accounts c.args.validators.now c.requires.within c.loop-low.low c.loop-low.high c.loop-low-test.true c.loop-low.invariant.within c.account.result c.account.ensures in
+    let there = in_middle c.args.standings.now.accounts c.args.validators.now c.requires.within c.loop-low.low
+    c.loop-low.high c.loop-low-test.true c.loop-low.invariant.within c.account.result c.account.ensures in
     record {
       ordered = omega (arith, c.loop-low-test.true);
       within = c.loop-low.invariant.within;
@@ -44,7 +45,8 @@ returns-in-Equal-clause-found c =
 
 pub loop-low-preserved : goal.loop-low-preserved
 loop-low-preserved c =
-    let there = in_middle c.args.standings.now.accounts c.args.validators.now c.requires.within c.loop-low.low c.loop-low.high c.loop-low-test.true c.loop-low.invariant.within c.account.result c.account.ensures in
+    let there = in_middle c.args.standings.now.accounts c.args.validators.now c.requires.within c.loop-low.low
+    c.loop-low.high c.loop-low-test.true c.loop-low.invariant.within c.account.result c.account.ensures in
     record {
       ordered = omega arith;
       within = omega (arith, c.loop-low-test.true, c.loop-low.invariant.within);

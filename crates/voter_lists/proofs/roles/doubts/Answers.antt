@@ -27,7 +27,13 @@ loop-i-preserved c =
     let absent : (slice_index_or c.loop-i.is_met (mark % 256) false ≡ false) → list_any (λ other. nat_eq other mark) (drop i marks) ≡ false =
     λ unmet. unmet_absent marks i mark c.loop-i.is_met c.loop-i.invariant.1 unmet in
     let once : list_any (λ other. nat_eq other (slice_index_or marks (i - 1) 0)) (drop (i - 1 + 1) marks) ≡ false =
-    elim c.else-is_met-class.branch [ else-is_met-class-via-then-is_met-class+else-stands_again w ↦ sym w.stands_again.ensures ∙ w.if-stands_again.false | else-is_met-class-via-else-is_met-class w ↦ subst (λ n. list_any (λ other. nat_eq other mark) (drop n marks) ≡ false) next (absent w.if-is_met-class.false) ] in (
+    elim c.else-is_met-class.branch [
+      | else-is_met-class-via-then-is_met-class+else-stands_again w ↦ sym
+          w.stands_again.ensures ∙ w.if-stands_again.false
+      | else-is_met-class-via-else-is_met-class w ↦ subst
+          (λ n. list_any (λ other. nat_eq other mark) (drop n marks) ≡ false) next (absent w.if-is_met-class.false)
+    ]
+    in (
       repeats_not marks i (i - 1) next inside once c.loop-i.invariant.0,
       met_more marks i (i - 1) c.loop-i.is_met next c.loop-i.invariant.2 c.loop-i.invariant.1,
       search rules,

@@ -12,4 +12,6 @@ returns-in-Some-Some-clause-ok c accounts apart here finds =
 
 pub returns-clause-ok : goal.returns-clause-ok
 returns-clause-ok c accounts apart here finds =
-    rw c.in_ok-insert.ensures.entries (finds_crowd _ _ _ accounts c.args.who c.args.place here finds _ (subst (λ first. AreFilled c.args.self.now.slots.items c.fill_slots.new.slots.items first (first + 4)) c.slot_of.ensures.first c.fill_slots.ensures) apart)
+    rw c.in_ok-insert.ensures.entries (finds_crowd _ _ _ accounts c.args.who c.args.place here finds _
+    (subst (λ first. AreFilled c.args.self.now.slots.items c.fill_slots.new.slots.items first (first + 4))
+    c.slot_of.ensures.first c.fill_slots.ensures) apart)

@@ -30,7 +30,9 @@ invariant_of-self-2 c =
 pub returns-clause-places : goal.returns-clause-places
 returns-clause-places c =
     let items : c.push.new.self.items ≡ c.self.inside.accounts.items ++ c.args.who ∷ [] = search rules in
-    rw (← c.self.view_is, items) (by_account_more c.self.inside.accounts.items c.args.who ∙ ap (insert_entry account_cmp (by_account c.self.inside.accounts.items) c.args.who) (sym c.self.invariant.stand.count))
+    rw (← c.self.view_is, items) (by_account_more c.self.inside.accounts.items c.args.who
+    ∙ ap (insert_entry account_cmp (by_account c.self.inside.accounts.items) c.args.who)
+    (sym c.self.invariant.stand.count))
 
 pub returns-clause-place : goal.returns-clause-place
 returns-clause-place c =

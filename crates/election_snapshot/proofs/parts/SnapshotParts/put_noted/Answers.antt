@@ -17,10 +17,12 @@ push_within-requires-clause-voters c =
 pub invariant_of-self-2 : goal.invariant_of-self-2
 invariant_of-self-2 c =
     let free : voter_fault (drafted c.self.inside.targets.keys c.self.inside.voters) c.args.who c.args.stake c.args.votes.now ≡ None = rw (← c.self.view_is) at c.requires.fault in
-    more_kept c.self.inside.targets.keys c.self.inside.voters c.reserve.new.self c.reserve.ensures.same c.self.invariant c.args.who c.args.stake c.args.votes.now free c.push_within.new.self c.push_within.ensures
+    more_kept c.self.inside.targets.keys c.self.inside.voters c.reserve.new.self c.reserve.ensures.same
+    c.self.invariant c.args.who c.args.stake c.args.votes.now free c.push_within.new.self c.push_within.ensures
 
 pub returns-clause-voter : goal.returns-clause-voter
 returns-clause-voter c =
     let free : voter_fault (drafted c.self.inside.targets.keys c.self.inside.voters) c.args.who c.args.stake c.args.votes.now ≡ None = rw (← c.self.view_is) at c.requires.fault in
     rw (← c.self.view_is)
-    (more_drafted c.self.inside.targets.keys c.self.inside.voters c.reserve.new.self c.reserve.ensures.same c.self.invariant c.args.who c.args.stake c.args.votes.now free c.push_within.new.self c.push_within.ensures)
+    (more_drafted c.self.inside.targets.keys c.self.inside.voters c.reserve.new.self c.reserve.ensures.same
+    c.self.invariant c.args.who c.args.stake c.args.votes.now free c.push_within.new.self c.push_within.ensures)

@@ -6,4 +6,6 @@ use Rattle.election_snapshot.proofs.parts.SnapshotParts.seats_fault.Goals as goa
 pub returns : goal.returns
 returns c =
     let all : c.len.result ≡ length c.self.inside.targets.keys = search rules in
-    rw (← c.self.view_is) (c.seats_fault.ensures ∙ kept_seats_fault c.self.inside.targets.keys c.self.inside.voters.accounts.items c.self.inside.voters.stakes.items c.self.inside.voters.ballots.items c.self.inside.voters.total c.len.result c.args.seats c.self.invariant all)
+    rw (← c.self.view_is) (c.seats_fault.ensures ∙ kept_seats_fault c.self.inside.targets.keys
+    c.self.inside.voters.accounts.items c.self.inside.voters.stakes.items c.self.inside.voters.ballots.items
+    c.self.inside.voters.total c.len.result c.args.seats c.self.invariant all)

@@ -12,4 +12,5 @@ returns-clause-above c =
 
 pub returns-clause-within : goal.returns-clause-within
 returns-clause-within c = rw (← c.self.view_is)
-    (subst (λ n. n ≤ total_of c.self.inside.parts.voters) (sym (ap (λ xs. get_or xs c.args.i 0) c.stakes.ensures ∙ stake_read c.self.inside.parts.voters c.args.i)) (stake_within c.self.inside.parts.voters c.args.i))
+    (subst (λ n. n ≤ total_of c.self.inside.parts.voters) (sym (ap (λ xs. get_or xs c.args.i 0) c.stakes.ensures
+    ∙ stake_read c.self.inside.parts.voters c.args.i)) (stake_within c.self.inside.parts.voters c.args.i))

@@ -33,7 +33,14 @@ returns-clause-meets c =
     record {
       ok = (
         one_cancelled c.args.number c.args.self.now c.in-Some.place here,
-        ap (λ (slashes : List DeferredSlash). record { current = c.self.inside.current; kept = c.self.inside.latest ∷ c.self.inside.earlier.items; queue = slashes; next_slash = c.self.inside.next_slash })
+        ap (λ (slashes : List DeferredSlash). record {
+          current = c.self.inside.current;
+          kept =
+              c.self.inside.latest ∷ c.self.inside.earlier.items;
+          queue = slashes;
+          next_slash =
+              c.self.inside.next_slash;
+        })
             (c.remove.ensures.items ∙ left_out c.args.number c.self.inside.queue.items c.in-Some.place c.self.invariant.1.numbers found)
             ∙ ap (λ (eras : Eras). cancelling c.args.number eras) c.self.view_is,
       );

@@ -17,7 +17,14 @@ invariant_of-self c = (
 
 pub invariant_of-self-else-age-eq0 : goal.invariant_of-self-else-age-eq0
 invariant_of-self-else-age-eq0 c =
-    let known : is_unknown (record { current = c.self.inside.current; kept = c.self.inside.latest ∷ c.self.inside.earlier.items; queue = c.self.inside.queue.items; next_slash = c.self.inside.next_slash }) c.args.era ≡ false =
+    let known : is_unknown (record {
+      current = c.self.inside.current;
+      kept =
+          c.self.inside.latest ∷ c.self.inside.earlier.items;
+      queue = c.self.inside.queue.items;
+      next_slash =
+          c.self.inside.next_slash;
+    }) c.args.era ≡ false =
     subst (λ (eras : Eras). is_unknown eras c.args.era ≡ false) (sym c.self.view_is) (known_exposed c.args.self.now c.args.era c.args.validator _ c.requires) in
     rw c.claim-else-age-eq0.ensures (
       earlier_sound c.self.inside.current c.args.era c.args.validator claiming c.self.inside.latest c.index_mut.result.now _ c.self.inside.earlier.items (λ member. refl)
@@ -27,7 +34,14 @@ invariant_of-self-else-age-eq0 c =
 
 pub returns-else-age-eq0-clause-marked : goal.returns-else-age-eq0-clause-marked
 returns-else-age-eq0-clause-marked c =
-    let known : is_unknown (record { current = c.self.inside.current; kept = c.self.inside.latest ∷ c.self.inside.earlier.items; queue = c.self.inside.queue.items; next_slash = c.self.inside.next_slash }) c.args.era ≡ false =
+    let known : is_unknown (record {
+      current = c.self.inside.current;
+      kept =
+          c.self.inside.latest ∷ c.self.inside.earlier.items;
+      queue = c.self.inside.queue.items;
+      next_slash =
+          c.self.inside.next_slash;
+    }) c.args.era ≡ false =
     subst (λ (eras : Eras). is_unknown eras c.args.era ≡ false) (sym c.self.view_is) (known_exposed c.args.self.now c.args.era c.args.validator _ c.requires) in
     rw (c.claim-else-age-eq0.ensures)
     (earlier_changed c.self.inside.current c.args.era c.args.validator claiming c.self.inside.latest c.index_mut.result.now _ c.self.inside.earlier.items
@@ -41,6 +55,12 @@ returns-else-age-eq0-clause-others c =
 
 pub returns-then-age-eq0-clause-others : goal.returns-then-age-eq0-clause-others
 returns-then-age-eq0-clause-others c =
-    let marked : record { current = c.self.inside.current; kept = c.claim.new.self ∷ c.self.inside.earlier.items; queue = c.self.inside.queue.items; next_slash = c.self.inside.next_slash } ≡ with_member_in c.args.era c.args.validator claiming c.args.self.now = search rules in
+    let marked : record {
+      current = c.self.inside.current;
+      kept = c.claim.new.self ∷ c.self.inside.earlier.items;
+      queue = c.self.inside.queue.items;
+      next_slash = c.self.inside.next_slash;
+    }
+    ≡ with_member_in c.args.era c.args.validator claiming c.args.self.now = search rules in
     subst (λ (eras : Eras). OthersStay c.args.era c.args.validator c.args.self.now eras) (sym marked)
     (others_stay c.args.self.now c.args.era c.args.validator claiming (subst AreKept c.self.view_is c.self.invariant.0) (known_exposed c.args.self.now c.args.era c.args.validator _ c.requires))

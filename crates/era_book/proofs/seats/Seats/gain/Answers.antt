@@ -14,7 +14,8 @@ pub returns-in-Ok-clause-members : goal.returns-in-Ok-clause-members
 returns-in-Ok-clause-members c accounts =
     let here = there c.args.who c.as_slice.result.now c.self.inside.items.items c.in-Ok.place c.as_slice.ensures.value c.in-Ok.ensures.bound c.in-Ok.ensures.found in
     let same : c.gain.new.self.validator ≡ c.index_mut.result.now.validator = ap (λ (member : Member). member.exposure.validator) (c.gain.ensures.member []) in
-    change_seen c.args.who c.self.inside.items.items c.in-Ok.place c.index_mut.result.now c.gain.new.self c.self.invariant here c.index_mut.ensures.value same accounts (gaining c.args.points) c.args.self.now
+    change_seen c.args.who c.self.inside.items.items c.in-Ok.place c.index_mut.result.now c.gain.new.self
+    c.self.invariant here c.index_mut.ensures.value same accounts (gaining c.args.points) c.args.self.now
     c.self.view_is (c.gain.ensures.member accounts)
 
 pub returns-in-Ok-clause-added : goal.returns-in-Ok-clause-added
@@ -26,4 +27,5 @@ returns-in-Ok-clause-added c accounts =
 
 pub returns-in-Err-clause-members : goal.returns-in-Err-clause-members
 returns-in-Err-clause-members c accounts =
-    none_seen c.args.who c.as_slice.result.now c.self.inside.items.items c.in-Err.field-0 c.args.self.now accounts (gaining c.args.points) c.as_slice.ensures.value c.self.view_is c.in-Err.ensures.missing
+    none_seen c.args.who c.as_slice.result.now c.self.inside.items.items c.in-Err.field-0 c.args.self.now accounts
+    (gaining c.args.points) c.as_slice.ensures.value c.self.view_is c.in-Err.ensures.missing

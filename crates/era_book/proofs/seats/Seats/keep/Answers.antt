@@ -20,4 +20,5 @@ returns-in-Ok c accounts =
 
 pub returns-in_default : goal.returns-in_default
 returns-in_default c accounts =
-    none_seen c.args.who c.as_slice.result.now c.self.inside.items.items c.in_default.field-0 c.args.self.now accounts (keeping c.args.fraction) c.as_slice.ensures.value c.self.view_is c.in_default.ensures.missing
+    none_seen c.args.who c.as_slice.result.now c.self.inside.items.items c.in_default.field-0 c.args.self.now accounts
+    (keeping c.args.fraction) c.as_slice.ensures.value c.self.view_is c.in_default.ensures.missing

@@ -10,4 +10,6 @@ returns-clause-count c =
 pub returns-clause-nominators : goal.returns-clause-nominators
 returns-clause-nominators c =
     let rooms = c.list_nominators.new.rooms in
-    are_parted c.args.snapshot.now rooms.items.items rooms.starts.items rooms.nexts.items c.list_nominators.ensures.rooms c.list_nominators.ensures.count c.list_nominators.ensures.full c.list_nominators.ensures.lists
+    are_parted c.args.snapshot.now rooms.items.items rooms.starts.items rooms.nexts.items
+    c.list_nominators.ensures.rooms c.list_nominators.ensures.count c.list_nominators.ensures.full
+    c.list_nominators.ensures.lists

@@ -17,12 +17,17 @@ returns-in-Some-clause-accepted c =
 
 pub returns-in-Some-clause-ok : goal.returns-in-Some-clause-ok
 returns-in-Some-clause-ok c =
-    then_ok c.done.result (λ ok. row_becomes _ _ _ _ _ _ _ (row_after c.args.call) c.self.invariant c.self.view_is (sym c.find.ensures.place ∙ c.in-Some.is) c.index_mut.ensures.value ok.1) c.done.ensures.ok
+    then_ok c.done.result (λ ok. row_becomes _ _ _ _ _ _ _ (row_after c.args.call) c.self.invariant c.self.view_is
+    (sym c.find.ensures.place ∙ c.in-Some.is) c.index_mut.ensures.value ok.1) c.done.ensures.ok
 
 pub returns-in-Some-clause-done : goal.returns-in-Some-clause-done
 returns-in-Some-clause-done c =
-    subst (λ row. IfOk c.done.result (λ done. done ≡ done_of c.args.call row)) (row_found _ _ _ _ _ _ c.self.invariant c.self.view_is (sym c.find.ensures.place ∙ c.in-Some.is) c.index_mut.ensures.value) c.done.ensures.done
+    subst (λ row. IfOk c.done.result (λ done. done ≡ done_of c.args.call row))
+    (row_found _ _ _ _ _ _ c.self.invariant c.self.view_is (sym c.find.ensures.place
+    ∙ c.in-Some.is) c.index_mut.ensures.value) c.done.ensures.done
 
 pub returns-in-Some-clause-refused : goal.returns-in-Some-clause-refused
 returns-in-Some-clause-refused c =
-    subst (λ row. IfErr c.done.result (MayAnswer c.args.call (row_refusal c.args.call row))) (row_found _ _ _ _ _ _ c.self.invariant c.self.view_is (sym c.find.ensures.place ∙ c.in-Some.is) c.index_mut.ensures.value) c.done.ensures.refused
+    subst (λ row. IfErr c.done.result (MayAnswer c.args.call (row_refusal c.args.call row)))
+    (row_found _ _ _ _ _ _ c.self.invariant c.self.view_is (sym c.find.ensures.place
+    ∙ c.in-Some.is) c.index_mut.ensures.value) c.done.ensures.refused

@@ -9,5 +9,7 @@ use Rattle.stake_pools.proofs.members.Members.credits.Goals as goal
 pub returns : goal.returns
 returns c =
     sum_by_from_yields_List (λ (m : Member). m.credit) (values_of c.self.inside.entries.entries) c.map.result c.sum.result c.sum.ensures.ran
-    (YieldsList-from_map _ (λ (m : Member). m.credit) (YieldsList-at c.map.ensures.source (YieldsList-from_rest (values_of c.self.inside.entries.entries) c.values.ensures.rest)) c.map.ensures.closure (λ x r q k. search (rules, tests)))
+    (YieldsList-from_map _ (λ (m : Member). m.credit) (YieldsList-at c.map.ensures.source
+    (YieldsList-from_rest (values_of c.self.inside.entries.entries) c.values.ensures.rest)) c.map.ensures.closure
+    (λ x r q k. search (rules, tests)))
     ∙ ap all_credits c.self.view_is

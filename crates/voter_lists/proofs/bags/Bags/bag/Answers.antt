@@ -5,7 +5,9 @@ use Rattle.voter_lists.proofs.ListingLemmas.{noted_somewhere, listed_number}
 use Rattle.voter_lists.proofs.bags.Bags.bag.Goals as goal
 
 pub unreachable-requires : goal.unreachable-requires
-unreachable-requires c = noted_somewhere c.self.inside.thresholds (bags_in c.self.inside.nodes) (home_of c.self.inside.nodes) c.self.invariant.homes c.args.who (ap (λ listing. is_listed listing.order c.args.who) c.self.view_is ∙ c.requires) c.in_default.ensures.absent
+unreachable-requires c = noted_somewhere c.self.inside.thresholds (bags_in c.self.inside.nodes)
+    (home_of c.self.inside.nodes) c.self.invariant.homes c.args.who
+    (ap (λ listing. is_listed listing.order c.args.who) c.self.view_is ∙ c.requires) c.in_default.ensures.absent
 
 pub returns : goal.returns
 returns c =

@@ -23,4 +23,6 @@ invariant_of-result c =
 pub returns : goal.returns
 returns c =
     let nodes = c.in_ok-nodes.nodes in
-    ap (λ order. record { thresholds = c.args.thresholds; order = order }) (ap (walk_from 0) (bags_empty nodes.rings (account_at nodes.places) nodes.bags c.in_ok-nodes.ensures.bags) ∙ empty_walk 0 nodes.bags)
+    ap (λ order. record { thresholds = c.args.thresholds; order = order })
+    (ap (walk_from 0) (bags_empty nodes.rings (account_at nodes.places) nodes.bags c.in_ok-nodes.ensures.bags)
+    ∙ empty_walk 0 nodes.bags)

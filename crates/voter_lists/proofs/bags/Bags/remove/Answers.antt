@@ -16,4 +16,6 @@ invariant_of-self c = linked_left c.self.inside.thresholds c.self.inside.nodes c
 pub returns : goal.returns
 returns c =
     rw (← c.self.view_is) (ap (λ order. record { thresholds = c.self.inside.thresholds; order = order })
-    (left_walk c.self.inside.thresholds (bags_in c.self.inside.nodes) (home_of c.self.inside.nodes) c.self.invariant.homes (bags_in c.leave.new.self) c.args.who c.leave.ensures.0 c.leave.ensures.1 c.leave.ensures.2.lists))
+    (left_walk c.self.inside.thresholds (bags_in c.self.inside.nodes) (home_of c.self.inside.nodes)
+    c.self.invariant.homes (bags_in c.leave.new.self) c.args.who c.leave.ensures.0 c.leave.ensures.1
+    c.leave.ensures.2.lists))

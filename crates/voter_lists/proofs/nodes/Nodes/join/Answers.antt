@@ -12,7 +12,9 @@ returns-clause-ok c =
     let stays = c.place_for.ensures.stays in
     let moves = c.push_back.ensures.moves in
     let within : number < mid.bags = omega (arith, c.requires.within, stays.count) in
-    let moved = node_joined mid.rings mid.places (place_in (by_account mid.places)) mid.bags stays.standing c.push_back.new.self c.in_ok-place.place c.push_back.ensures.fit moves.count moves.limit moves.others who c.in_ok-place.ensures.place
+    let moved = node_joined mid.rings mid.places (place_in (by_account mid.places)) mid.bags stays.standing
+    c.push_back.new.self c.in_ok-place.place c.push_back.ensures.fit moves.count moves.limit moves.others who
+    c.in_ok-place.ensures.place
     number within moves.moved c.push_back.ensures.last c.push_back.ensures.others in
     record {
       lists = moved.lists ∙ ap (λ bags. slice_set bags number (get_or bags number [] ++ who ∷ [])) stays.lists;

@@ -14,6 +14,7 @@ returns c =
     let place = c.in-Some.place in
     let listed : list_of old.rings place ≡ Some number = sym (ap (list_at old.rings) found.0) ∙ found.1 in
     let moves = c.unlink.ensures.moves in
-    let moved = node_left old.rings old.places (place_in (by_account old.places)) old.bags c.requires.standing c.unlink.new.self place c.unlink.ensures.fit moves.count moves.limit moves.others c.args.who found.0
+    let moved = node_left old.rings old.places (place_in (by_account old.places)) old.bags c.requires.standing
+    c.unlink.new.self place c.unlink.ensures.fit moves.count moves.limit moves.others c.args.who found.0
     number listed moves.moved c.unlink.ensures.left c.unlink.ensures.others in
     (number, found.1, record { lists = moved.lists; count = refl; homes = moved.homes; standing = moved.standing })

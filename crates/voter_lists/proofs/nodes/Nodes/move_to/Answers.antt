@@ -9,6 +9,14 @@ pub returns : goal.returns
 returns c who there =
     let old = c.args.self.now in
     let relinks = c.relink.ensures.relinks in
-    let moved = node_moved old.rings old.places (place_in (by_account old.places)) old.bags c.requires.standing c.relink.new.self.rings c.args.place relinks.fit relinks.count relinks.limit relinks.others who there
+    let moved = node_moved old.rings old.places (place_in (by_account old.places)) old.bags c.requires.standing
+    c.relink.new.self.rings c.args.place relinks.fit relinks.count relinks.limit relinks.others who there
     c.args.home c.args.number c.requires.listed c.requires.number c.requires.apart relinks in
-    subst (λ n. Becomes old n (moved_bags (bags_in old) who c.args.home c.args.number) who (Some c.args.number)) (sym c.relink.ensures.nodes) record { lists = moved.lists; count = refl; homes = moved.homes; standing = moved.standing }
+    subst (λ n. Becomes old n (moved_bags (bags_in old) who c.args.home c.args.number) who (Some c.args.number))
+    (sym c.relink.ensures.nodes) record {
+      lists = moved.lists;
+      count = refl;
+      homes = moved.homes;
+      standing =
+          moved.standing;
+    }

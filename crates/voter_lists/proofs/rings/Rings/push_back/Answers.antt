@@ -20,14 +20,18 @@ splice-requires-clause-not_next c same =
 
 pub splice-requires-clause-not_prev : goal.splice-requires-clause-not_prev
 splice-requires-clause-not_prev c =
-    free_not_last _ _ _ c.self.invariant c.args.list c.args.key (head_within _ _ _ c.self.invariant c.args.list (rw (← c.self.view_is) at c.requires.list_in)).0 (rw (← c.self.view_is) at c.requires.unlinked)
+    free_not_last _ _ _ c.self.invariant c.args.list c.args.key (head_within _ _ _ c.self.invariant c.args.list
+    (rw (← c.self.view_is) at c.requires.list_in)).0 (rw (← c.self.view_is) at c.requires.unlinked)
 
 pub overflow_cast-list : goal.overflow_cast-list
 overflow_cast-list c =
     omega (arith, c.self.invariant.few, (head_within _ _ _ c.self.invariant c.args.list (rw (← c.self.view_is) at c.requires.list_in)).0)
 
 -- what the splice and the write of the owner make of the fields
-changes : (c : After-index_mut) → Changes c.self.inside.links.items c.splice.new.links.items c.self.inside.owners.items (set c.self.inside.owners.items c.args.key (Some c.args.list)) c.self.inside.heads c.args.list (items (lists_of c.self.inside.links.items c.self.inside.owners.items c.self.inside.heads) c.args.list ++ c.args.key ∷ [])
+changes : (c : After-index_mut) → Changes c.self.inside.links.items c.splice.new.links.items
+    c.self.inside.owners.items (set c.self.inside.owners.items c.args.key (Some c.args.list)) c.self.inside.heads
+    c.args.list (items (lists_of c.self.inside.links.items c.self.inside.owners.items c.self.inside.heads) c.args.list
+    ++ c.args.key ∷ [])
 changes c =
     Changes-splice _ _ _ _ c.args.list c.args.key c.self.invariant (omega arith) (head_within _ _ _ c.self.invariant c.args.list (rw (← c.self.view_is) at c.requires.list_in)).0
     (rw (← c.self.view_is) at c.requires.key_in) (rw (← c.self.view_is) at c.requires.unlinked) c.splice.ensures.splices

@@ -10,14 +10,18 @@ splice-requires-clause-prev_in c = omega (arith, before_within _ _ _ c.self.inva
 
 pub splice-requires-clause-not_prev : goal.splice-requires-clause-not_prev
 splice-requires-clause-not_prev c =
-    free_not_before _ c.self.inside.links.items _ _ c.args.list c.args.key c.self.invariant (omega arith) c.args.other (rw (← c.self.view_is) at c.requires.linked) (rw (← c.self.view_is) at c.requires.unlinked)
+    free_not_before _ c.self.inside.links.items _ _ c.args.list c.args.key c.self.invariant (omega arith) c.args.other
+    (rw (← c.self.view_is) at c.requires.linked) (rw (← c.self.view_is) at c.requires.unlinked)
 
 pub overflow_cast-list : goal.overflow_cast-list
 overflow_cast-list c =
     omega (arith, c.self.invariant.few, c.self.invariant.known c.args.other c.args.list (rw (← c.self.view_is) at c.requires.linked))
 
 -- what the splice and the write of the owner make of the fields
-changes : (c : After-index_mut) → Changes c.self.inside.links.items c.splice.new.links.items c.self.inside.owners.items (set c.self.inside.owners.items c.args.key (Some c.args.list)) c.self.inside.heads c.args.list (before c.args.key c.args.other (items (lists_of c.self.inside.links.items c.self.inside.owners.items c.self.inside.heads) c.args.list))
+changes : (c : After-index_mut) → Changes c.self.inside.links.items c.splice.new.links.items
+    c.self.inside.owners.items (set c.self.inside.owners.items c.args.key (Some c.args.list)) c.self.inside.heads
+    c.args.list (before c.args.key c.args.other (items (lists_of c.self.inside.links.items c.self.inside.owners.items
+    c.self.inside.heads) c.args.list))
 changes c =
     Changes-before _ _ _ _ c.args.list c.args.key c.self.invariant (omega arith) c.args.other (rw (← c.self.view_is) at c.requires.linked)
     (rw (← c.self.view_is) at c.requires.key_in) (rw (← c.self.view_is) at c.requires.unlinked) c.splice.ensures.splices

@@ -12,7 +12,10 @@ pub skip-requires-clause-next_in : goal.skip-requires-clause-next_in
 skip-requires-clause-next_in c = omega (arith, after_within _ _ _ c.self.invariant c.args.list c.args.key (rw (← c.self.view_is) at c.requires))
 
 -- what the skip and the write of the owner make of the fields
-changes : (c : After-index_mut) → Changes c.self.inside.links.items c.skip.new.links.items c.self.inside.owners.items (set c.self.inside.owners.items c.args.key None) c.self.inside.heads c.args.list (without c.args.key (items (lists_of c.self.inside.links.items c.self.inside.owners.items c.self.inside.heads) c.args.list))
+changes : (c : After-index_mut) → Changes c.self.inside.links.items c.skip.new.links.items c.self.inside.owners.items
+    (set c.self.inside.owners.items c.args.key None) c.self.inside.heads c.args.list
+    (without c.args.key (items (lists_of c.self.inside.links.items c.self.inside.owners.items c.self.inside.heads)
+    c.args.list))
 changes c =
     Changes-skip _ _ _ _ c.args.list c.args.key c.self.invariant (omega arith) (rw (← c.self.view_is) at c.requires) c.skip.ensures.skips
 

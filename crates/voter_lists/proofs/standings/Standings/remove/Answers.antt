@@ -24,17 +24,23 @@ invariant_of-self c =
 pub returns-clause-before : goal.returns-clause-before
 returns-clause-before c =
     rw (← c.self.view_is)
-    (c.role-before.ensures ∙ sym (role_of_noted c.self.inside.places c.index.result.now) ∙ ap role_in (row_standing c.self.inside.rows.items c.self.inside.places c.args.who c.in-Some.place c.self.invariant (sym c.find.ensures.place ∙ c.in-Some.is) c.index.result.now c.index.ensures))
+    (c.role-before.ensures ∙ sym (role_of_noted c.self.inside.places c.index.result.now)
+    ∙ ap role_in (row_standing c.self.inside.rows.items c.self.inside.places c.args.who c.in-Some.place
+    c.self.invariant (sym c.find.ensures.place ∙ c.in-Some.is) c.index.result.now c.index.ensures))
 
 pub returns-clause-gone : goal.returns-clause-gone
 returns-clause-gone c =
     rw (← c.self.view_is, c.nobody.ensures) (row_unset c.self.inside.rows.items c.self.inside.places c.args.who c.in-Some.place c.self.invariant (sym c.find.ensures.place ∙ c.in-Some.is))
 
 pub returns-in_default-clause-before : goal.returns-in_default-clause-before
-returns-in_default-clause-before c = rw (← c.self.view_is) (ap role_in (sym (standing_nowhere (standings_in c.self.inside.places c.self.inside.rows.items) c.self.inside.places c.args.who (sym c.find.ensures.place ∙ c.in_default.is))))
+returns-in_default-clause-before c = rw (← c.self.view_is)
+    (ap role_in (sym (standing_nowhere (standings_in c.self.inside.places c.self.inside.rows.items)
+    c.self.inside.places c.args.who (sym c.find.ensures.place ∙ c.in_default.is))))
 
 pub returns-in_default-clause-gone : goal.returns-in_default-clause-gone
-returns-in_default-clause-gone c = rw (← c.self.view_is) (placed_absent (standings_in c.self.inside.places c.self.inside.rows.items) c.self.inside.places c.args.who (sym c.find.ensures.place ∙ c.in_default.is))
+returns-in_default-clause-gone c = rw (← c.self.view_is)
+    (placed_absent (standings_in c.self.inside.places c.self.inside.rows.items) c.self.inside.places c.args.who
+    (sym c.find.ensures.place ∙ c.in_default.is))
 
 pub returns-clause-kept : goal.returns-clause-kept
 returns-clause-kept c none =
