@@ -9,6 +9,10 @@
  *
  *     cc program.c crates/npos_c/out/libnpos_c.a KIT/c/liblibc_c.a
  *
+ * An installed release has both in one library, which pkg-config knows as npos:
+ *
+ *     cc program.c $(pkg-config --cflags --libs npos)
+ *
  * Units. Stakes, supports and scores are in units of stake; sizes are counts of elements, so of
  * bytes for a buffer of uint8_t; places are in bytes from the front of the bundle; voters and
  * targets are positions in their lists, from 0.
@@ -42,6 +46,11 @@
 #ifdef __cplusplus
 extern "C" {
 #endif
+
+/* ---- The version: of this header, and of the library that is installed from a release. ---- */
+
+#define NPOS_VERSION "1.0.0"
+const char *npos_version(void);
 
 /* ---- What a call answers. 0 to 6 are the exit statuses of the program `npos`. ---- */
 
@@ -123,13 +132,33 @@ typedef struct npos_mined {
 /* The most members that a committee has: no larger buffer is needed. */
 #define NPOS_MOST_MEMBERS 512
 
+/* The most voters that an election has: no group is larger. */
+#define NPOS_MOST_VOTERS 16384
+
+/* Whom a committee denies a seat. Where nobody is denied all but the finding is 0. */
+typedef struct npos_denied {
+    /* how many voters the group has */
+    size_t voters;
+    /* how many members some voter of the group nominates */
+    size_t members;
+    /* how many seats the stake of the group stands for, rounded down: more than members */
+    uint64_t seats;
+    /* the stake of the group */
+    uint64_t stake;
+    /* verdict 0 where nobody is denied; verdict 10 where somebody is, whose `first` is the position
+     * of the target and whose `second` is what the group holds beyond its members' share, in units;
+     * another verdict where the members are no committee; or why there is none */
+    npos_finding finding;
+} npos_denied;
+
 /* ---- The calls. ---- */
 
 /* Checks the work of a bundle of `bundle_size` bytes.
  *
  * Answers NPOS_DONE where the verdict is Yes, NPOS_NO where it is another one, NPOS_BAD_INPUT
  * where the bundle has a fault, and NPOS_NO_MEMORY. But for the last, `finding` tells the verdict
- * or the fault. NPOS_DONE promises that the committee is proportional to stake. */
+ * or the fault. NPOS_DONE promises that the committee denies nobody and is proportional to
+ * stake. */
 uint32_t npos_c_check(const uint8_t *bundle, size_t bundle_size, npos_finding *finding);
 
 /* Mines the election of a bundle; its work is not looked at. `miner` is NPOS_FILL, NPOS_SEQ or
@@ -148,6 +177,23 @@ uint32_t npos_c_check(const uint8_t *bundle, size_t bundle_size, npos_finding *f
 uint32_t npos_c_mine(uint32_t miner, uint32_t rounds, const uint8_t *bundle, size_t bundle_size,
                      uint16_t *committee, size_t committee_size, uint8_t *solution,
                      size_t solution_size, npos_mined *mined);
+
+/* Judges the committee of the work of a bundle, whatever its weights: whether it denies somebody a
+ * seat. A target outside the committee is denied where some group of voters, who all nominate it,
+ * holds the stake of more seats than there are members among all that they nominate. The answer is
+ * exact. Of plain work the list of members alone is looked at, of a packed solution the targets in it.
+ *
+ * Of the lowest target that is denied, the group to which most is due, and the largest of several:
+ * the positions of its voters, rising, go to the front of `group`, which has room for `group_size`
+ * of them, those of the members that they nominate to the front of `members`, which has room for
+ * `members_size`, and the rest to `denied`.
+ *
+ * Answers NPOS_DONE where nobody is denied: then the committee is proportional to stake, which is
+ * proved; NPOS_NO where somebody is, and where the members are no committee; NPOS_SMALL where one of
+ * the buffers is too small: then neither is written, and `denied` tells all else; NPOS_BAD_INPUT
+ * where the bundle has a fault or no work; and NPOS_NO_MEMORY. */
+uint32_t npos_c_judge(const uint8_t *bundle, size_t bundle_size, uint32_t *group, size_t group_size,
+                      uint16_t *members, size_t members_size, npos_denied *denied);
 
 /* Writes the exact text that the program would write for a bundle to the front of `text`, which
  * has room for `text_size` bytes, and its size to `size`. No zero byte is put behind it. `task` is

@@ -144,6 +144,62 @@ static void mine_each(const uint8_t *bundle, size_t bundle_size) {
     HOLDS(is_untouched(&mined, sizeof mined) && none[0] == 7);
 }
 
+/* One seat, two targets, and a voter that nominates the first; the committee is the second. */
+static const char DENYING[] =
+    "{\"seats\":1,\"targets\":["
+    "\"0000000000000000000000000000000000000000000000000000000000000001\","
+    "\"0000000000000000000000000000000000000000000000000000000000000002\"],\"voters\":["
+    "{\"account\":\"0000000000000000000000000000000000000000000000000000000000000004\","
+    "\"stake\":60,\"votes\":[0]}],\"work\":{\"committee\":[1],\"edges\":[]}}";
+
+static const char ANSWERING[] =
+    "{\"seats\":1,\"targets\":["
+    "\"0000000000000000000000000000000000000000000000000000000000000001\"],\"voters\":["
+    "{\"account\":\"0000000000000000000000000000000000000000000000000000000000000004\","
+    "\"stake\":60,\"votes\":[0]}],\"work\":{\"committee\":[0],\"edges\":[]}}";
+
+/* Judges into buffers of these sizes. */
+static uint32_t judge(const uint8_t *bundle, size_t bundle_size, size_t voters, size_t targets,
+                      npos_denied *denied) {
+    uint32_t *group = block(voters * sizeof(uint32_t));
+    uint16_t *members = block(targets * sizeof(uint16_t));
+    uint32_t answer =
+        npos_c_judge(bundle, bundle_size, group, voters, members, targets, denied);
+    if (answer != NPOS_NO) {
+        HOLDS(is_untouched(group, voters * sizeof(uint32_t)));
+        HOLDS(is_untouched(members, targets * sizeof(uint16_t)));
+    } else if (denied->voters) {
+        HOLDS(group[0] == 0 && denied->voters == 1);
+    }
+    free(group);
+    free(members);
+    return answer;
+}
+
+static void judge_each(const uint8_t *without_work, size_t size) {
+    npos_denied denied;
+    HOLDS(judge(without_work, size, 1, 1, &denied) == NPOS_BAD_INPUT);
+    HOLDS(denied.finding.kind == NPOS_UNSOLVED && denied.finding.first == size - 1);
+    HOLDS(denied.voters == 0 && denied.stake == 0);
+
+    size_t bundle_size;
+    uint8_t *bundle = report(NPOS_PACK, (const uint8_t *)DENYING, sizeof DENYING - 1, NPOS_DONE,
+                             &bundle_size);
+    HOLDS(judge(bundle, bundle_size, 0, 0, &denied) == NPOS_SMALL);
+    HOLDS(denied.voters == 1 && denied.members == 0 && denied.seats == 1 && denied.stake == 60);
+    HOLDS(denied.finding.kind == NPOS_JUDGED && denied.finding.number == 10);
+    HOLDS(denied.finding.first == 0 && denied.finding.second == 60);
+    HOLDS(judge(bundle, bundle_size, 1, 0, &denied) == NPOS_NO);
+    HOLDS(judge(bundle, bundle_size, 2, 2, &denied) == NPOS_NO);
+    free(bundle);
+
+    bundle = report(NPOS_PACK, (const uint8_t *)ANSWERING, sizeof ANSWERING - 1, NPOS_DONE,
+                    &bundle_size);
+    HOLDS(judge(bundle, bundle_size, 0, 0, &denied) == NPOS_DONE);
+    HOLDS(denied.finding.kind == NPOS_JUDGED && denied.finding.number == 0);
+    free(bundle);
+}
+
 static void demo(void) {
     size_t size = 77;
     uint8_t *none = block(0);
@@ -195,6 +251,7 @@ int main(void) {
 
     check(bundle, bundle_size);
     mine_each(bundle, bundle_size);
+    judge_each(bundle, bundle_size);
     demo();
     free(bundle);
     puts(failed ? "calls: failed" : "calls: ok");

@@ -1,9 +1,10 @@
-//! Finds the two archives that the crate links: that of the proved library, which `rt lib` makes,
-//! and the kit's, which gives the library memory by `malloc`, `realloc` and `free`.
+//! Finds what the crate links: the proved library that `rt lib` makes in a clone of npos, with the
+//! kit's archive that gives it memory by `malloc`, `realloc` and `free`; or, where there is no such
+//! clone, the installed library, which has both.
 
 use std::env;
 use std::path::{Path, PathBuf};
-use std::process;
+use std::process::{self, Command};
 
 /// Where an archive is sought: at the place that the variable names, or else here.
 fn archive(variable: &str, otherwise: Option<PathBuf>) -> Option<PathBuf> {
@@ -17,6 +18,18 @@ fn archive_of_the_kit() -> Option<PathBuf> {
         .filter_map(|folder| folder.join("rt").canonicalize().ok())
         .filter_map(|rt| Some(rt.parent()?.parent()?.join("c/liblibc_c.a")))
         .find(|found| found.is_file())
+}
+
+/// The library of an installed release, where `pkg-config` knows one.
+fn installed() -> Option<PathBuf> {
+    println!("cargo:rerun-if-env-changed=PKG_CONFIG_PATH");
+    let asked = Command::new("pkg-config")
+        .args(["--variable=libdir", "npos"])
+        .output()
+        .ok()?;
+    let folder = String::from_utf8(asked.stdout).ok()?;
+    let library = Path::new(folder.trim()).join("libnpos.a");
+    library.is_file().then_some(library)
 }
 
 /// Ends the build, and says what to do.
@@ -53,14 +66,18 @@ fn main() {
     let made = top.join("crates/npos_c/out/libnpos_c.a");
     let library = archive("NPOS_C_ARCHIVE", Some(made)).unwrap_or_default();
     if !library.is_file() {
+        if let Some(library) = installed() {
+            return link(&library);
+        }
         give_up(
             &format!(
                 "there is no archive of the proved library at {}",
                 library.display()
             ),
             &format!(
-                "run `cd {} && rt lib`, which proves and makes it with the Rattle kit's command \
-                 `rt`, or set NPOS_C_ARCHIVE to the path of a libnpos_c.a",
+                "install a release of npos, so that pkg-config finds it; or run `cd {} && rt lib`, \
+                 which proves and makes it with the Rattle kit's command `rt`; or set \
+                 NPOS_C_ARCHIVE to the path of a libnpos_c.a",
                 top.join("crates/npos_c").display()
             ),
         );

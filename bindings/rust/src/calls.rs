@@ -1,6 +1,6 @@
 //! The calls of the proved library, in safe Rust. Each `unsafe` of the crate stands here.
 
-use std::mem::size_of;
+use core::mem::size_of;
 
 /// What was found, in numbers: `npos_finding` of `npos.h`.
 #[repr(C)]
@@ -24,6 +24,17 @@ pub(crate) struct Mined {
     pub sum: u64,
     pub squares_high: u64,
     pub squares_low: u64,
+    pub finding: Finding,
+}
+
+/// Whom a committee denies a seat, in numbers: `npos_denied` of `npos.h`.
+#[repr(C)]
+#[derive(Clone, Copy, Debug, Default, PartialEq, Eq)]
+pub(crate) struct Denied {
+    pub voters: usize,
+    pub members: usize,
+    pub seats: u64,
+    pub stake: u64,
     pub finding: Finding,
 }
 
@@ -57,6 +68,16 @@ extern "C" {
         solution: *mut u8,
         solution_size: usize,
         mined: *mut Mined,
+    ) -> u32;
+
+    fn npos_c_judge(
+        bundle: *const u8,
+        bundle_size: usize,
+        group: *mut u32,
+        group_size: usize,
+        members: *mut u16,
+        members_size: usize,
+        denied: *mut Denied,
     ) -> u32;
 
     fn npos_c_report(
@@ -122,6 +143,27 @@ pub(crate) fn mine(
     (answer, mined)
 }
 
+/// `npos_c_judge`: the answer, and whom the committee denies a seat, which is all 0 where nothing is
+/// told.
+pub(crate) fn judge(bundle: &[u8], group: &mut [u32], members: &mut [u16]) -> (u32, Denied) {
+    let mut denied = Denied::default();
+    // SAFETY: pointers and lengths are those of three slices that are borrowed for the call, two
+    // of them alone, and `denied` is a `Denied`, which is laid out as in C, for which any bytes are
+    // a value.
+    let answer = unsafe {
+        npos_c_judge(
+            bundle.as_ptr(),
+            bundle.len(),
+            group.as_mut_ptr(),
+            group.len(),
+            members.as_mut_ptr(),
+            members.len(),
+            &mut denied,
+        )
+    };
+    (answer, denied)
+}
+
 /// `npos_c_report`: the answer, and the size that is told, 0 where none is.
 pub(crate) fn report(task: u32, rounds: u32, bundle: &[u8], text: &mut [u8]) -> (u32, usize) {
     let mut size = 0;
@@ -159,5 +201,7 @@ pub(crate) fn demo(seed: u64, voters: u32, seats: u32, text: &mut [u8]) -> (u32,
     (answer, size)
 }
 
-// The sizes that C gives the two structs where a `size_t` has 8 bytes.
-const _: () = assert!(size_of::<Finding>() == 40 && size_of::<Mined>() == 88);
+// The sizes that C gives the structs where a `size_t` has 8 bytes.
+const _: () = assert!(
+    size_of::<Finding>() == 40 && size_of::<Mined>() == 88 && size_of::<Denied>() == 72
+);

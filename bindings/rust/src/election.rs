@@ -1,8 +1,12 @@
 //! Elections.
 
+use crate::calls;
 use crate::report::{report, Status, Task};
-use crate::scale::{bundle_bytes, bundle_of};
+use crate::scale::{bundle_bytes, bundle_of, bytes_within};
 use crate::{Error, Work};
+use alloc::string::String;
+use alloc::string::ToString;
+use alloc::vec::Vec;
 
 /// One voter of an election.
 ///
@@ -158,6 +162,32 @@ impl Bundle {
         bundle_bytes(&self.election, &self.work)
     }
 
+    /// The bundle that bytes in SCALE spell, as `npos pack` writes them. The library says whether they
+    /// do. Whether the election has a fault is not looked at.
+    ///
+    /// ```
+    /// use npos_elections::{Bundle, Error, Why};
+    ///
+    /// assert_eq!(Bundle::from_bytes(&[4, 0, 0, 0])?.election.seats, 1);
+    /// let short = Error::Refused { at: 3, why: Why::Short };
+    /// assert_eq!(Bundle::from_bytes(&[4, 0, 0]), Err(short));
+    /// # Ok::<(), Error>(())
+    /// ```
+    ///
+    /// # Errors
+    ///
+    /// [`Error::Refused`] with the place of the first part that is refused,
+    /// [`Error::OverLimit`] for too many bytes, or [`Error::NoMemory`].
+    pub fn from_bytes(bytes: &[u8]) -> Result<Bundle, Error> {
+        let (answer, finding) = calls::check(bytes);
+        if matches!(answer, calls::DONE | calls::NO | calls::BAD_INPUT) {
+            if let Some(bundle) = bundle_of(bytes) {
+                return Ok(bundle);
+            }
+        }
+        Err(Error::of(answer, finding))
+    }
+
     /// The bundle that a text of JSON stands for, as `npos show` writes it. The library reads it.
     /// Whether the election has a fault is not looked at.
     ///
@@ -194,13 +224,12 @@ impl Bundle {
     ///
     /// # Errors
     ///
-    /// [`Error::Json`] with the fault line where a list is too long for a bundle, or
-    /// [`Error::NoMemory`].
+    /// [`Error::OverLimit`] where a list is too long for a bundle, or [`Error::NoMemory`].
     pub fn to_json(&self) -> Result<String, Error> {
-        let shown = report(Task::Show, &self.to_bytes())?;
+        let shown = report(Task::Show, &bytes_within(&self.election, &self.work)?)?;
         match shown.status {
             Status::Done => String::from_utf8(shown.text).map_err(|_| Error::OtherLibrary),
-            _ => Err(Error::Json(line_of(shown.text))),
+            _ => Err(Error::OtherLibrary),
         }
     }
 }

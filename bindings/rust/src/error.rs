@@ -1,8 +1,9 @@
 //! Why there is no answer.
 
 use crate::calls::{self, Finding};
-use crate::Why;
-use std::fmt;
+use crate::{Limit, Verdict, Why};
+use alloc::string::String;
+use core::fmt;
 
 /// Why the values of an [`Election`](crate::Election) are no election: its first fault
 /// (`docs/RULES.md`, "Building an election"). A position is that of the account in its list.
@@ -133,17 +134,30 @@ pub enum Error {
     Unelectable(ElectionFault),
     /// There is no work to check.
     NoWork,
-    /// The bytes of the bundle are refused: there are more values in a list than a bundle has.
+    /// There is more of something than the library takes; nothing was asked of it.
+    OverLimit {
+        /// Of what.
+        limit: Limit,
+        /// How many there are.
+        found: u64,
+    },
+    /// The bytes that were handed in spell no bundle.
     Refused {
         /// The place of the first byte of the part that is refused.
         at: u64,
         /// Why.
         why: Why,
     },
-    /// The bundle would have more than 16,777,216 bytes.
-    TooLong,
-    /// As its weights were packed the miner lost the member at this position.
+    /// As weights were packed no edge to the member at this position was kept.
     Lost(u16),
+    /// The edge at this place of the list cannot be packed: its voter or its target is none, it gives
+    /// nothing, the same pair stands before it, or its voter gives more than its stake or to more
+    /// than 24 members.
+    BadEdge(usize),
+    /// The bytes spell no solution.
+    NoSolution,
+    /// The solution expands to no weights, and so has no score: this is the verdict on it.
+    NoScore(Verdict),
     /// The text stands for no bundle, or the bundle for no text. This is the line that the program
     /// would write.
     Json(String),
@@ -176,7 +190,10 @@ impl Error {
             },
             calls::UNELECTABLE => Error::Unelectable(ElectionFault::of(finding)?),
             calls::UNSOLVED => Error::NoWork,
-            calls::LONG => Error::TooLong,
+            calls::LONG => Error::OverLimit {
+                limit: Limit::BundleBytes,
+                found: finding.first,
+            },
             _ => return None,
         })
     }
@@ -190,8 +207,13 @@ impl fmt::Display for Error {
             Error::Refused { at, why } => {
                 write!(f, "the bundle is refused from byte {at} on: {why}")
             }
-            Error::TooLong => f.write_str("the bundle has more than 16777216 bytes"),
+            Error::OverLimit { limit, found } => {
+                write!(f, "{found} {limit}, where there may be {}", limit.most())
+            }
             Error::Lost(member) => write!(f, "member {member} is lost as the weights are packed"),
+            Error::BadEdge(place) => write!(f, "the edge at place {place} cannot be packed"),
+            Error::NoSolution => f.write_str("the bytes spell no solution"),
+            Error::NoScore(verdict) => write!(f, "the solution has no score: {verdict}"),
             Error::Json(line) => write!(f, "no bundle and no text: {line}"),
             Error::OutOfRange => f.write_str("a number is out of its range"),
             Error::NoMemory => f.write_str("memory was refused"),
@@ -200,4 +222,5 @@ impl fmt::Display for Error {
     }
 }
 
+#[cfg(feature = "std")]
 impl std::error::Error for Error {}

@@ -2,8 +2,8 @@
 //! `npos`.
 //!
 //! Whoever makes a committee, [`check`] says whether it holds: where its verdict is
-//! [`Verdict::Yes`], each group of voters that holds the stake of `r` seats and agrees on `r`
-//! targets has at least `r` members of the committee among the targets that it nominates. That is
+//! [`Verdict::Yes`], each group of voters that holds the stake of `r` seats and agrees on one
+//! target outside has at least `r` members of the committee among the targets that it nominates. That is
 //! proved of the library, which is written in Rattle (`crates/npos_c` of the repository), and not
 //! of this crate: what stands here turns Rust values into the bytes that the library reads, and its
 //! numbers into Rust values.
@@ -28,13 +28,24 @@
 //!
 //! Stakes, supports and scores are in units of stake. Voters and targets are named by their
 //! positions in their lists, from 0. An account is 32 bytes, as a chain has it. Each call may be
-//! made from any thread.
+//! made from any thread. A call runs until it has its answer: who has a deadline makes it from a
+//! thread of its own, and lets that thread go.
+//!
+//! Without the feature `std`, which is on unless it is turned off, the crate needs `alloc` alone.
+#![no_std]
 #![deny(missing_docs)]
+
+extern crate alloc;
+#[cfg(any(feature = "std", test))]
+extern crate std;
 
 mod calls;
 mod election;
 mod error;
+mod judging;
+pub mod limits;
 mod mining;
+mod packing;
 mod report;
 mod scale;
 mod verdict;
@@ -42,7 +53,10 @@ mod work;
 
 pub use election::{Bundle, Election, Voter};
 pub use error::{ElectionFault, Error};
+pub use judging::{judge, Denied, Judgement};
+pub use limits::Limit;
 pub use mining::{mine, Mined, Miner};
+pub use packing::Entry;
 pub use report::{demo, report, Report, Status, Task};
 pub use verdict::{check, Verdict, Why};
 pub use work::{Edge, Score, Solution, Work};

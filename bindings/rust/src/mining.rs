@@ -1,8 +1,10 @@
 //! Miners.
 
 use crate::calls;
-use crate::scale::bundle_bytes;
+use crate::scale::bytes_within;
 use crate::{Election, Error, Score, Solution, Verdict, Work};
+use alloc::vec;
+use alloc::vec::Vec;
 
 /// A proved miner.
 ///
@@ -95,7 +97,7 @@ fn most_bytes(election: &Election) -> usize {
 /// [`Error::Lost`] where packing loses a member; [`Error::OutOfRange`] where the rounds are not 1
 /// to 100; and, but for [`Error::NoWork`], those of [`check`](crate::check).
 pub fn mine(election: &Election, miner: Miner) -> Result<Mined, Error> {
-    let bundle = bundle_bytes(election, &Work::Nothing);
+    let bundle = bytes_within(election, &Work::Nothing)?;
     let (number, rounds) = miner.numbers();
     let mut committee = vec![0; 512];
     let mut bytes = match miner {

@@ -2,6 +2,9 @@
 
 use crate::calls;
 use crate::{Error, Miner};
+use alloc::string::String;
+use alloc::vec;
+use alloc::vec::Vec;
 
 /// What is to be reported of the bytes of a bundle.
 ///

@@ -1,9 +1,11 @@
 //! Bundles in SCALE: `docs/RULES.md`, "The bundle that `npos check` and `npos mine` read".
 
-use crate::{Bundle, Edge, Election, Score, Solution, Voter, Work};
+use crate::limits::{self, Limit};
+use crate::{Bundle, Edge, Election, Error, Score, Solution, Voter, Work};
+use alloc::vec::Vec;
 
 /// Appends a compact integer, in the fewest bytes that it has.
-fn put_compact(bytes: &mut Vec<u8>, value: u64) {
+pub(crate) fn put_compact(bytes: &mut Vec<u8>, value: u64) {
     match value {
         0..=0x3F => bytes.push((value << 2) as u8),
         0x40..=0x3FFF => bytes.extend(((value << 2 | 1) as u16).to_le_bytes()),
@@ -52,6 +54,14 @@ fn put_work(bytes: &mut Vec<u8>, work: &Work) {
     }
 }
 
+/// The bytes of an election with work on it, where the library takes as many of all of it.
+pub(crate) fn bytes_within(election: &Election, work: &Work) -> Result<Vec<u8>, Error> {
+    limits::look(election, work)?;
+    let bytes = bundle_bytes(election, work);
+    Limit::BundleBytes.allows(bytes.len())?;
+    Ok(bytes)
+}
+
 /// The bytes of an election with work on it.
 pub(crate) fn bundle_bytes(election: &Election, work: &Work) -> Vec<u8> {
     let mut bytes = Vec::new();
@@ -70,11 +80,19 @@ pub(crate) fn bundle_bytes(election: &Election, work: &Work) -> Vec<u8> {
 
 /// The bytes that were not read yet. The library refuses what is no spelling, so that a reader here
 /// may take longer spellings than it must; where bytes are missing it has nothing.
-struct Cursor<'a> {
+pub(crate) struct Cursor<'a> {
     left: &'a [u8],
 }
 
 impl<'a> Cursor<'a> {
+    pub(crate) fn new(left: &'a [u8]) -> Cursor<'a> {
+        Cursor { left }
+    }
+
+    pub(crate) fn is_done(&self) -> bool {
+        self.left.is_empty()
+    }
+
     fn take(&mut self, count: usize) -> Option<&'a [u8]> {
         if count > self.left.len() {
             return None;
@@ -90,7 +108,9 @@ impl<'a> Cursor<'a> {
         Some(u128::from_le_bytes(bytes))
     }
 
-    fn compact<T: TryFrom<u128>>(&mut self) -> Option<T> {
+    /// A compact integer, in as few bytes as it has.
+    pub(crate) fn compact<T: TryFrom<u64>>(&mut self) -> Option<T> {
+        let before = self.left.len();
         let first = *self.left.first()?;
         let value = match first & 3 {
             0 => self.little_endian(1)? >> 2,
@@ -101,10 +121,16 @@ impl<'a> Cursor<'a> {
                 self.little_endian(usize::from(first >> 2) + 4)?
             }
         };
+        let value = u64::try_from(value).ok()?;
+        let mut fewest = Vec::new();
+        put_compact(&mut fewest, value);
+        if fewest.len() != before - self.left.len() {
+            return None;
+        }
         T::try_from(value).ok()
     }
 
-    fn list<T>(&mut self, item: impl Fn(&mut Self) -> Option<T>) -> Option<Vec<T>> {
+    pub(crate) fn list<T>(&mut self, item: impl Fn(&mut Self) -> Option<T>) -> Option<Vec<T>> {
         let count: u32 = self.compact()?;
         (0..count).map(|_| item(self)).collect()
     }
@@ -153,19 +179,20 @@ impl<'a> Cursor<'a> {
 
 /// The election and the work that these bytes spell.
 pub(crate) fn bundle_of(bytes: &[u8]) -> Option<Bundle> {
-    let mut cursor = Cursor { left: bytes };
+    let mut cursor = Cursor::new(bytes);
     let election = Election {
         seats: cursor.compact()?,
         targets: cursor.list(Cursor::account)?,
         voters: cursor.list(Cursor::voter)?,
     };
     let work = cursor.work()?;
-    cursor.left.is_empty().then_some(Bundle { election, work })
+    cursor.is_done().then_some(Bundle { election, work })
 }
 
 #[cfg(test)]
 mod tests {
     use super::*;
+    use alloc::vec;
 
     #[test]
     fn compact_integers_have_the_fewest_bytes() {

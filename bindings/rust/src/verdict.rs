@@ -1,9 +1,9 @@
 //! Verdicts.
 
 use crate::calls::{self, Finding};
-use crate::scale::bundle_bytes;
+use crate::scale::bytes_within;
 use crate::{Election, Error, Score, Work};
-use std::fmt;
+use core::fmt;
 
 /// Why bytes are refused.
 ///
@@ -247,10 +247,10 @@ impl fmt::Display for Verdict {
 /// # Errors
 ///
 /// [`Error::NoWork`] where there is none; [`Error::Unelectable`] where the election has a fault;
-/// [`Error::Refused`] and [`Error::TooLong`] where there are more values than a bundle has; and
+/// [`Error::OverLimit`] where there is more of something than the library takes; and
 /// [`Error::NoMemory`].
 pub fn check(election: &Election, work: &Work) -> Result<Verdict, Error> {
-    let (answer, finding) = calls::check(&bundle_bytes(election, work));
+    let (answer, finding) = calls::check(&bytes_within(election, work)?);
     match answer {
         calls::DONE | calls::NO => Verdict::of(finding),
         _ => Err(Error::of(answer, finding)),

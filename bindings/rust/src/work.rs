@@ -1,7 +1,9 @@
 //! Work on an election.
 
-use std::cmp::Ordering;
-use std::fmt;
+use alloc::vec;
+use alloc::vec::Vec;
+use core::cmp::Ordering;
+use core::fmt;
 
 /// A score: by it chains compare what was handed in. A greater score is a better one: by a greater
 /// least support, at equal ones by a greater sum, and at equal sums by smaller squares.
@@ -198,6 +200,7 @@ pub enum Work {
 #[cfg(test)]
 mod tests {
     use super::*;
+    use alloc::string::ToString;
 
     #[test]
     fn scores_are_compared_part_by_part() {

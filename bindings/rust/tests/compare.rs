@@ -5,7 +5,8 @@ mod common;
 
 use common::{generated, program, run, Draws};
 use npos_elections::{
-    check, demo, mine, report, Bundle, Edge, Election, Error, Miner, Score, Solution, Task, Work,
+    check, demo, mine, report, Bundle, Edge, Election, Error, Miner, Score, Solution, Task,
+    Verdict, Work,
 };
 use std::fs;
 use std::path::{Path, PathBuf};
@@ -304,5 +305,52 @@ fn the_generator_is_that_of_the_demo() {
         assert!(text.contains(&line), "{text} has {line}");
         let score: Score = mine(&election, Miner::Seq).unwrap().score;
         assert!(text.contains(&format!("seq score {score} ")));
+    }
+}
+
+/// What is sent to another thread, or looked at from several, says so.
+#[test]
+fn values_go_from_thread_to_thread() {
+    fn goes<T: Send + Sync>() {}
+    goes::<Bundle>();
+    goes::<Error>();
+    goes::<npos_elections::Entry>();
+    goes::<npos_elections::Limit>();
+    goes::<npos_elections::Mined>();
+    goes::<npos_elections::Report>();
+    goes::<npos_elections::Verdict>();
+}
+
+/// What each miner packed is told entry by entry, and packed again from these weights to a solution
+/// with the same members that the library takes.
+#[test]
+fn solutions_are_told_and_packed_again() {
+    for seed in 0..40 {
+        let election = generated(seed, 60, 4);
+        let Ok(mined) = mine(&election, Miner::Seq) else {
+            continue;
+        };
+        let Some(solution) = mined.solution else {
+            panic!("what seq mines is packed");
+        };
+        assert_eq!(solution.score(&election), Ok(mined.score));
+        let edges: Vec<Edge> = (solution.entries().expect("the library spelled it").iter())
+            .flat_map(|entry| entry.edges(election.voters[entry.voter as usize].stake))
+            .filter(|edge| edge.amount > 0)
+            .collect();
+        assert_eq!(Score::of(&mined.committee, &edges), mined.score);
+        let again = Solution::pack(&election, &mined.committee, &edges).expect("no member is lost");
+        let claim = again.score(&election).expect("it expands");
+        let verdict = check(
+            &election,
+            &Work::Packed {
+                claim,
+                solution: again,
+            },
+        );
+        assert!(
+            matches!(verdict, Ok(Verdict::Yes | Verdict::Outweighed { .. })),
+            "{verdict:?}"
+        );
     }
 }
