@@ -3,7 +3,7 @@ from __future__ import annotations
 
 import hashlib
 import re
-from typing import Optional, Tuple
+from typing import Dict, Optional, Tuple
 
 from scale import BadInput
 
@@ -11,6 +11,7 @@ ALPHABET = '123456789ABCDEFGHJKLMNPQRSTUVWXYZabcdefghijkmnopqrstuvwxyz'
 VALUES = {letter: value for value, letter in enumerate(ALPHABET)}
 RESERVED = (46, 47)
 LAST_PREFIX = 16383
+SHORT = 13  # letters of a short name
 
 
 def base58(data: bytes) -> str:
@@ -90,17 +91,28 @@ def prefix_of(word: str) -> int:
 
 
 class Naming:
-    """How accounts are shown: as addresses of a prefix, or in hexadecimal."""
+    """How accounts are shown: by their names, as addresses of a prefix, or in hexadecimal."""
 
-    def __init__(self, prefix: Optional[int] = None):
-        self.prefix = prefix
+    def __init__(self, prefix: Optional[int] = None, names: Optional[Dict[bytes, str]] = None):
+        self.prefix, self.names = prefix, names or {}
 
     def full(self, account: bytes) -> str:
         """The whole text of an account."""
         return account.hex() if self.prefix is None else ss58(account, self.prefix)
 
+    def whole(self, account: bytes) -> str:
+        """The whole text of an account, behind its name."""
+        return f'{self.name(account)} {self.full(account)}'.lstrip()
+
+    def name(self, account: bytes) -> str:
+        """The name that people know an account by, or nothing."""
+        return self.names.get(account, '')
+
     def short(self, account: bytes) -> str:
-        """The ends of the text, as people compare them; small numbers in hexadecimal lose their zeros in front."""
+        """The name, or else the ends of the text, as people compare them; small numbers in hexadecimal lose their zeros in front."""
+        name = self.name(account)
+        if name:
+            return name if len(name) <= SHORT else name[:SHORT - 1] + '…'
         text = self.full(account)
         if self.prefix is None and not any(account[:24]):
             return '0x' + (account.hex().lstrip('0') or '0')

@@ -8,15 +8,24 @@ from typing import Any, List, NamedTuple, Optional, Tuple, Union
 
 from scale import BadInput, Reader, compact, spelt_list
 
-MOST_SEATS = 512
-MOST_TARGETS = 2048
-MOST_VOTERS = 16384
 MOST_VOTES = 24
 MOST_SPELT_VOTES = 64
-MOST_EDGES = 262144
-MOST_SOLUTION_BYTES = 2097152
-MOST_BYTES = 16777216
 PLAIN_GROUPS, WIDE_GROUPS, WIDE_MARK = 16, 24, b'\xff'  # the lists of the two forms of a solution
+
+
+class Limits(NamedTuple):
+    """What a program takes at most."""
+    program: str
+    seats: int
+    targets: int
+    voters: int
+    edges: int
+    solution_bytes: int
+    bytes: int
+
+
+NPOS = Limits('npos', 512, 2048, 16384, 262144, 2097152, 16777216)
+LIVE = Limits('npos-live', 2048, 4096, 65535, 1572864, 8388608, 67108864)
 
 Score = Tuple[int, int, int]
 Edge = Tuple[int, int, int]
@@ -90,8 +99,8 @@ def bundle_of_bytes(data: bytes) -> Bundle:
         return Voter(reader.take(32), reader.compact(64), tuple(reader.many(MOST_SPELT_VOTES, lambda: reader.compact(16))))
 
     seats = reader.compact(32)
-    targets = reader.many(MOST_TARGETS, lambda: reader.take(32))
-    voters = reader.many(MOST_VOTERS, voter)
+    targets = reader.many(LIVE.targets, lambda: reader.take(32))
+    voters = reader.many(LIVE.voters, voter)
     bundle = Bundle(seats, targets, voters, work_of(reader))
     reader.end()
     return bundle
@@ -104,9 +113,9 @@ def work_of(reader: Reader) -> Work:
         return None
     if tag == 1:
         claim = reader.compact(64), reader.compact(64), reader.fixed(16)
-        return Packed(claim, reader.take(reader.length(MOST_SOLUTION_BYTES)))
-    committee = reader.many(MOST_TARGETS, lambda: reader.compact(16))
-    return Plain(committee, reader.many(MOST_EDGES, lambda: (reader.compact(32), reader.compact(16), reader.compact(64))))
+        return Packed(claim, reader.take(reader.length(LIVE.solution_bytes)))
+    committee = reader.many(LIVE.targets, lambda: reader.compact(16))
+    return Plain(committee, reader.many(LIVE.edges, lambda: (reader.compact(32), reader.compact(16), reader.compact(64))))
 
 
 # ## In JSON
@@ -178,8 +187,8 @@ def bundle_of_json(data: bytes) -> Bundle:
     seats, targets, voters, work = keyed(json_of(data, 'the bundle'), ['seats', 'targets', 'voters', 'work'], 'the bundle')
     return Bundle(
         whole(seats, 32, 'seats'),
-        [account(one, f'target {i}') for i, one in enumerate(listed(targets, MOST_TARGETS, 'targets'))],
-        [voter_of_json(one, f'voter {i}') for i, one in enumerate(listed(voters, MOST_VOTERS, 'voters'))],
+        [account(one, f'target {i}') for i, one in enumerate(listed(targets, LIVE.targets, 'targets'))],
+        [voter_of_json(one, f'voter {i}') for i, one in enumerate(listed(voters, LIVE.voters, 'voters'))],
         work_of_json(work))
 
 
@@ -201,10 +210,10 @@ def work_of_json(value: Any) -> Work:
                 or not re.fullmatch('0|[1-9][0-9]{0,38}', claim[2]):
             raise BadInput('claim is not two whole numbers and a text of decimal digits')
         score = whole(claim[0], 64, 'claim'), whole(claim[1], 64, 'claim'), whole(int(claim[2]), 128, 'claim')
-        return Packed(score, digits(solution, MOST_SOLUTION_BYTES, 'solution'))
+        return Packed(score, digits(solution, LIVE.solution_bytes, 'solution'))
     committee, edges = keyed(value, ['committee', 'edges'], 'work')
-    return Plain([whole(member, 16, 'a member') for member in listed(committee, MOST_TARGETS, 'committee')],
-                 [edge_of_json(edge) for edge in listed(edges, MOST_EDGES, 'edges')])
+    return Plain([whole(member, 16, 'a member') for member in listed(committee, LIVE.targets, 'committee')],
+                 [edge_of_json(edge) for edge in listed(edges, LIVE.edges, 'edges')])
 
 
 def edge_of_json(value: Any) -> Edge:
@@ -218,27 +227,38 @@ def edge_of_json(value: Any) -> Edge:
 
 def bundle_of(data: bytes) -> Bundle:
     """The bundle of bytes in SCALE or of a text in JSON; no SCALE of a bundle begins as an object does."""
-    if len(data) > MOST_BYTES:
-        raise BadInput(f'the bundle has more than {MOST_BYTES:,} bytes')
+    if len(data) > LIVE.bytes:
+        raise BadInput(f'the bundle has more than {LIVE.bytes:,} bytes')
     return bundle_of_json(data) if data.lstrip().startswith(b'{') else bundle_of_bytes(data)
 
 
-def fault_of(bundle: Bundle) -> Optional[str]:
-    """The sentence on what keeps a bundle's election from being one, or None."""
+def fault_of(bundle: Bundle, limits: Limits = LIVE) -> Optional[str]:
+    """The sentence on what keeps a bundle's election from being one that a program takes, or None."""
     seats, total = bundle.seats, bundle.total()
-    if not 1 <= seats <= MOST_SEATS:
-        return f'{seats:,} seats do not fit: there are 1 to {MOST_SEATS} seats'
-    if len(bundle.targets) > MOST_TARGETS:
-        return f'{len(bundle.targets):,} targets do not fit: there are at most {MOST_TARGETS:,} targets'
-    if len(bundle.voters) > MOST_VOTERS:
-        return f'{len(bundle.voters):,} voters do not fit: there are at most {MOST_VOTERS:,} voters'
+    if not 1 <= seats <= limits.seats:
+        return f'{seats:,} seats do not fit: there are 1 to {limits.seats:,} seats'
+    if len(bundle.targets) > limits.targets:
+        return f'{len(bundle.targets):,} targets do not fit: there are at most {limits.targets:,} targets'
+    if len(bundle.voters) > limits.voters:
+        return f'{len(bundle.voters):,} voters do not fit: there are at most {limits.voters:,} voters'
     if len(bundle.targets) < seats:
         return f'{len(bundle.targets):,} targets are too few for {seats} seats'
     if total >= 1 << 64:
         return f'a total stake of {total:,} does not fit: it is below 2^64, which is {1 << 64:,}'
     if total < seats * seats:
         return f'a total stake of {total:,} is too little for {seats} seats: it is at least the seats times the seats'
-    return fault_of_accounts(bundle)
+    return fault_of_work(bundle.work, limits) or fault_of_accounts(bundle)
+
+
+def fault_of_work(work: Work, limits: Limits) -> Optional[str]:
+    """The sentence on work that is larger than a program takes, or None."""
+    if isinstance(work, Packed) and len(work.solution) > limits.solution_bytes:
+        return f'a solution of {len(work.solution):,} bytes does not fit: it has at most {limits.solution_bytes:,}'
+    if isinstance(work, Plain) and len(work.edges) > limits.edges:
+        return f'{len(work.edges):,} edges do not fit: there are at most {limits.edges:,}'
+    if isinstance(work, Plain) and len(work.committee) > limits.targets:
+        return f'{len(work.committee):,} members do not fit: there are at most {limits.targets:,} targets'
+    return None
 
 
 def fault_of_accounts(bundle: Bundle) -> Optional[str]:

@@ -4,7 +4,7 @@ from __future__ import annotations
 import argparse
 import os
 import sys
-from typing import Callable, NoReturn, Optional
+from typing import Callable, NoReturn, Optional, Tuple, Union
 
 from scale import BadInput
 
@@ -62,8 +62,11 @@ def standard_input(what: str) -> bytes:
 
 def file_bytes(path: str) -> bytes:
     """All of a file."""
-    with open(path, 'rb') as source:
-        return source.read()
+    try:
+        with open(path, 'rb') as source:
+            return source.read()
+    except ValueError as fault:
+        raise BadInput(f'{path!r} names no file: {fault}') from None
 
 
 def printable(word: str) -> str:
@@ -80,10 +83,17 @@ def write_all(data: bytes) -> None:
         rest = rest[os.write(place, rest):]
 
 
-def run(name: str, work: Callable[[], bytes]) -> None:
-    """Writes what the work gives, whole or not at all, and refuses in one sentence what cannot be done."""
+def run(name: str, work: Callable[[], Union[bytes, Tuple[bytes, int]]]) -> None:
+    """Writes what the work gives, whole or not at all, and refuses in one sentence what cannot be done.
+
+    Where the work gives a status besides, the script ends with it.
+    """
     try:
-        write_all(work())
+        done = work()
+        data, status = done if isinstance(done, tuple) else (done, 0)
+        write_all(data)
+        if status:
+            sys.exit(status)
     except BadInput as fault:
         refuse(name, str(fault))
     except OSError as fault:

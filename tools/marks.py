@@ -22,7 +22,7 @@ LEFT, OVER = '#CC79A7', '#D55E00'
 STYLE = f"""
 text {{ font-family: 'DejaVu Sans', Verdana, 'Segoe UI', Helvetica, sans-serif; fill: {INK}; }}
 .name {{ font-family: 'DejaVu Sans Mono', Menlo, Consolas, monospace; }}
-.quiet {{ fill: {QUIET}; }}
+.quiet, .quiet tspan {{ fill: {QUIET}; }}
 .bold {{ font-weight: bold; }}
 .end {{ text-anchor: end; }}
 .middle {{ text-anchor: middle; }}
@@ -42,7 +42,7 @@ class Units:
         self.decimals, self.places = decimals, max(0, 3 - (digits - self.power))
         self.places = min(self.places, decimals + self.power)
         self.scale = 10 ** (decimals + self.power)
-        self.name = POWERS[self.power] + name
+        self.single, self.name = name, POWERS[self.power] + name
 
     def plain(self, amount: int) -> str:
         """An amount with as many decimals as all others."""
@@ -60,6 +60,10 @@ class Units:
         whole, rest = divmod(amount, 10 ** self.decimals)
         return f'{whole:,}' + (f'.{rest:0{self.decimals}d}' if self.decimals else '')
 
+    def exact_named(self, amount: int) -> str:
+        """An amount with every unit of stake, and the name of the unit."""
+        return f'{self.exact(amount)} {self.single}'
+
     def named(self, amount: int) -> str:
         """An amount with its unit."""
         return f'{self.plain(amount)} {"× " if self.name.startswith("10") else ""}{self.name}'
@@ -67,7 +71,7 @@ class Units:
 
 def percent(part: int, whole: int) -> str:
     """A part of a whole in per cent."""
-    return f'{100 * part / whole:.1f} %' if whole else '-'
+    return f'{100 * part / whole:,.1f} %' if whole else '-'
 
 
 # ## Marks
@@ -82,6 +86,12 @@ def text(x: float, y: float, size: float, words: str, kind: str = '', tip: str =
     """A line of text, with a word that shows where a pointer rests on it."""
     said = escape(words) + (f'<title>{escape(tip)}</title>' if tip else '')
     return f'<text{attributes(x=round(x, 1), y=round(y, 1), font_size=size, kind=kind)}>{said}</text>'
+
+
+def amount_text(x: float, y: float, size: float, words: str, unit: str) -> str:
+    """A number with its unit in smaller letters behind it."""
+    return (f'<text{attributes(x=round(x, 1), y=round(y, 1), font_size=size)}><tspan class="bold">{escape(words)}</tspan>'
+            f'<tspan dx="4" font-size="{size * 0.55:g}" class="quiet">{escape(unit)}</tspan></text>')
 
 
 def box(x: float, y: float, width: float, height: float, fill: str, tip: str = '', **more: object) -> str:

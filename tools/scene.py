@@ -1,9 +1,8 @@
 """What there is to draw of an election and the weights that a report is on: members, who is outside, who is left over."""
 from __future__ import annotations
 
-from typing import Callable, Dict, List, NamedTuple, Optional, Tuple
+from typing import Dict, List, NamedTuple, Optional, Tuple
 
-from accounts import Naming
 from bundle import Bundle, Packed, Score
 from program import Report
 from scale import BadInput
@@ -145,49 +144,3 @@ def voters_of(bundle: Bundle, weights: Weights, slack: List[int]) -> List[Sharer
     voters = [Sharer(i, voter.account, voter.stake, len(voter.votes), sum(vote in members for vote in voter.votes), slack[i])
               for i, voter in enumerate(bundle.voters)]
     return sorted(voters, key=lambda voter: (-voter.left, -voter.stake, voter.position))
-
-
-# ## In words
-
-def verdict_words(scene: Scene, naming: Naming, amount: Callable[[int], str]) -> Tuple[str, str]:
-    """What a verdict says: a headline, and a sentence. `amount` writes an amount of stake."""
-    number, *details = scene.verdict
-    price = amount(scene.price())
-
-    def target(position: int) -> str:
-        return f'target {position} ({naming.short(scene.bundle.targets[position])})'
-
-    def voter(position: int) -> str:
-        return f'voter {position} ({naming.short(scene.bundle.voters[position].account)})'
-
-    if number == 0:
-        return 'Proportional', ('Any group of voters with the stake of r seats whose voters all nominate the same r targets has '
-                                'at least r members among its nominees, for every r.')
-    if number == 10:
-        return 'Not shown to be proportional', (
-            f'The nominators of {target(details[0])}, which is outside, have {amount(details[1])} left: the price of a seat, '
-            f'{price}, or more. The committee may be proportional all the same; these weights do not show it.')
-    if number == 9:
-        claim = ', '.join(map(amount, (scene.claim or (0, 0, 0))[:2]))
-        found = ', '.join(map(amount, details[:2]))
-        return 'Another score was claimed', (f'Least support and sum were claimed as {claim}, and come to {found}; or the '
-                                             'squares differ. Whether the weights are proportional was not asked.')
-    if number == 8:
-        return 'Not one member a seat', f'The work elects {details[0]} members for {scene.bundle.seats} seats.'
-    return 'The work is refused', refused_words(number, details, target, voter)
-
-
-def refused_words(number: int, details: List[int], target: Callable[[int], str], voter: Callable[[int], str]) -> str:
-    """The sentence on work that is of no good form."""
-    if number == 1:
-        return f'The bytes of the solution cannot be read from byte {details[0]} on. Nobody is elected by it.'
-    sentences = {
-        2: lambda: f'It names voter {details[0]}, and there is no such voter.',
-        3: lambda: f'It names target {details[0]}, which is no target, or in plain work no member.',
-        4: lambda: f'It has two entries of {voter(details[0])}.',
-        5: lambda: f'It names {target(details[0])} twice where once is allowed.',
-        6: lambda: f'It lets {voter(details[0])} back {target(details[1])}, which that voter does not nominate.',
-        7: lambda: f'A share of {voter(details[0])} is nothing, or its shares leave nothing for the last target.',
-        11: lambda: f'It gives away more than the stake of {voter(details[0])}.',
-    }
-    return sentences[number]() if number in sentences else 'The verdict is none that this script knows.'

@@ -6,7 +6,7 @@ from __future__ import annotations
 
 from typing import Dict, List, NamedTuple, Optional, Set, Tuple
 
-from bundle import MOST_VOTERS, PLAIN_GROUPS, WIDE_GROUPS, WIDE_MARK, Bundle, Edge, Packed, Plain, Score
+from bundle import LIVE, NPOS, PLAIN_GROUPS, WIDE_GROUPS, WIDE_MARK, Bundle, Edge, Packed, Plain, Score, fault_of
 from scale import REASONS, Misspelt, Reader, compact, spelt_list
 
 WHOLE = 65535  # a whole stake in parts
@@ -33,7 +33,7 @@ class Weights(NamedTuple):
 
 # ## Solutions
 
-def take_entries(reader: Reader, groups: int, most: int = MOST_VOTERS) -> List[Entry]:
+def take_entries(reader: Reader, groups: int, most: int = LIVE.voters) -> List[Entry]:
     """The entries of a solution with so many groups, which stands next; those of group j have j targets."""
     def entry(listed: int) -> Entry:
         voter = reader.compact(32)
@@ -59,12 +59,12 @@ def solution_bytes(entries: List[Entry]) -> bytes:
     return groups_bytes(entries, PLAIN_GROUPS)
 
 
-def entries_of(solution: bytes) -> List[Entry]:
-    """The entries of a solution, plain or wide."""
+def entries_of(solution: bytes, most: int = LIVE.voters) -> List[Entry]:
+    """The entries of a solution, plain or wide, with at most so many in a list."""
     reader = Reader(solution, 'the solution')
     is_wide = solution.startswith(WIDE_MARK)
     reader.take(len(WIDE_MARK) if is_wide else 0)
-    entries = take_entries(reader, WIDE_GROUPS if is_wide else PLAIN_GROUPS)
+    entries = take_entries(reader, WIDE_GROUPS if is_wide else PLAIN_GROUPS, most)
     reader.end()
     return entries
 
@@ -97,8 +97,9 @@ def edges_of(entry: Entry, stake: int) -> List[Edge]:
 
 def expand(bundle: Bundle, solution: bytes) -> Tuple[Optional[Weights], Verdict]:
     """The weights that a solution stands for, with (0,); or None with the verdict on its bytes or an entry."""
+    most = LIVE.voters if fault_of(bundle, NPOS) else NPOS.voters
     try:
-        entries = entries_of(solution)
+        entries = entries_of(solution, most)
     except Misspelt as fault:
         return None, (1, fault.at, REASONS[fault.why])
     seen: Set[int] = set()

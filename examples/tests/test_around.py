@@ -1,11 +1,13 @@
 """What stands around the program: the wrapper at the top, examples/run and bench/run, with programs that are made up here."""
 from __future__ import annotations
 
+import hashlib
 import os
 import pathlib
 import shlex
 import shutil
 import subprocess
+import sys
 import tempfile
 import unittest
 from typing import Tuple
@@ -14,10 +16,9 @@ from support import EXAMPLES, TOP, needs_program, program, run
 
 from npos_text import encode
 
-TOOLS = '/usr/bin:/bin'
+TOOLS = f'{pathlib.Path(sys.executable).parent}:/usr/bin:/bin'
 # a kit that builds a program which tells its words and ends with 1, or that fails
 BUILDS = '''#!/bin/sh
-if [ "$1" = all ]; then exit 0; fi
 mkdir -p out && printf '#!/bin/sh\\necho "ran $*"; exit 1\\n' > out/npos && chmod +x out/npos
 exit 2
 '''
@@ -44,16 +45,27 @@ class Folder(unittest.TestCase):
 class Wrapper(Folder):
     def setUp(self) -> None:
         super().setUp()
-        self.put('crates.txt', '')
+        self.put('crates.txt', '# a part\nnpos: std\n')
+        self.put('docs/ARCHITECTURE.md', '| `npos` | 2.2 |  | 4 |\n')
+        (self.top / 'tools').mkdir()
+        for name in ['prove', 'sources']:
+            shutil.copy(TOP / 'tools' / name, self.top / 'tools' / name)
         self.source = self.put('crates/npos/src/main.rt', '')
         shutil.copy(TOP / 'npos', self.top / 'npos')
 
-    def ask(self, *words: str, kit: str = '', name: str = 'npos') -> subprocess.CompletedProcess[str]:
+    def ask(self, *words: str, kit: str = '', name: str = 'npos', anew: str = '') -> subprocess.CompletedProcess[str]:
         """Runs the wrapper with a kit on the PATH, or without one."""
         if kit:
             self.put('kit/rt', kit)
         path = f'{self.top}/kit:{TOOLS}' if kit else TOOLS
-        return subprocess.run([self.top / name, *words], capture_output=True, text=True, env=dict(os.environ, PATH=path))
+        return subprocess.run([self.top / name, *words], capture_output=True, text=True, env=dict(os.environ, PATH=path, NPOS_ANEW=anew))
+
+    def release(self) -> None:
+        """A program in release/ that was built from the sources as they stand."""
+        released = self.put('release/npos', '#!/bin/sh\necho released; exit 0\n')
+        sources = subprocess.run([self.top / 'tools/sources', 'npos'], capture_output=True, text=True, check=True).stdout.strip()
+        program = hashlib.sha256(released.read_bytes()).hexdigest()
+        self.put('release/SUMS', f'# built by a kit\n{sources} {program} npos\n')
 
     def build(self, is_current: bool) -> pathlib.Path:
         """A program that was built, after the sources or before."""
@@ -76,14 +88,34 @@ class Wrapper(Folder):
         done = self.ask('check', kit=FAILS)
         self.assertEqual((done.returncode, done.stdout), (8, ''))
         self.assertEqual(done.stderr.count('half an hour'), 1)
-        self.assertIn('rt try -- replay', done.stderr)
+        self.assertIn('(cd crates/npos && rt try -- WORDS < INPUT)', done.stderr)
+        self.assertIn('npos is not proved; out/prove/npos.log says more', done.stderr)
         self.assertFalse(program.exists())
 
     def test_it_builds_and_runs(self) -> None:
         done = self.ask('check', '--a b', kit=BUILDS)
         self.assertEqual((done.returncode, done.stdout), (1, 'ran check --a b\n'))
+        self.assertIn('1 of 1 rooms are proved', done.stderr)
         again = self.ask('check')
         self.assertEqual((again.returncode, again.stdout, again.stderr), (1, 'ran check\n', ''))
+
+    @unittest.skipIf(shutil.which('rt', path=TOOLS), 'rt stands beside the tools of the system')
+    def test_what_the_gate_built(self) -> None:
+        self.release()
+        done = self.ask('check')
+        self.assertEqual((done.returncode, done.stdout), (0, 'released\n'))
+        self.assertIn('NPOS_ANEW=1 ./npos proves and builds it here', done.stderr)
+        again = self.ask('check')
+        self.assertEqual((again.returncode, again.stdout, again.stderr), (0, 'released\n', ''))
+        self.assertEqual(self.ask('check', anew='1').returncode, 8)
+        self.source.write_text('// another source')
+        self.assertEqual(self.ask('check').returncode, 8)
+
+    @unittest.skipIf(shutil.which('rt', path=TOOLS), 'rt stands beside the tools of the system')
+    def test_what_nobody_built(self) -> None:
+        self.release()
+        self.put('release/npos', '#!/bin/sh\necho another; exit 0\n')
+        self.assertEqual(self.ask('check').returncode, 8)
 
     def test_a_symlink(self) -> None:
         self.build(is_current=True)
@@ -200,7 +232,7 @@ class Origins(Folder):
 
 
 class Reading(Folder):
-    """The list of pages to read is the one that `bench/pages` makes of the specs."""
+    """The list of what to read is the one that `bench/pages` makes of the specs."""
 
     def test_the_page_has_the_list(self) -> None:
         done = run(TOP / 'bench/pages', '--check')

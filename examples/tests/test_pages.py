@@ -62,8 +62,8 @@ class Pages(unittest.TestCase):
         settings = ''.join(one + '\n' for one in block.splitlines() if one.startswith('work='))
         done = subprocess.run(['bash', '-c', settings + line], cwd=folder, capture_output=True, text=True, env=environment())
         self.assertIn(done.returncode, (0, 1), line + done.stderr)
-        # what a chain's election loses on its way into a bundle is told
-        self.assertEqual([said for said in done.stderr.splitlines() if not said.startswith('from-substrate: ')], [], line)
+        # what a chain's election loses on its way into a bundle and back is told
+        self.assertEqual([said for said in done.stderr.splitlines() if not said.startswith(('from-substrate: ', 'to-substrate: '))], [], line)
         return done.stdout
 
 

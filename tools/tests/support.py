@@ -1,18 +1,32 @@
 """What the tests share: where the scripts lie, how they are run, and bytes that are written out by hand."""
 from __future__ import annotations
 
+import contextlib
+import functools
+import importlib.machinery
+import importlib.util
+import io
+import json
 import os
 import subprocess
 import sys
+import tempfile
+import unittest
 from pathlib import Path
 from typing import List, NamedTuple, Optional
+from unittest import mock
 
 TOOLS = Path(__file__).resolve().parent.parent
 sys.path.insert(0, str(TOOLS))
 
-import program  # noqa: E402  (the scripts' modules lie beside the scripts)
+import command  # noqa: E402  (the scripts' modules lie beside the scripts)
+import program  # noqa: E402
+
+sys.dont_write_bytecode = True
 
 HAS_PROGRAM = program.command() is not None
+HAS_LIVE = program.WEIGHER.words() is not None
+NO_LIVE = 'npos-live is not built, and NPOS_LIVE_PROGRAM names none'
 NO_PROGRAM = 'the proved program is not built, and NPOS_PROGRAM names none'
 
 # the published development accounts, as hexadecimal digits and as addresses of prefix 42
@@ -68,3 +82,61 @@ def script(name: str, words: List[str], data: bytes = b'', env: Optional[dict] =
     done = subprocess.run([sys.executable, str(TOOLS / name), *words], input=data, capture_output=True, check=False,
                           env={**os.environ, **(env or {})})
     return Done(done.stdout, done.stderr.decode(), done.returncode)
+
+
+# ## Within this process, which is faster
+
+class Given:
+    """Standard input that holds some bytes."""
+
+    def __init__(self, data: bytes):
+        self.buffer = io.BytesIO(data)
+
+    def isatty(self) -> bool:
+        """Nobody sits before it."""
+        return False
+
+
+@functools.lru_cache(maxsize=None)
+def module_of(name: str):
+    """A script as a module."""
+    loader = importlib.machinery.SourceFileLoader(name.replace('-', '_') + '_script', str(TOOLS / name))
+    module = importlib.util.module_from_spec(importlib.util.spec_from_loader(loader.name, loader))
+    loader.exec_module(module)
+    return module
+
+
+def inside(name: str, words: List[str], data: bytes = b'') -> Done:
+    """Runs a script on bytes within this process."""
+    written: List[bytes] = []
+    said, status = io.StringIO(), 0
+    with mock.patch.object(sys, 'argv', [name, *words]), mock.patch.object(sys, 'stdin', Given(data)), \
+            mock.patch.object(command, 'write_all', written.append), contextlib.redirect_stderr(said):
+        try:
+            module_of(name).main()
+        except SystemExit as end:
+            status = end.code or 0
+    return Done(b''.join(written), said.getvalue(), status)
+
+
+class Files(unittest.TestCase):
+    """Tests that hand files to scripts."""
+
+    def setUp(self) -> None:
+        folder = tempfile.TemporaryDirectory()
+        self.folder = Path(folder.name)
+        self.addCleanup(folder.cleanup)
+
+    def file(self, data, name: str = 'file') -> str:
+        """A file with these bytes, with those of a text, or with the JSON of a value."""
+        if not isinstance(data, (bytes, str)):
+            data = json.dumps(data)
+        path = self.folder / name
+        path.write_bytes(data if isinstance(data, bytes) else data.encode())
+        return str(path)
+
+    def refused(self, name: str, words: List[str], data: bytes, says: str) -> None:
+        """One sentence, status 2, and nothing written."""
+        done = inside(name, words, data)
+        self.assertEqual((done.out, done.status, done.err.count('\n')), (b'', 2, 1), done.err)
+        self.assertIn(says, done.err)

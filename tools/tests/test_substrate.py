@@ -6,9 +6,10 @@ from pathlib import Path
 from typing import List
 
 from support import (ADDRESSES, ALICE, BOB, BUNDLE, CHARLIE, DAVE, EVE, FERDIE, HAS_PROGRAM, NO_PROGRAM, ROUND, SCORE, SNAPSHOT, SOLUTION,
-                     SOLVED_BUNDLE, VOTES, WIDE_SOLUTION, script)
+                     SOLVED_BUNDLE, VOTES, WIDE_SOLUTION, inside)
 
 import program
+from bundle import bundle_of
 
 SNAPSHOT_BYTES = bytes.fromhex(SNAPSHOT)
 LEFT_OUT = ['left out: 1 votes for accounts that are no targets', 'left out: 1 voters with a stake of 0: 1 (306721…22cc20)',
@@ -41,7 +42,7 @@ class FromSubstrate(unittest.TestCase):
 
     def convert(self, *words: str, data: bytes = SNAPSHOT_BYTES, seats: str = '2'):
         """What the script makes of a snapshot."""
-        return script('from-substrate', ['--seats', seats, *words], data)
+        return inside('from-substrate', ['--seats', seats, *words], data)
 
     def refused(self, *words: str, data: bytes = SNAPSHOT_BYTES, seats: str = '2', says: str = ''):
         """One sentence, status 2, and nothing written."""
@@ -82,7 +83,7 @@ class FromSubstrate(unittest.TestCase):
     @unittest.skipUnless(HAS_PROGRAM, NO_PROGRAM)
     def test_the_moved_solution_holds(self):
         done = self.convert('--solution', self.file(f'0x{SOLUTION}'))
-        self.assertEqual(program.ask(['check'], done.out).text, 'verdict 0\n')
+        self.assertEqual(program.ask(['check'], bundle_of(done.out)).text, 'verdict 0\n')
 
     def test_another_score_is_told_or_replaced(self):
         other = VOTES + '00' * 14 + 'f501' + SCORE[4:] + ROUND
@@ -110,10 +111,12 @@ class FromSubstrate(unittest.TestCase):
         self.refused(data=b'', says='the bytes end too early')
         self.refused(data=b'0x123', says='no text of an even number of hexadecimal digits')
         self.refused(data=b'{"jsonrpc":"2.0","result":null,"id":1}', says='the node answered null')
-        self.refused(data=b'{"jsonrpc":"2.0","error":{"code":-32000},"id":1}', says='without a result')
+        self.refused(data=b'{"jsonrpc":"2.0","error":{"code":-32000},"id":1}',
+                     says='the node answered with an error: it does not say which (code -32000)')
+        self.refused(data=b'{"jsonrpc":"2.0","id":1}', says='without a result')
         self.refused('--solution', self.file(bytes.fromhex(SOLUTION)[:-1]), says='the solution: ')
-        self.refused('--solution', self.file(f'0x{WIDE_SOLUTION}'), says='bytes follow')
-        self.refused('--groups', '24', '--solution', self.file(f'0x{SOLUTION}'), says='the solution: ')
+        self.refused('--solution', self.file(f'0x{WIDE_SOLUTION}'), says='--groups 24 reads it')
+        self.refused('--groups', '24', '--solution', self.file(f'0x{SOLUTION}'), says='--groups 16 reads it')
         self.refused('--solution', '/nowhere', says='/nowhere: No such file')
 
     def test_json_that_is_none(self):
@@ -137,9 +140,9 @@ class FromSubstrate(unittest.TestCase):
             return length(count) + ''.join(map(account, range(count)))
 
         for data, seats, says in (
-                (voters(16385) + targets(64), '2', '16,385 voters do not fit: there are at most 16,384 voters'),
-                ('00' + targets(2049), '2', '2,049 targets do not fit: there are at most 2,048 targets'),
-                (voters(2) + targets(2), '513', '513 seats do not fit: there are 1 to 512 seats'),
+                (voters(65536) + targets(64), '2', '65,536 voters do not fit: there are at most 65,535 voters'),
+                ('00' + targets(4097), '2', '4,097 targets do not fit: there are at most 4,096 targets'),
+                (voters(2) + targets(2), '2049', '2,049 seats do not fit: there are 1 to 2,048 seats'),
                 (voters(2) + targets(2), '0', '0 seats do not fit'),
                 (voters(2, 1 << 63) + targets(2), '2', 'a total stake of 18,446,744,073,709,551,616 does not fit: it is below 2^64'),
                 (voters(2) + targets(64), '65', '64 targets are too few for 65 seats'),
@@ -149,6 +152,13 @@ class FromSubstrate(unittest.TestCase):
                 (voters(2) + '08' + account(3) * 2, '1', 'targets 0 and 1 of the snapshot have one account')):
             with self.subTest(says):
                 self.refused(data=bytes.fromhex(data), seats=seats, says=says)
+
+    def test_what_npos_live_alone_takes_is_told(self):
+        account = '{:064x}'.format
+        spelt = '04' + account(7) + '00' * 7 + '01' + '04' + account(0) + length(513) + ''.join(map(account, range(513)))
+        done = self.convert(data=bytes.fromhex(spelt), seats='513')
+        self.assertEqual(self.notes(done.err), ['over a limit of npos: 513 seats do not fit: there are 1 to 512 seats; npos-live takes '
+                                                'this election'])
 
     def test_a_solution_over_the_limits(self):
         great = VOTES + '00' * 14 + '00' * 8 + '01' + '00' * 7 + SCORE[32:] + ROUND

@@ -4,7 +4,7 @@ import unittest
 from support import HAS_PROGRAM, NO_PROGRAM
 
 import program
-from bundle import Bundle, Packed, Plain, Voter, bundle_bytes
+from bundle import Bundle, Packed, Plain, Voter
 from weights import Entry, Weights, expand, fill, judge, prescores_of, score_of, slack_of, solution_bytes
 
 TARGETS = [number.to_bytes(32, 'big') for number in range(1, 5)]
@@ -69,7 +69,7 @@ class Verdicts(unittest.TestCase):
     def test_the_program_says_the_same(self):
         for one, verdict in self.bundles():
             with self.subTest(one.work):
-                self.assertEqual(program.report_of(program.ask(['check'], bundle_bytes(one)).text.encode()).verdict, verdict)
+                self.assertEqual(program.report_of(program.ask(['check'], one).text.encode()).verdict, verdict)
 
 
 class Amounts(unittest.TestCase):
